@@ -23,10 +23,14 @@ record IsLow (y : Layout) : Type 0 where
 -- ---- frames
 
 pub function_facts_fit : (b : LinearBody) → FitsBody b → FitsFrame (function_facts b)
-function_facts_fit b fits = let w = fits.words in record { registers = omega arith; words = omega arith }
+function_facts_fit b fits =
+    let w = fits.words in
+    record { registers = omega arith; words = omega arith }
 
 pub funclet_facts_fit : (b : LinearBody) → FitsBody b → FitsFrame (funclet_facts b)
-funclet_facts_fit b fits = let w = fits.words in record { registers = omega arith; words = omega arith }
+funclet_facts_fit b fits =
+    let w = fits.words in
+    record { registers = omega arith; words = omega arith }
 
 -- ---- instructions
 

@@ -1,5 +1,5 @@
--- The image of a program: the services that it imports, its globals, its routines, their tables, and
--- the names of its functions.
+-- The image of a program: the services that it imports, its globals, its routines, their tables,
+-- and the names of its functions.
 use Rattle.std.specs.Prelude.{◌≡◌, ℕ, ◌+◌, ◌-◌, List, [], ◌∷◌, length, get_or, max, take, drop}
 use Rattle.host_layout.specs.declared.range.TheConstants.{DATA_AT}
 use Rattle.eh_tables.specs.Written.{table_bytes}

@@ -1,5 +1,5 @@
--- What the image of a program has where the program calls `walk`: the import of that service, and the
--- names of its functions with the ranges of their code.
+-- What the image of a program has where the program calls `walk`: the import of that service, and
+-- the names of its functions with the ranges of their code.
 use Rattle.std.specs.Prelude.{◌≡◌, ℕ, ◌+◌, ◌<◌, Bool, true, false, ◌||◌, List, [], ◌∷◌, length, get_or}
 use Rattle.std.specs.List.{AllByRecursion}
 use Rattle.host_layout.specs.declared.imported.ImportedService.{ImportedService}
@@ -39,8 +39,8 @@ abbrev pub services_if : Bool → List ImportedService
 services_if true = all_services
 services_if false = services
 
--- the services that a program imports, in the order of their slots and thunks: `walk` where it calls
--- it
+-- the services that a program imports, in the order of their slots and thunks: `walk` where it
+-- calls it
 unfoldable pub services_of : LinearProgram → List ImportedService
 services_of p = services_if (calls_walk p)
 

@@ -247,7 +247,8 @@ module _ (program : LinearProgram) (c : HasWholeImage program) where
         };
       }
 
-  thunks : (f : BuiltIn) → CallsBuiltIn program f → Serves ((sites_of program).thunk f) (service_of f)
+  thunks : (f : BuiltIn) → CallsBuiltIn program f
+      → Serves ((sites_of program).thunk f) (service_of f)
   thunks Put called = serves imports.Put services.Put ((sites_of program).thunk Put) tt refl refl
   thunks Protect called =
       serves imports.Protect services.Protect ((sites_of program).thunk Protect) tt refl refl

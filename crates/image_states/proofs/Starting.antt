@@ -58,7 +58,8 @@ module _ (program : LinearProgram) (c : HasWholeImage program) where
   known : import_refusal image ≡ None
   known = ap (λ (is : List Import). option_map refusals.Import (first_unknown is))
       (listed p (is program c.fits))
-      ∙ ap (option_map refusals.Import) (all_known program (slots_at p.imports (rdata_at (sizes_of p))))
+      ∙ ap (option_map refusals.Import)
+      (all_known program (slots_at p.imports (rdata_at (sizes_of p))))
 
   entered : has_entry image ≡ true
   entered =

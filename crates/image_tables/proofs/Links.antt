@@ -39,5 +39,6 @@ links_near p x fits h =
       function = λ f. below_at near_end s.functions f 0 n.functions (omega arith);
       known = λ f. thunk_near p s.text f text;
       funclet = λ f. below_at near_end s.funclets f 0 n.funclets (omega arith);
-      local_unwind = front.thunk_near (services_of p) s.text imports.LocalUnwind (services_few p) text;
+      local_unwind = front.thunk_near (services_of p) s.text imports.LocalUnwind (services_few p)
+          text;
     }

@@ -164,7 +164,8 @@ pub functions_have_names : FunctionsHaveNames
 functions_have_names p k f fits walks e =
     let b = bounds (routines_begin p) (routines p) in
     let number : k + 1 ≡ 0 + k + 1 = omega arith in
-    ap (λ (r : Result (List NameRow) NameErr). name_of (k + 1) (rows_read r)) (names_are_read p fits)
+    ap (λ (r : Result (List NameRow) NameErr). name_of (k + 1) (rows_read r))
+    (names_are_read p fits)
     ∙ ap (λ (t : Bool). name_of (k + 1) (function_rows 0 b (named_if t p.functions))) walks
     ∙ ap (λ (n : ℕ). name_of n (function_rows 0 b p.functions)) number
     ∙ name_here b 0 k p.functions f e

@@ -76,7 +76,8 @@ module _ (t : Functions) (fs : List Funclet) (program : LinearProgram) (p : Imag
           let codes = ap (λ (e : Entry). operations e.info.codes) entry
           ∙ codes_are (setting_of t fs program p q image) name b there leaf in
           let plan = frame_plan_is (setting_of t fs program p q image) name b there leaf in
-          let d = ap depth codes ∙ plan_depth (body_plan p q name) (p.layout name).frame plan.whole in
+          let d =
+          ap depth codes ∙ plan_depth (body_plan p q name) (p.layout name).frame plan.whole in
           let h = told_depth m c f s.is_told in
           omega arith
 

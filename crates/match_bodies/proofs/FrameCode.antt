@@ -143,7 +143,8 @@ pops_count : (rs : List ℕ) (is : List Instr) → length (pops_then rs is) ≡ 
 pops_count [] is = (let z : length is ≡ 0 + length is = omega arith in z)
 pops_count (r ∷ rs) is = let e = pops_count rs is in omega arith
 
-loads_count : (ss : List Saved) (is : List Instr) → length (loads_then ss is) ≡ length ss + length is
+loads_count : (ss : List Saved) (is : List Instr)
+    → length (loads_then ss is) ≡ length ss + length is
 loads_count [] is = (let z : length is ≡ 0 + length is = omega arith in z)
 loads_count (s ∷ ss) is = let e = loads_count ss is in omega arith
 

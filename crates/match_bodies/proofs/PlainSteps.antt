@@ -68,7 +68,8 @@ module _ (setting : Setting) (roomy : HaveRoom setting.program) where
     moves_within : (most : ℕ) (i : Instruction) (n label rip : ℕ) (d : BodyState)
         (values ts : List ℕ) (landed : Option ℕ)
         → ReachesBody (frame setting roomy s c b counted) n s rip
-        (v setting roomy s c b counted).rest (v setting roomy s c b counted).locals d → rip ≡ p.address c.frame.body label
+        (v setting roomy s c b counted).rest (v setting roomy s c b counted).locals d
+        → rip ≡ p.address c.frame.body label
         → label < length body.code → rip < 2 ^ 64 → Leaves body d values ts → landed ≡ None
         → RunsKeep setting s c b counted n s → ((next : Next) → act program i next c ≡ next
         (at_other c label values ts landed d.memory c.events)) → 1 ≤ n
@@ -103,7 +104,8 @@ module _ (setting : Setting) (roomy : HaveRoom setting.program) where
     pub moves_to : (i : Instruction) (n label rip : ℕ) (d : BodyState) (values ts : List ℕ)
         (landed : Option ℕ)
         → ReachesBody (frame setting roomy s c b counted) n s rip
-        (v setting roomy s c b counted).rest (v setting roomy s c b counted).locals d → rip ≡ p.address c.frame.body label
+        (v setting roomy s c b counted).rest (v setting roomy s c b counted).locals d
+        → rip ≡ p.address c.frame.body label
         → label < length body.code → rip < 2 ^ 64 → Leaves body d values ts → landed ≡ None
         → RunsKeep setting s c b counted n s → ((next : Next) → act program i next c ≡ next
         (at_other c label values ts landed d.memory c.events)) → 1 ≤ n
@@ -148,9 +150,12 @@ module _ (setting : Setting) (roomy : HaveRoom setting.program) where
     pub from_here : (n rip : ℕ) (d : BodyState)
         → ReachesBody (frame setting roomy s c b counted) n
         (machine (v setting roomy s c b counted) s.cpu.rip s.cpu.flags) rip
-        (v setting roomy s c b counted).rest (v setting roomy s c b counted).locals d → Reached n rip d
-    from_here n rip d r = subst (λ x. ReachesBody (frame setting roomy s c b counted) n x rip
-        (v setting roomy s c b counted).rest (v setting roomy s c b counted).locals d) (sym (same_state setting roomy s c b counted)) r
+        (v setting roomy s c b counted).rest (v setting roomy s c b counted).locals d
+        → Reached n rip d
+    from_here n rip d r =
+        subst (λ x. ReachesBody (frame setting roomy s c b counted) n x rip
+        (v setting roomy s c b counted).rest (v setting roomy s c b counted).locals d)
+        (sym (same_state setting roomy s c b counted)) r
 
     pub label_small : (label : ℕ) → label < length body.code → p.address c.frame.body label < 2 ^ 64
     label_small label lt =

@@ -1,5 +1,5 @@
--- The control addresses of a stack: a walk comes to them, and they have the numbers of the functions
--- that wait.
+-- The control addresses of a stack: a walk comes to them, and they have the numbers of the
+-- functions that wait.
 use Rattle.std.proofs.Common.{◌≡◌, ℕ, zero, suc, ◌+◌, Some, None, List, [], ◌∷◌, Option, map, length, refl, ap, ◌∙◌, arith}
 use Rattle.std.specs.List.{filter_map, cons_option}
 use Rattle.match_stack.specs.Words.{Memory, Context, context_of, Functions, Funclet, LinearProgram, Item, Waits, Searches, Unwinds, Frame, BodyName, FunctionBody, FuncletBody, StackItem, Framed, Leaf, Searching, Unwinding, after_frame, after_leaf, ImagePlan, Activation, activations_below, BodyWaits, Linked, with_function, functions_in, state, IsStack, control_addresses, number_of, NumbersFunctions, ControlsAreOfTheList, ControlAddressesAreOfFunctions}

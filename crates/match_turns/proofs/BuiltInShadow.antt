@@ -22,8 +22,8 @@ module _ (setting : Setting) (roomy : HaveRoom setting.program) where
   service_found RaiseException m = image.callers_outside.services m
       (address_of (service_of RaiseException)) (omega arith) (omega arith)
       (λ e. absurd (omega arith)) (λ e. absurd (omega arith))
-  service_found Walk m = image.callers_outside.services m (address_of (service_of Walk)) (omega arith)
-      (omega arith) (λ e. absurd (omega arith)) (λ e. absurd (omega arith))
+  service_found Walk m = image.callers_outside.services m (address_of (service_of Walk))
+      (omega arith) (omega arith) (λ e. absurd (omega arith)) (λ e. absurd (omega arith))
 
   -- the program calls it
   abbrev pub calls_it : (s : State) (c : Configuration) (b : RepresentsAt setting s c)

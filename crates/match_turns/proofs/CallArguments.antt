@@ -130,11 +130,20 @@ module _ {setting : Setting} (at_call : AtCall setting) where
   top = frame_top setting s c b counted
 
   pub room_small : room + 8 ≤ LARGEST_FRAME
-  room_small = let g = bottom.temporaries in let h = bottom.slots in let w = bottom.within in let z = bottom.small in
+  room_small =
+      let g = bottom.temporaries in
+      let h = bottom.slots in
+      let w = bottom.within in
+      let z = bottom.small in
       omega arith
 
   pub room_top : sp + room + 8 ≤ STACK_END
-  room_top = let g = bottom.temporaries in let h = bottom.slots in let w = bottom.within in let z = top in omega arith
+  room_top =
+      let g = bottom.temporaries in
+      let h = bottom.slots in
+      let w = bottom.within in
+      let z = top in
+      omega arith
 
   outgoing : HasOutgoing here s.memory room
   outgoing = record {

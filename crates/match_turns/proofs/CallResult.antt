@@ -284,7 +284,8 @@ module _ (setting : Setting) (roomy : HaveRoom setting.program) where
       pub resumes : Resumes t fs program p q u (answered w items source acts es result)
       resumes =
           let r = subst (λ x. ReachesBody (frame setting roomy earlier caller waits counted) 1 x
-          (u.cpu.rip + sizes (keep layout (Temporary first))) (seen_by_templates u).rest (seen_by_templates u).locals (record {
+          (u.cpu.rip + sizes (keep layout (Temporary first))) (seen_by_templates u).rest
+          (seen_by_templates u).locals (record {
             slots = with_slot (slots setting roomy earlier caller waits counted).slots (Temporary
                 first) result;
             memory = source;

@@ -161,7 +161,8 @@ module _ (setting : Setting) (made : IsWellMade setting.program setting.plan)
           after
       run =
           subst (λ x. ReachesBody here (length finish) x (s.cpu.rip + sizes finish)
-          (seen_by_templates s).rest (seen_by_templates s).locals after) (sym (is_machine s w.well_formed.count))
+          (seen_by_templates s).rest (seen_by_templates s).locals after)
+          (sym (is_machine s w.well_formed.count))
           (subst (λ x. Finished here o to (seen_by_templates s) s.cpu.rip s.cpu.flags
           now x) (inside.same_outcome setting made s c w known (Gives value m) gives)
           (inside.made_here setting made s c w known))

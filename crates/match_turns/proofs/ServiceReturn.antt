@@ -57,7 +57,8 @@ module _ (setting : Setting) (roomy : HaveRoom setting.program) where
 
     -- the state after the service, by its result and the memory that it leaves
     abbrev pub view_after : ℕ → Memory → MachineView
-    view_after x m = record with_given { rax = x; rest = with_sp with_given.rest sp_after; memory = m }
+    view_after x m =
+        record with_given { rax = x; rest = with_sp with_given.rest sp_after; memory = m }
 
     abbrev pub returned_to : ℕ → Memory → State
     returned_to x m = machine (view_after x m) to (flags_there setting roomy s c b counted f first

@@ -29,7 +29,8 @@ call_over Put sp u c d cs below above = one_below sp c (d ∷ cs) below ∙ none
 call_over Protect sp u c d cs below above = one_below sp c (d ∷ cs) below
     ∙ none_below sp (d ∷ cs) above
 call_over RaiseException sp u c d cs below above = none_below sp (d ∷ cs) above
-call_over Walk sp u c d cs below above = one_below sp c (d ∷ cs) below ∙ none_below sp (d ∷ cs) above
+call_over Walk sp u c d cs below above = one_below sp c (d ∷ cs) below
+    ∙ none_below sp (d ∷ cs) above
 
 service_found : (f : BuiltIn) → (0 < address_of (service_of f))
     × (address_of (service_of f) < 0x100000000) × (address_of (service_of f) ≡ filter_return → ⊥)
@@ -47,7 +48,12 @@ service_found RaiseException = (
   λ e. absurd (omega arith),
   λ e. absurd (omega arith),
 )
-service_found Walk = (omega arith, omega arith, λ e. absurd (omega arith), λ e. absurd (omega arith))
+service_found Walk = (
+  omega arith,
+  omega arith,
+  λ e. absurd (omega arith),
+  λ e. absurd (omega arith),
+)
 
 module _ (setting : Setting) where
   open setting use {functions as t, funclets as fs, program, plan as p, image}

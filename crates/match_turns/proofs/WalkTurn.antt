@@ -49,8 +49,8 @@ module _ (setting : Setting) (roomy : HaveRoom setting.program) where
 
     -- where the service returns to
     abbrev pub after : State
-    after = returned_to setting roomy s c b counted around Walk first at framed within held fits free
-        0 here.memory
+    after = returned_to setting roomy s c b counted around Walk first at framed within held fits
+        free 0 here.memory
 
     abbrev items : List Item
     items = Waits (waiting c first).frame ∷ c.below

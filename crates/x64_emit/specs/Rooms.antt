@@ -10,7 +10,8 @@ abbrev pub slot_room : Slot → ℕ
 slot_room (Temporary i) = 8
 slot_room (Local i) = 16
 
--- a call passes at most eight arguments; an epilogue with the loads before it takes 44 bytes at most
+-- a call passes at most eight arguments; an epilogue with the loads before it takes at most 44
+-- bytes
 abbrev pub instruction_room : Instruction → ℕ
 instruction_room (instructions.Compute to o first second) =
     slot_room to + slot_room first + slot_room second + 11

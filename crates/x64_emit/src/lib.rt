@@ -2,8 +2,8 @@
 //!
 //! [`template::put_instruction`] adds the template of one instruction, [`body::put_body`] those of
 //! a whole body, [`body::labels_of`] says where each begins, and [`entry`] and [`frames`] have
-//! what comes before a body. All addresses are relative to the image base. Moves of slots are spelled by
-//! [`stack_words`], any other instruction by crate x64_encode.
+//! what comes before a body. All addresses are relative to the image base. Moves of slots are
+//! spelled by [`stack_words`], any other instruction by crate x64_encode.
 //!
 //! Proved: the bytes are those of the templates (crate template_code). Begin with `template`.
 #![tactic(auto)]

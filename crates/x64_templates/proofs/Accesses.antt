@@ -192,17 +192,25 @@ abbrev pub store_instr : Width → Instr
 store_instr w = instrs.Move w (places.Memory (above Rax 0)) (operands.Register Rcx)
 
 abbrev stored_view : MachineView → Width → MachineView
-stored_view v w = record v { memory = with_bytes v.memory (with_number v.memory.byte (bytes_of w) v.rax (low w v.rcx)) }
+stored_view v w = record v {
+  memory = with_bytes v.memory (with_number v.memory.byte (bytes_of w) v.rax (low w v.rcx));
+}
 
 store_by : (w : Width) (v : MachineView) (o : Option ℕ) (rip : ℕ) (f : Flags) → v.rax < 2 ^ 64
     → first_refused (may_write v.memory) (bytes_of w) v.rax ≡ o
     → effect (machine v rip f) (store_instr w)
     ≡ (granted (access {A = Unit {0}} true o tt)
-    >>= λ _. Ok (machine (record v { memory = unless_refused o (with_bytes v.memory (with_number v.memory.byte (bytes_of w) v.rax (low w v.rcx))) v.memory }) rip f))
+    >>= λ _. Ok (machine (record v {
+      memory = unless_refused o (with_bytes v.memory
+          (with_number v.memory.byte (bytes_of w) v.rax (low w v.rcx))) v.memory;
+    }) rip f))
 store_by w v o rip f lt e =
     ap (λ (a : ℕ). machines.store (machine v rip f) a w (low w v.rcx)) (address_is v.rax lt)
     ∙ ap (λ (p : Option ℕ). granted (access {A = Unit {0}} true p tt)
-    >>= λ _. Ok (machine (record v { memory = unless_refused p (with_bytes v.memory (with_number v.memory.byte (bytes_of w) v.rax (low w v.rcx))) v.memory }) rip f)) e
+    >>= λ _. Ok (machine (record v {
+      memory = unless_refused p (with_bytes v.memory
+          (with_number v.memory.byte (bytes_of w) v.rax (low w v.rcx))) v.memory;
+    }) rip f)) e
 
 same_bytes : (f g : ℕ → ℕ) (n at v a : ℕ) → f a ≡ g a
     → with_number f n at v a ≡ with_number g n at v a

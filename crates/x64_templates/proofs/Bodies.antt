@@ -168,13 +168,19 @@ module _ (y : Layout) (n : Counts) (reserved : ℕ → Bool) (sp base : ℕ)
 
   pub record KeptIn (x : Slot) (v : MachineView) : Type 0 where
     pub rcx : ℕ
-    pub does : Executes (keep y x) v (record v { rcx = rcx; memory = with_bytes v.memory (with_number v.memory.byte 8 (slot_at y sp base x) v.rax) })
+    pub does : Executes (keep y x) v (record v {
+      rcx = rcx;
+      memory = with_bytes v.memory (with_number v.memory.byte 8 (slot_at y sp base x) v.rax);
+    })
 
   local_kept : (o : Option ℕ) (i : ℕ) (v : MachineView) (b : BodyState) → i < n.locals
       → sp_of v ≡ sp → HasBase y o sp base → MemoryKeepsBase o sp base v.memory
       → HoldsBody y n reserved sp base v.memory b → v.rax < 2 ^ 64
       → (rcx : ℕ) × Executes (keep_local o (local_at y i)) v
-      (record v { rcx = rcx; memory = with_bytes v.memory (with_number v.memory.byte 8 (base + local_at y i) v.rax) })
+      (record v {
+        rcx = rcx;
+        memory = with_bytes v.memory (with_number v.memory.byte 8 (base + local_at y i) v.rax);
+      })
   local_kept None i v b lt at has keeps h small =
       let e : (sp_of v + 0 + local_at y i) % 2 ^ 64
       ≡ base + local_at y i = ap (λ (s : ℕ). (s + 0 + local_at y i) % 2 ^ 64) (at ∙ sym has)

@@ -189,12 +189,22 @@ pub leads_kept : (p : FramePlace) (code : List Instr) (to : Slot) (v : MachineVi
     (record { slots = with_slot b.slots to x; memory = source })
 leads_kept p code to v at f b x source fine room is sp h is_there l =
     let y = p.layout in
-    let mid : MachineView = record v { rax = x; rcx = l.yields.rcx; rdx = l.yields.rdx; memory = l.after } in
+    let mid : MachineView = record v {
+      rax = x;
+      rcx = l.yields.rcx;
+      rdx = l.yields.rdx;
+      memory = l.after;
+    } in
     let body : BodyState = record { slots = b.slots; memory = source } in
     let held = holds_same y p.counts p.reserved p.sp p.base room v.memory l.after source b l.own
     l.protection l.agrees h in
     let k = keep_does y p.counts p.reserved p.sp p.base room to mid body is sp held l.small in
-    let last : MachineView = record v { rax = x; rcx = k.rcx; rdx = l.yields.rdx; memory = with_bytes l.after (with_number l.after.byte 8 (slot_at y p.sp p.base to) x) } in
+    let last : MachineView = record v {
+      rax = x;
+      rcx = k.rcx;
+      rdx = l.yields.rdx;
+      memory = with_bytes l.after (with_number l.after.byte 8 (slot_at y p.sp p.base to) x);
+    } in
     let r = runs_view (code ++ keep y to) v last at f
     (fine_both code (keep y to) fine (keep_fine y p.counts p.sp p.base to room is)) is_there
     (executes_then code (keep y to) v mid last l.yields.does k.does) in
@@ -243,7 +253,12 @@ pub record Worked (p : FramePlace) (o : Operation) (v : MachineView) (at : ℕ) 
   pub result : LeavesResult p.reserved (work o) v x source
   pub left : Flags
   pub comes : Reaches (length (work o)) (machine v at f)
-      (machine (record v { rax = x; rcx = result.yields.rcx; rdx = result.yields.rdx; memory = result.after }) (at + sizes (work o)) left)
+      (machine (record v {
+        rax = x;
+        rcx = result.yields.rcx;
+        rdx = result.yields.rdx;
+        memory = result.after;
+      }) (at + sizes (work o)) left)
 
 pub work_run : (p : FramePlace) (o : Operation) (v : MachineView) (at : ℕ) (f : Flags)
     (b : BodyState) (x y value : ℕ) (source : Memory) → x < 2 ^ 64 → y < 2 ^ 64
@@ -258,7 +273,12 @@ work_run p o v at f b x y value source lx ly waits h code gives =
     (subst (λ c. Implements p.reserved (work o) v (performed p.reserved o c y b.memory)) ex
     (subst (λ c. Implements p.reserved (work o) v (performed p.reserved o v.rax c b.memory)) ey
     w)) in
-    let r = runs_view (work o) v (record v { rax = value; rcx = l.yields.rcx; rdx = l.yields.rdx; memory = l.after }) at f (work_fine o) code l.yields.does in
+    let r = runs_view (work o) v (record v {
+      rax = value;
+      rcx = l.yields.rcx;
+      rdx = l.yields.rdx;
+      memory = l.after;
+    }) at f (work_fine o) code l.yields.does in
     record { result = l; left = r.left; comes = r.comes }
 
 -- ---- a whole operation
@@ -304,13 +324,15 @@ compute_by p to o first second v rip f b (Gives x m) g fin =
     let rest = finish_code p.layout o to in
     let c : BodyState = record { slots = with_slot b.slots to x; memory = m } in
     let whole = follows_after p (length ops) (length rest) (machine v rip f)
-    (machine g.stopped (rip + sizes ops) g.left) (rip + sizes ops + sizes rest) g.stopped.rest g.stopped.locals c
-    g.comes g.memory fin in
+    (machine g.stopped (rip + sizes ops) g.left) (rip + sizes ops + sizes rest) g.stopped.rest
+    g.stopped.locals c g.comes g.memory fin in
     let turns : length ops + length rest ≡ length (ops ++ rest) = sym (length-append ops rest) in
     let place : rip + sizes ops + sizes rest ≡ rip
     + sizes (ops ++ rest) = omega (arith, sizes_append ops rest) in
-    subst (λ k. ReachesBody p k (machine v rip f) (rip + sizes (ops ++ rest)) v.rest v.locals c) turns
-    (subst (λ a. ReachesBody p (length ops + length rest) (machine v rip f) a v.rest v.locals c) place
+    subst (λ k. ReachesBody p k (machine v rip f) (rip + sizes (ops ++ rest)) v.rest v.locals c)
+    turns
+    (subst (λ a. ReachesBody p (length ops + length rest) (machine v rip f) a v.rest v.locals c)
+    place
     (named_alike p (length ops + length rest) (machine v rip f) (rip + sizes ops + sizes rest)
     g.stopped.rest v.rest g.stopped.locals v.locals c g.rest g.locals whole))
 compute_by p to o first second v rip f b (Raises code access) g fin = record {

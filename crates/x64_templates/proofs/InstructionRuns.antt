@@ -91,8 +91,8 @@ branch_done p k slot label v here f b false g =
             ∷ []),
       );
       follows = subst (λ a. ReachesBody p (length
-          (jump_if_zero_code p.layout slot here (k.label label))) (machine v here f) a v.rest v.locals b) z
-          g;
+          (jump_if_zero_code p.layout slot here (k.label label))) (machine v here f) a v.rest
+          v.locals b) z g;
     }
 
 -- the labels that an instruction goes to are near to the end of its template

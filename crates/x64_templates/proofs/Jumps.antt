@@ -24,7 +24,8 @@ one_reaches i v w rip at f g enc inside code e =
     (record { low = l; high = omega arith }) e).comes
 
 stays : (p : FramePlace) (turns : ℕ) (v w : MachineView) (rip at : ℕ) (f g : Flags) (b : BodyState)
-    → Reaches turns (machine v rip f) (machine w at g) → w.rest ≡ v.rest → w.locals ≡ v.locals → w.memory ≡ v.memory
+    → Reaches turns (machine v rip f) (machine w at g) → w.rest ≡ v.rest → w.locals ≡ v.locals
+    → w.memory ≡ v.memory
     → FrameHolds p v.memory b → ReachesBody p turns (machine v rip f) at v.rest v.locals b
 stays p turns v w rip at f g b comes rest locals same h = record {
   after = w;

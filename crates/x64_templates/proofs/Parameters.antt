@@ -41,7 +41,11 @@ register_holds v arguments (suc (suc (suc (suc i)))) lt h = absurd (omega arith)
 pub record Kept (p : FramePlace) (i : ℕ) (v : MachineView) (x : ℕ) : Type 0 where
   pub rax : ℕ
   pub does : Executes (parameter_code p.layout i) v
-      (record v { rax = rax; memory = with_bytes v.memory (with_number v.memory.byte 8 (slot_at p.layout p.sp p.base (Local i)) x) })
+      (record v {
+        rax = rax;
+        memory = with_bytes v.memory
+            (with_number v.memory.byte 8 (slot_at p.layout p.sp p.base (Local i)) x);
+      })
 
 local_address : (p : FramePlace) (i sp : ℕ) → Roomy p → IsFunctionFrame p → i < p.counts.locals
     → sp ≡ p.sp → (sp + 0 + local_at p.layout i) % 2 ^ 64 ≡ slot_at p.layout p.sp p.base (Local i)

@@ -110,7 +110,8 @@ made_then p m n v at f mid to b c g r =
       turns = m + r.turns;
       least = omega arith;
       most = omega arith;
-      follows = follows_then p m r.turns (machine v at f) mid to v.rest v.locals b c g.follows r.follows;
+      follows = follows_then p m r.turns (machine v at f) mid to v.rest v.locals b c g.follows
+          r.follows;
     }
 
 -- ---- the body
@@ -149,8 +150,8 @@ after_line p k start body n number v f b last c instruction (Next d) rec l at h 
     let next : here + template_size y instruction
     ≡ start + offset_of y body (number + 1) = step_to (number + 1) (omega arith) in
     let turns = length (template k y here instruction) in
-    let g : RunsTo p turns (machine v here f) (start + offset_of y body (number + 1)) v.rest v.locals
-    d = subst (λ a. RunsTo p turns (machine v here f) a v.rest v.locals d) next done in
+    let g : RunsTo p turns (machine v here f) (start + offset_of y body (number + 1)) v.rest
+    v.locals d = subst (λ a. RunsTo p turns (machine v here f) a v.rest v.locals d) next done in
     go turns g e
   where
     step_to : (j : ℕ) → j ≡ suc number → start + offset_of p.layout body number
@@ -173,7 +174,8 @@ after_line p k start body n number v f b last c instruction (Next d) rec l at h 
         (start + offset_of p.layout body (number + 1)) (start + offset_of p.layout body last) d c g
         (runs_alike p n (machine g.follows.after (start + offset_of p.layout body (number + 1))
         g.follows.flags) (start + offset_of p.layout body last) g.follows.after.rest v.rest
-        g.follows.after.locals v.locals c g.follows.rest g.follows.locals (rec (number + 1) g.follows.after g.follows.flags d last c
+        g.follows.after.locals v.locals c g.follows.rest g.follows.locals
+        (rec (number + 1) g.follows.after g.follows.flags d last c
         (linked_stays p k v.memory g.follows.after.memory start body b g.follows.changes h l)
         (ap (λ (r : OtherRegisters). r.rsp) g.follows.rest ∙ at) g.follows.holds e))
 after_line p k start body n number v f b last c instruction (JumpsTo d label) rec l at h lt is done
@@ -191,7 +193,8 @@ after_line p k start body n number v f b last c instruction (JumpsTo d label) re
         (start + offset_of p.layout body label) (start + offset_of p.layout body last) d c g
         (runs_alike p n (machine g.follows.after (start + offset_of p.layout body label)
         g.follows.flags) (start + offset_of p.layout body last) g.follows.after.rest v.rest
-        g.follows.after.locals v.locals c g.follows.rest g.follows.locals (rec label g.follows.after g.follows.flags d last c
+        g.follows.after.locals v.locals c g.follows.rest g.follows.locals
+        (rec label g.follows.after g.follows.flags d last c
         (linked_stays p k v.memory g.follows.after.memory start body b g.follows.changes h l)
         (ap (λ (r : OtherRegisters). r.rsp) g.follows.rest ∙ at) g.follows.holds e))
 after_line p k start body n number v f b last c instruction (Faults code access) rec l at h lt is

@@ -48,8 +48,9 @@ image_of-requires-clause-names c =
     subst (λ (rs : List RoutineView). HasNames rs (map linear_function c.named_if.result.now))
     (sym (c.deref-3.ensures.value ∙ c.in_ok-routines.ensures))
     (subst (HasNames (routines p))
-    (sym (named_is p c.calls_walk-walks.result c.deref-4.result.now c.args.program.now.functions.items
-    _ c.calls_walk-walks.ensures c.deref-4.ensures.value refl c.named_if.ensures))
+    (sym (named_is p c.calls_walk-walks.result c.deref-4.result.now
+    c.args.program.now.functions.items _ c.calls_walk-walks.ensures c.deref-4.ensures.value refl
+    c.named_if.ensures))
     (has_names p c.requires))
 
 pub returns-clause-bytes : goal.returns-clause-bytes

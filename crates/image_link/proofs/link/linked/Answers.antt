@@ -74,9 +74,10 @@ image_with-requires c =
     c.requires.bounds _ c.site_of-site.ensures c.args.main c.offset_of-entry.result
     (c.placement_of-placement.result.text + c.front_size.result) c.in_ok-code.code.items
     c.in_ok-tables.tables.xdata.items c.in_ok-tables.tables.pdata.items c.in_ok-names.names.items
-    (map linear_function c.args.named.now) c.offset_of-entry.ensures (ap (λ (n : ℕ). c.placement_of-placement.result.text + n)
-    c.front_size.ensures.value) c.in_ok-code.ensures c.in_ok-tables.ensures.xdata
-    c.in_ok-tables.ensures.pdata c.in_ok-names.ensures in
+    (map linear_function c.args.named.now) c.offset_of-entry.ensures
+    (ap (λ (n : ℕ). c.placement_of-placement.result.text + n) c.front_size.ensures.value)
+    c.in_ok-code.ensures c.in_ok-tables.ensures.xdata c.in_ok-tables.ensures.pdata
+    c.in_ok-names.ensures in
     subst CanBeImage (sym same) (is_program c.args.imports.now c.args.globals.now
     c.args.routines.now c.args.functions c.args.main (map linear_function c.args.named.now)
     c.requires.imports c.requires.globals c.requires.near c.requires.places c.requires.names
@@ -89,9 +90,10 @@ returns c =
     c.requires.bounds _ c.site_of-site.ensures c.args.main c.offset_of-entry.result
     (c.placement_of-placement.result.text + c.front_size.result) c.in_ok-code.code.items
     c.in_ok-tables.tables.xdata.items c.in_ok-tables.tables.pdata.items c.in_ok-names.names.items
-    (map linear_function c.args.named.now) c.offset_of-entry.ensures (ap (λ (n : ℕ). c.placement_of-placement.result.text + n)
-    c.front_size.ensures.value) c.in_ok-code.ensures c.in_ok-tables.ensures.xdata
-    c.in_ok-tables.ensures.pdata c.in_ok-names.ensures in
+    (map linear_function c.args.named.now) c.offset_of-entry.ensures
+    (ap (λ (n : ℕ). c.placement_of-placement.result.text + n) c.front_size.ensures.value)
+    c.in_ok-code.ensures c.in_ok-tables.ensures.xdata c.in_ok-tables.ensures.pdata
+    c.in_ok-names.ensures in
     if_ok (λ (x : ImageContents). x ≡ record {
       imports = c.args.imports.now;
       data_size = c.placement_of-placement.result.data_size;
@@ -103,4 +105,5 @@ returns c =
       names = c.in_ok-names.names.items;
     })
     (λ (x : ImageContents). x ≡ image_of c.args.imports.now c.args.globals.now c.args.routines.now
-    c.args.functions c.args.main (map linear_function c.args.named.now)) c.image_with.result (λ x e. e ∙ same) c.image_with.ensures
+    c.args.functions c.args.main (map linear_function c.args.named.now)) c.image_with.result
+    (λ x e. e ∙ same) c.image_with.ensures
