@@ -1,5 +1,5 @@
 -- What more steps show begins with what fewer steps show, and an end stays.
-use Rattle.std.proofs.Common.{◌≡◌, ℕ, zero, suc, ◌+◌, ◌≤◌, List, [], ◌∷◌, ◌++◌, refl, sym, ap, ◌∙◌}
+use Rattle.std.proofs.Common.{◌≡◌, ℕ, zero, suc, ◌+◌, ◌≤◌, List, ◌++◌, refl, sym, ap, ◌∙◌}
 use Rattle.std.proofs.Common.{subst, arith, inl, inr}
 use Rattle.std.specs.Prelude.{Bool, true, false, slice_get, ℤ, Option, Some, None, ◌⊎◌}
 use Rattle.std.proofs.lemmas.Option.{none-some}

@@ -1,6 +1,6 @@
 -- A relation between what two meanings come to, from states that differ in the steps that are left,
 -- and how it goes through what is done with an outcome.
-use Rattle.std.proofs.Common.{◌≡◌, ℕ, ◌+◌, List, [], ◌∷◌, ◌++◌, Some, None, refl}
+use Rattle.std.proofs.Common.{◌≡◌, ℕ, ◌+◌, List, ◌++◌, Some, None, refl}
 use Rattle.std.specs.Prelude.{Bool, true, false, nat_lt, nat_eq}
 use Rattle.source_meaning.specs.Words.{Event, Deep, Exception, State, Result, Value, Normal, Returned, Broke, Continued, LeftTry, Target, End, Outcome, Gives, choose, depth, deeper, with_value, and_then, ended_call, in_loop, landing, finally_after, with_outermost}
 
