@@ -6,7 +6,6 @@ use Rattle.c_checked.specs.declared.expression.Access.{Access}
 use Rattle.c_checked.specs.declared.expression.Conversion.{Conversion}
 use Rattle.c_checked.specs.declared.expression.Fixity.{Fixity}
 use Rattle.c_checked.specs.declared.expression.Expr.{Expr}
-use Rattle.c_checked.specs.declared.expression.Node.{Node}
 use Rattle.c_checked.specs.declared.expression.Node.TheVariants as nodes
 use Rattle.c_checked.specs.declared.expression.Lvalue.{Lvalue}
 use Rattle.c_checked.specs.declared.expression.Lvalue.TheVariants as lvalues
