@@ -1,12 +1,12 @@
 -- External declarations are read by their heads.
-use Rattle.std.proofs.Common.{◌≡◌, ◌≤◌, ◌+◌, ◌⊎◌, ℕ, List, [], ◌∷◌, ◌++◌, length, length-append}
+use Rattle.std.proofs.Common.{◌≡◌, ◌≤◌, ◌⊎◌, ℕ, List, [], ◌∷◌, ◌++◌, length-append}
 use Rattle.std.proofs.Common.{refl, sym, ap, ◌∙◌, subst, arith, inl, inr, Some, None}
 use Rattle.c_lex.specs.declared.punctuator.Punctuator.TheVariants as punctuators
 use Rattle.c_lex.specs.declared.token.Kind.TheVariants as kinds
 use Rattle.c_parse.specs.Words.{Token, Parameter, Base, CType, Identifier, SameFirst, place, Failed, Wraps, end_of_globals, funclets_of_all, Global, Globals, Function, AreGlobals, AreParameters, IsExternalDeclaration, Statements, Empty, token, HasPunctuator, IsBase, Counts, NoExternalDeclaration, HasExternalDeclaration, NoGlobals, HasGlobals, IsTail, NoTail, HasTail, IsDeclarationHead}
 use Rattle.c_parse.proofs.Lemmas.{append_append, alike_inner, first_after, has_same, name_same, base_once, stars_once, name_star, globals_type, apart}
 use Rattle.c_syntax.proofs.Firsts as firsts
-use Rattle.c_parse.proofs.Refusing.{punctuator, name, has_it, following, Lacks}
+use Rattle.c_parse.proofs.Refusing.{punctuator, has_it, following, Lacks}
 use Rattle.c_parse.proofs.Placing.{no_elements}
 use Rattle.c_parse.proofs.Declarators.{array, is_array}
 use Rattle.c_parse.proofs.Bodies.{empty}

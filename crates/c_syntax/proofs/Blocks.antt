@@ -2,7 +2,7 @@
 -- a block holds.
 use Rattle.std.proofs.Common.{◌≡◌, ◌≤◌, ℕ, Bool, true, false, IsTrue, IsFalse, List, [], ◌∷◌}
 use Rattle.std.proofs.Common.{Option, Some, None, refl, sym, ap, ◌∙◌, subst, arith}
-use Rattle.c_syntax.specs.Words.{Keyword, Punctuator, Kind, Token, Base, Identifier, Expression, NoElse, Closed, OneStatement, Local, ForInitialiser, Statement, Declare, Block, Evaluate, If, IfElse, While, DoWhile, For, Return, Break, Continue, Leave, TryExcept, TryFinally, Statements, Empty, Then, IsOptional, dangles, IsBlockItem, AreBlockItems, IsKeyword, HasPunctuator, HasKeyword}
+use Rattle.c_syntax.specs.Words.{Keyword, Punctuator, Kind, Token, Base, Expression, NoElse, Closed, OneStatement, Local, ForInitialiser, Statement, Declare, Block, Evaluate, If, IfElse, While, DoWhile, For, Return, Break, Continue, Leave, TryExcept, TryFinally, Statements, Empty, Then, IsOptional, dangles, IsBlockItem, AreBlockItems, IsKeyword, HasPunctuator, HasKeyword}
 use Rattle.c_lex.specs.declared.keyword.Keyword.TheVariants as keywords
 use Rattle.c_lex.specs.declared.punctuator.Punctuator.TheVariants as punctuators
 use Rattle.c_lex.specs.declared.token.Kind.TheVariants as kinds

@@ -4,7 +4,7 @@ use Rattle.std.proofs.Common.{length, refl, arith, inl, inr}
 use Rattle.c_lex.specs.declared.keyword.Keyword.TheVariants as keywords
 use Rattle.c_lex.specs.declared.punctuator.Punctuator.TheVariants as punctuators
 use Rattle.c_syntax.specs.Words.{Token, Parameter, nodes_of_initialiser, nodes_of_globals, nodes_of_external_declaration, nodes_of, Global, ExternalDeclaration, Globals, Function, IsGlobal, AreGlobals, IsParameter, AreParameters, IsExternalDeclaration, IsProgram}
-use Rattle.c_syntax.proofs.Nodes.{Takes, fewer, has_punctuator, has_keyword, identifier, in_turn, are_separated, base, stars, type, initialiser, block, given, array_length, items}
+use Rattle.c_syntax.proofs.Nodes.{Takes, fewer, has_punctuator, has_keyword, identifier, in_turn, are_separated, base, stars, type, block, given, array_length, items}
 
 pub global : (g : Global) → Takes (1 + nodes_of_initialiser g.initialiser) (IsGlobal g)
 global g = record {

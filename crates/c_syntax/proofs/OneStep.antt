@@ -1,7 +1,7 @@
 -- A step and what follows it are found by where it begins, and so are the steps after an operand.
 use Rattle.std.proofs.Common.{◌≡◌, ◌≤◌, ◌<◌, ◌-◌, ℕ, List, [], ◌∷◌, Option, refl, sym, ap, ◌∙◌}
 use Rattle.std.proofs.Common.{subst, arith}
-use Rattle.c_syntax.specs.Words.{Punctuator, Token, Arithmetic, BinaryOperator, Increment, Expression, Binary, Comma, height, rank, TighterThan, SpellsExpression, Derives, punctuator_follows, follows, Stops, conditional, assignment, comma, level, binary_punctuator, increment_punctuator, assignment_punctuator, HasPunctuator, Step, At, After, With, Choose, Set, And, apply, Tail, Run, Closes}
+use Rattle.c_syntax.specs.Words.{Punctuator, Token, Arithmetic, BinaryOperator, Increment, Expression, Binary, height, rank, TighterThan, SpellsExpression, Derives, punctuator_follows, follows, Stops, conditional, assignment, comma, level, binary_punctuator, increment_punctuator, assignment_punctuator, HasPunctuator, Step, At, After, With, Choose, Set, And, apply, Tail, Run, Closes}
 use Rattle.c_lex.specs.declared.punctuator.Punctuator.TheVariants as punctuators
 use Rattle.c_syntax.specs.declared.operator.Increment.TheVariants as increments
 use Rattle.c_syntax.proofs.Spine.{levels, follows_punctuator, step_follows, closes, run_reach}
