@@ -8,6 +8,7 @@ use Rattle.linear_code.specs.declared.program.FuncletKind.TheVariants.{Filter, F
 use Rattle.linear_code.specs.Program.{LinearBody, LinearFunction, LinearFunclet, LinearProgram}
 use Rattle.frame_layout.specs.declared.frame.FrameLayout.{FrameLayout}
 use Rattle.frame_layout.specs.Layout.{frame_of}
+use Rattle.template_code.specs.declared.layout.TheConstants.{NO_REGISTERS}
 use Rattle.template_code.specs.declared.layout.Layout.{Layout}
 use Rattle.image_link.specs.declared.routine.Entry.{Entry}
 use Rattle.image_link.specs.declared.routine.Entry.TheVariants as entries
@@ -50,7 +51,15 @@ function_frame b =
 -- the slots of a leaf are above its return address
 abbrev pub leaf_layout : LinearBody → Layout
 leaf_layout b =
-    record { base = None; pointers = 0; locals = 8; temporaries = 8 + 8 * b.locals; frame = 0 }
+    record {
+      base = None;
+      pointers = 0;
+      locals = 8;
+      temporaries = 8 + 8 * b.locals;
+      slots = 0;
+      frame = 0;
+      registers = NO_REGISTERS;
+    }
 
 abbrev pub function_layout : FrameLayout → Layout
 function_layout f =
@@ -59,7 +68,9 @@ function_layout f =
       pointers = 0;
       locals = f.locals;
       temporaries = f.temporaries;
+      slots = f.size;
       frame = f.size;
+      registers = NO_REGISTERS;
     }
 
 abbrev pub leaf : LinearFunction → RoutineView
@@ -137,7 +148,9 @@ funclet_layout function own =
       pointers = own.kept + 8;
       locals = function.locals;
       temporaries = own.temporaries;
+      slots = own.size;
       frame = own.size;
+      registers = NO_REGISTERS;
     }
 
 abbrev pub funclet : LinearProgram → LinearFunclet → RoutineView

@@ -10,7 +10,7 @@ use linear_code::instruction::Instruction;
 use linear_code::program::{FuncletKind, IrBody, IrFunclet, IrFunction, IrProgram, Region};
 use std::alloc::{AllocError, Global};
 use std::marker::Model;
-use template_code::layout::Layout;
+use template_code::layout::{Layout, NO_REGISTERS};
 
 /// The words of the home space, which a leaf function uses for its slots.
 const HOME_WORDS: u64 = 4;
@@ -122,7 +122,9 @@ fn leaf<'a>(function: &'a IrFunction) -> Routine<'a>
             pointers: 0,
             locals: 8,
             temporaries: 8 + 8 * function.body.locals,
+            slots: 0,
             frame: 0,
+            registers: NO_REGISTERS,
         },
         body: &function.body,
     }
@@ -155,7 +157,9 @@ fn framed<'a>(function: &'a IrFunction) -> Routine<'a>
             pointers: 0,
             locals: frame.locals,
             temporaries: frame.temporaries,
+            slots: frame.size,
             frame: frame.size,
+            registers: NO_REGISTERS,
         },
         body: &function.body,
     }
@@ -222,7 +226,9 @@ fn funclet_routine<'a>(program: &IrProgram, funclet: &'a IrFunclet) -> Routine<'
             pointers: own.kept + 8,
             locals: function.locals,
             temporaries: own.temporaries,
+            slots: own.size,
             frame: own.size,
+            registers: NO_REGISTERS,
         },
         body: &funclet.body,
     }

@@ -98,7 +98,7 @@ module _ (t : Functions) (fs : List Funclet) (program : LinearProgram) (p : Imag
   arguments_are = ap (λ x. function_arguments layout x) h.function
 
   arguments_stored : (leaf : Bool) → IsLayoutIf program p layout o leaf
-      → AllPlain layout.frame layout.frame 40 (parameters_code layout 0 fn.parameters)
+      → AllPlain layout.slots layout.frame 40 (parameters_code layout 0 fn.parameters)
       × (layout.frame + 8 ≤ LARGEST_FRAME)
   arguments_stored true l =
       let e = l.frame in
@@ -106,16 +106,19 @@ module _ (t : Functions) (fs : List Funclet) (program : LinearProgram) (p : Imag
       let n = l.few in
       let fits = h.fits in
       let few = h.few in (
-        parameters_plain layout.frame layout.frame 40 layout 0 fn.parameters (omega arith)
+        parameters_plain layout.slots layout.frame 40 layout 0 fn.parameters
+            (image.in_frames (FunctionBody f)) (omega arith)
             (omega arith) (λ j lt. inr (omega arith, omega arith)),
         omega arith,
       )
   arguments_stored false l =
       let a = l.locals in
+      let w = l.within in
       let z = l.small in
       let fits = h.fits in
       let few = h.few in (
-        parameters_plain layout.frame layout.frame 40 layout 0 fn.parameters (omega arith)
+        parameters_plain layout.slots layout.frame 40 layout 0 fn.parameters
+            (image.in_frames (FunctionBody f)) (omega arith)
             (omega arith) (λ j lt. inl (omega arith)),
         l.small,
       )
@@ -140,7 +143,7 @@ module _ (t : Functions) (fs : List Funclet) (program : LinearProgram) (p : Imag
       (sym (append-nil (arguments_code program p (FunctionBody f)))) inside.exact
       (enters_steps inside.turns first after inside.comes) refl at beneath_main small_there
       h.memory.code stored.1 (omega arith) refl
-      (subst (λ (xs : List Instr). AllPlain layout.frame layout.frame 40 xs) (sym arguments_are)
+      (subst (λ (xs : List Instr). AllPlain layout.slots layout.frame 40 xs) (sym arguments_are)
       stored.0)
 
   -- its frame is there, with the registers that the host gave
@@ -202,7 +205,8 @@ module _ (t : Functions) (fs : List Funclet) (program : LinearProgram) (p : Imag
       × (inside.sp + slots_end layout leaf ≤ STACK_END)
   slots_fit true l = let e = l.frame in let a = l.locals in let k = l.temporaries in
       let n = l.few in let z = inside.place in (omega arith, omega arith)
-  slots_fit false l = let a = l.locals in let z = inside.place in (omega arith, omega arith)
+  slots_fit false l = let a = l.locals in let w = l.within in let z = inside.place in
+      (omega arith, omega arith)
 
   at_home : (leaf : Bool) → HasPlan leaf → leaf ≡ true → inside.sp + home_end ≤ STACK_END
   at_home true l e = let k = l.frame in let z = inside.place in omega arith

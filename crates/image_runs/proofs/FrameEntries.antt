@@ -57,7 +57,7 @@ module _ (t : Functions) (fs : List Funclet) (program : LinearProgram) (p : Imag
       (entering.view_stack t fs program p q image s source f fn top arguments h)
       h.registers in
       entering.entered t fs program p q image s source f fn top arguments h top target 0 made
-      (with_home layout)
+      (with_home layout) (image.in_frames (FunctionBody f))
       (record {
         none = l.none;
         low = omega arith;
@@ -67,7 +67,12 @@ module _ (t : Functions) (fs : List Funclet) (program : LinearProgram) (p : Imag
         locals_small = omega arith;
         apart = inl (omega arith);
       })
-      (record { base = refl; temporaries = omega arith; locals = omega arith }) refl (omega arith)
+      (record {
+        base = refl;
+        temporaries = omega arith;
+        locals = omega arith;
+        within = omega arith;
+      }) refl (omega arith)
       (omega arith)
       (subst (λ code. HasCode s.memory target code) (sym same)
       (subst (λ a. HasCode s.memory a (parameters_code layout 0 count)) none
@@ -108,10 +113,11 @@ module _ (t : Functions) (fs : List Funclet) (program : LinearProgram) (p : Imag
         let z = h.high in
         let a = l.temporaries in
         let m = l.locals in
+        let j = l.within in
         let k = l.small in
         entering.entered t fs program p q image s source f fn top arguments h sp
         (target + sizes making) n made layout
-        (record {
+        (image.in_frames (FunctionBody f)) (record {
           none = l.none;
           low = omega arith;
           temporaries = omega arith;
@@ -120,7 +126,12 @@ module _ (t : Functions) (fs : List Funclet) (program : LinearProgram) (p : Imag
           locals_small = omega arith;
           apart = inr (omega arith);
         })
-        (record { base = refl; temporaries = omega arith; locals = omega arith }) refl k
+        (record {
+          base = refl;
+          temporaries = omega arith;
+          locals = omega arith;
+          within = l.within;
+        }) refl k
         (omega arith)
         (subst (λ i. HasCode s.memory (target + sizes i) (parameters_code layout 0 count)) e
         (entry false leaf).storing)
@@ -152,7 +163,8 @@ module _ (t : Functions) (fs : List Funclet) (program : LinearProgram) (p : Imag
         let some = l.passed in
         let is : making_frame p q f false ≡ enter_code frame =
         made_small frame target q.check_stack false refl
-        (let a = l.temporaries in let b = l.locals in omega arith) (leb-true frame 4096 e) in
+        (let a = l.temporaries in let b = l.locals in let c = l.within in omega arith)
+        (leb-true frame 4096 e) in
         framed_entered (enter_code frame) 1 is (ap (λ x. if x then 1 else 8) e)
         (small_frame view target s.cpu.flags top arguments
         (entering.view_stack t fs program p q image s source f fn top arguments h)

@@ -57,7 +57,7 @@ module _ (t : Functions) (fs : List Funclet) (program : LinearProgram) (p : Imag
     }
 
     frame_there : (f : StackFrame) → p.leaf b.body ≡ false → f.entry ≡ p.entry b.body
-        → f.slots ≡ (p.layout b.body).frame → FrameIsAt t m c f → FrameIsAt t m to f
+        → f.slots ≡ (p.layout b.body).slots → FrameIsAt t m c f → FrameIsAt t m to f
     frame_there f framed entry slots s =
         let same = frame_is t fs program p q image m c f b.body code there framed entry slots s in
         let size = frame_size t fs program p q image m c f b.body code there framed entry s in

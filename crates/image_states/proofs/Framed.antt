@@ -2,7 +2,7 @@
 use Rattle.std.proofs.Common.{◌≡◌, ℕ, zero, suc, ◌+◌, ◌^◌, ◌<◌, true, false, List, [], ◌∷◌, Option, Some, None, refl, sym, ap, subst, ◌∙◌, arith}
 use Rattle.std.specs.Prelude.{slice_get}
 use Rattle.std.specs.List.{AllByRecursion}
-use Rattle.image_states.proofs.Lemmas.{some_same, none_some, routine_small, size_of, sized, frame_is_at, leaves_are_at}
+use Rattle.image_states.proofs.Lemmas.{some_same, none_some, routine_small, size_of, sized, slots_of, slots_placed, frame_is_at, leaves_are_at}
 use Rattle.std.proofs.lemmas.Bool.{false≢true}
 use Rattle.image_states.specs.Words.{Memory, Instr, rsp, FrameIsAt, IsExecutableAt, Instruction, LinearBody, LinearProgram, BodyName, body_of, FrameLayout, taking_size, spelled, sizes, IsCodeAt, routine_code, IsInstructionNear, site_of, image_base, template_at, links, HasProgram, links_of, begin_of, code_of, functions_of, funclets_of, is_leaf, or_none, routine_of, address_of, plan_of, sites_of, HasWholeImage, IsReturn, IsInBody, frame_of, IsResumed, FramesAreWaiting, IsPlanned, LeavesAreWaiting, spell, IsFrameNear}
 use Rattle.match_stack.specs.Stack.{IsAsTold}
@@ -106,6 +106,8 @@ module _ (program : LinearProgram) (c : HasWholeImage program) where
       let f = framed_of x.routine.frame framed in
       let size : x.routine.layout.frame ≡ f.0.size = sized program p.index x p.at
       ∙ ap size_of f.1 in
+      let slots : x.routine.layout.slots ≡ f.0.size = slots_placed program p.index x p.at
+      ∙ ap slots_of f.1 in
       let rva = template_at x label + sizes r.done in
       let here' : k.rip ≡ image_base + rva = r.here
       ∙ (let q : image_base + template_at x label + sizes r.done
@@ -114,7 +116,7 @@ module _ (program : LinearProgram) (c : HasWholeImage program) where
       ≡ frame_of (plan_of program) name back others =
       λ i. record {
         entry = tables.entry_of (site_of program) x (or_none (sym f.1 i));
-        slots = sym size i;
+        slots = sym slots i;
         size = sym size i;
         return_address = back;
         others = others;

@@ -10,7 +10,7 @@ pub use Rattle.image_tables.proofs.BodyFrames.{no_epilogue, away, found_in, none
 pub use Rattle.image_tables.proofs.BodyInstructions.{Inner, AllInner, inner_at, fetch_inner, signed}
 pub use Rattle.image_tables.proofs.CodeInMemory.{IsThere, there, routine_length, executable_split, code_split, IsTemplate, template_there, code_length}
 pub use Rattle.image_tables.proofs.Infos.{taking_few}
-pub use Rattle.image_tables.proofs.Layouts.{size_of, sized}
+pub use Rattle.image_tables.proofs.Layouts.{size_of, sized, slots_of, slots_placed}
 pub use Rattle.image_tables.proofs.Lookups.{some_same, none_some, thunks_are_held_by_none, placed_has}
 pub use Rattle.image_tables.proofs.Prologues.{entry_least, prologue_sizes}
 pub use Rattle.image_tables.proofs.RoutineRows.{bounds_rise, IsBare, routines_bare, is_placed}

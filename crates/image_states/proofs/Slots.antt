@@ -24,6 +24,7 @@ module _ (program : LinearProgram) (p : ImagePlan) where
       → IsLayoutIf program p (leaf_if leaf fn).layout fn.body (is_leaf (leaf_if leaf fn).frame)
   function_by true fn fits few = record {
     none = refl;
+    slots = refl;
     frame = refl;
     locals = refl;
     temporaries = refl;
@@ -36,6 +37,7 @@ module _ (program : LinearProgram) (p : ImagePlan) where
         passed = omega arith;
         temporaries = omega arith;
         locals = omega arith;
+        within = omega arith;
         small = omega arith;
       }
 
@@ -57,6 +59,7 @@ funclet_by program fl fn y e same few =
       pointers = refl;
       kept = omega arith;
       temporaries = omega arith;
+      within = omega arith;
       locals = locals;
       small = omega arith;
     }

@@ -61,9 +61,10 @@ rest_fine p index x n probe is_plan size fits e h =
     fine_both n probe is_plan (argument_code r.layout r.entry)
     (code_from (links p x) r.layout (body_begin x) r.body.code)
     (fine_inner n probe is_plan (argument_code r.layout r.entry)
-    (arguments_inner r.layout r.entry h.near.entry))
+    (arguments_inner r.layout r.entry h.framed h.near.entry))
     (body_fine n probe is_plan (links p x) r.layout (body_begin x) r.body.code
-    (sized p index x e ∙ size) (links_near p x fits h) h.near.code (omega arith))
+    (sized p index x e ∙ size) (links_near p x fits h) h.framed h.near.code
+    (omega arith))
 
 module _ (p : LinearProgram) (index : ℕ) (x : Placed) (f : FrameLayout)
     (framed : IsFramed p index x f) where

@@ -1,4 +1,4 @@
--- A routine's layout has the size of its frame.
+-- A routine's layout has the size of its frame, and slots up to where its frame has them.
 use Rattle.std.proofs.Common.{◌≡◌, ℕ, suc, ◌==◌, Bool, true, false, not, List, [], ◌∷◌, map, Option, Some, None, refl}
 use Rattle.std.specs.Prelude.{slice_get, ◌&&◌}
 use Rattle.std.specs.List.{AllByRecursion}
@@ -10,28 +10,53 @@ abbrev pub size_of : Option FrameLayout → ℕ
 size_of None = 0
 size_of (Some f) = f.size
 
+-- the slots of a frame end at its return address
+abbrev pub slots_of : Option FrameLayout → ℕ
+slots_of None = 0
+slots_of (Some f) = f.size
+
 abbrev pub IsSized : RoutineView → Type 0
 IsSized r = r.layout.frame ≡ size_of r.frame
+
+abbrev pub HasSlots : RoutineView → Type 0
+HasSlots r = r.layout.slots ≡ slots_of r.frame
+
+-- what holds of the routines of functions and of funclets holds of each that is placed
+module _ (Holds : RoutineView → Type 0) (function : (b : Bool) (f : LinearFunction)
+    → Holds (leaf_if b f)) (own : (p : LinearProgram) (f : LinearFunclet) → Holds (funclet p f))
+  where
+    all_functions : (main index : ℕ) (fs : List LinearFunction)
+        → AllByRecursion Holds (functions_from main index fs)
+    all_functions main index [] = tt
+    all_functions main index (f ∷ fs) = (
+      function (not (index == main) && is_leaf f.body) f,
+      all_functions main (suc index) fs,
+    )
+
+    all_funclets : (p : LinearProgram) (fs : List LinearFunclet)
+        → AllByRecursion Holds (map (funclet p) fs)
+    all_funclets p [] = tt
+    all_funclets p (f ∷ fs) = (own p f, all_funclets p fs)
+
+    all_placed : (p : LinearProgram) (index : ℕ) (x : Placed)
+        → slice_get (placed p) index ≡ Some x → Holds x.routine
+    all_placed p index x e = placed_has Holds (site_of p) (infos_begin p) (routines_begin p)
+        (routines p) index x (all_append Holds (functions_from p.main 0 p.functions)
+        (map (funclet p) p.funclets) (all_functions p.main 0 p.functions)
+        (all_funclets p p.funclets)) e
 
 function_sized : (b : Bool) (f : LinearFunction) → IsSized (leaf_if b f)
 function_sized true f = refl
 function_sized false f = refl
 
-functions_sized : (main index : ℕ) (fs : List LinearFunction)
-    → AllByRecursion IsSized (functions_from main index fs)
-functions_sized main index [] = tt
-functions_sized main index (f ∷ fs) = (
-  function_sized (not (index == main) && is_leaf f.body) f,
-  functions_sized main (suc index) fs,
-)
-
-funclets_sized : (p : LinearProgram) (fs : List LinearFunclet)
-    → AllByRecursion IsSized (map (funclet p) fs)
-funclets_sized p [] = tt
-funclets_sized p (f ∷ fs) = (refl, funclets_sized p fs)
-
 pub sized : (p : LinearProgram) (index : ℕ) (x : Placed) → slice_get (placed p) index ≡ Some x
     → IsSized x.routine
-sized p index x e = placed_has IsSized (site_of p) (infos_begin p) (routines_begin p) (routines p)
-    index x (all_append IsSized (functions_from p.main 0 p.functions) (map (funclet p) p.funclets)
-    (functions_sized p.main 0 p.functions) (funclets_sized p p.funclets)) e
+sized = all_placed IsSized function_sized (λ p f. refl)
+
+function_slots : (b : Bool) (f : LinearFunction) → HasSlots (leaf_if b f)
+function_slots true f = refl
+function_slots false f = refl
+
+pub slots_placed : (p : LinearProgram) (index : ℕ) (x : Placed)
+    → slice_get (placed p) index ≡ Some x → HasSlots x.routine
+slots_placed = all_placed HasSlots function_slots (λ p f. refl)

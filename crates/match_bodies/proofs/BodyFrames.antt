@@ -2,7 +2,7 @@
 use Rattle.std.proofs.Common.{◌≡◌, ℕ, suc, ◌+◌, ◌^◌, ◌<◌, ◌≤◌, Bool, true, false, Some, Ok, List, length, drop, refl, sym, ap, subst, ◌∙◌, arith}
 use Rattle.std.specs.Prelude.{slice_index}
 use Rattle.std.proofs.lemmas.Bool.{eqb-false, not-true}
-use Rattle.match_bodies.specs.Words.{Memory, Rsp, Context, context_of, kept_of, State, register, rsp, word, LinearBody, BodyName, FunctionBody, FuncletBody, body_of, Configuration, StackFrame, frame_of, HasFrame, IsFramed, Setting, IsWellFormed, AllSmall, IsAsTold, IsOwed, nothing_owed, owed_of, owed_by, caller_owed, get}
+use Rattle.match_bodies.specs.Words.{Memory, Rsp, Context, context_of, kept_of, State, register, rsp, word, LinearBody, BodyName, FunctionBody, FuncletBody, body_of, Configuration, StackFrame, frame_of, HasFrame, IsFramed, Setting, Layout, IsWellFormed, AllSmall, IsAsTold, IsOwed, nothing_owed, owed_of, owed_by, caller_owed, get}
 use Rattle.virtual_unwind.specs.CallerOf.{has_frame, sets_frame}
 use Rattle.virtual_unwind.specs.Undone.{operations}
 use Rattle.frame_rules.specs.Bytes.{spell}
@@ -68,12 +68,26 @@ module _ (setting : Setting) where
             let passed = l.passed in
             let temporaries = l.temporaries in
             let locals = l.locals in
+            let within = l.within in
             omega arith
         some (FuncletBody k) h e =
             let passed = h.layout.passed in
             let kept = h.layout.kept in
             let temporaries = h.layout.temporaries in
+            let within = h.layout.within in
             omega arith
+
+    -- its slots end below its return address
+    pub slots_within : (p.layout name).slots ≤ (p.layout name).frame
+    slots_within = by name (image.laid_out name b is)
+      where
+        by_leaf : (y : Layout) (leaf : Bool) → IsLayoutIf program p y b leaf → y.slots ≤ y.frame
+        by_leaf y true l = let none = l.slots in omega arith
+        by_leaf y false l = l.within
+
+        by : (n : BodyName) → IsLaidOut program p n b → (p.layout n).slots ≤ (p.layout n).frame
+        by (FunctionBody f) h = by_leaf (p.layout (FunctionBody f)) (p.leaf (FunctionBody f)) h
+        by (FuncletBody k) h = h.layout.within
 
     abbrev framing : FramePlan
     framing = body_plan p q name
@@ -128,10 +142,12 @@ module _ (setting : Setting) where
                 (image.laid_out name b is)).frame
 
     -- nothing that they tell of is below its slots
-    above_frame : p.leaf name ≡ false → (at : ℕ)
-        → AreAbove (at + (p.layout name).frame) at at (operations (p.entry name).info.codes)
-    above_frame e at = subst (AreAbove (at + (p.layout name).frame) at at) (sym (codes_are e))
-        (above_plan framing (at + (p.layout name).frame) at tt (omega arith))
+    above_slots : p.leaf name ≡ false → (at : ℕ)
+        → AreAbove (at + (p.layout name).slots) at at (operations (p.entry name).info.codes)
+    above_slots e at =
+        let within = slots_within in
+        subst (AreAbove (at + (p.layout name).slots) at at) (sym (codes_are e))
+        (above_plan framing (at + (p.layout name).slots) at tt (omega arith))
 
     -- and a frame is as they tell where they are owed
     pub owed_framed : (m : Memory) (c : Context) (size back : ℕ) (others : List ℕ)
@@ -157,19 +173,19 @@ module _ (setting : Setting) where
             stack = k.stack;
             framed = k.framed;
             others = k.unsaved;
-            above = above_frame e (rsp c);
+            above = above_slots e (rsp c);
           };
         }
 
-    -- nothing of it is below the return address
-    pub codes_above : (at : ℕ) → AreAbove (at + (p.layout name).frame) at at (owed_of p name).codes
+    -- nothing of what is owed is below its slots
+    pub codes_above : (at : ℕ) → AreAbove (at + (p.layout name).slots) at at (owed_of p name).codes
     codes_above at = by (p.leaf name) refl
       where
-        by : (leaf : Bool) → p.leaf name ≡ leaf → AreAbove (at + (p.layout name).frame) at at
+        by : (leaf : Bool) → p.leaf name ≡ leaf → AreAbove (at + (p.layout name).slots) at at
             (owed_by (p.entry name).info leaf).codes
-        by false e = above_frame e at
+        by false e = above_slots e at
         by true e =
-            let none = (leaf_layout t fs program p q name b e (image.laid_out name b is)).frame in
+            let none = (leaf_layout t fs program p q name b e (image.laid_out name b is)).slots in
             omega arith
 
     -- it is there where its codes are owed
@@ -189,7 +205,7 @@ module _ (setting : Setting) where
     -- it is there in another memory that has its words, with the same nonvolatile registers
     pub frame_stays : (s u : State) (back : ℕ) (others : List ℕ)
         → kept_of u.cpu.registers ≡ kept_of s.cpu.registers
-        → ((a v : ℕ) → register s.cpu Rsp + (p.layout name).frame ≤ a
+        → ((a v : ℕ) → register s.cpu Rsp + (p.layout name).slots ≤ a
         → a + 8 ≤ register s.cpu Rsp + (p.layout name).frame + 8 → word s.memory a ≡ Ok v
         → word u.memory a ≡ Ok v)
         → HasFrame s (p.leaf name) (frame_of p name back others)
@@ -200,14 +216,15 @@ module _ (setting : Setting) where
             → HasFrame u leaf (frame_of p name back others)
         by false e h =
             let sp = register s.cpu Rsp in
+            let slots = (p.layout name).slots in
             let size = (p.layout name).frame in
             told_with u.memory (context_of s.cpu) (context_of u.cpu) (frame_of p name back others)
-            same (told_above s.memory u.memory (sp + size) (sp + size + 8) (context_of s.cpu)
+            same (told_above s.memory u.memory (sp + slots) (sp + size + 8) (context_of s.cpu)
             (frame_of p name back others)
             (λ a v l k w. is_word u.memory a v w.high (words a v l k (word-is s.memory a v w)))
             (omega arith) (omega arith) h)
         by true e h =
-            let none = (leaf_layout t fs program p q name b e (image.laid_out name b is)).frame in
+            let none = (leaf_layout t fs program p q name b e (image.laid_out name b is)).slots in
             record {
               returns = ap (λ (ks : List ℕ). word u.memory (slice_index ks 0)) same
                   ∙ words (register s.cpu Rsp) back (omega arith) (omega arith) h.returns;

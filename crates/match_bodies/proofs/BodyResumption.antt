@@ -82,7 +82,7 @@ module _ (t : Functions) (fs : List Funclet) (program : LinearProgram) (p : Imag
       -- it is the body's
       pub frame_is : (m : Memory) (c : Context) (f : StackFrame) (name : BodyName) (b : LinearBody)
           → body_of program name ≡ Some b → p.leaf name ≡ false → f.entry ≡ p.entry name
-          → f.slots ≡ (p.layout name).frame → FrameIsAt t m c f
+          → f.slots ≡ (p.layout name).slots → FrameIsAt t m c f
           → f ≡ frame_of p name f.return_address f.others
       frame_is m c f name b there leaf entry slots s = λ i. record {
         entry = entry i;
@@ -113,21 +113,21 @@ module _ (t : Functions) (fs : List Funclet) (program : LinearProgram) (p : Imag
           let sp : register u.cpu Rsp ≡ rsp c = ap (λ (ks : List ℕ). slice_index ks 0) same in
           let up : rsp c + f.size + 8 ≡ register u.cpu Rsp + y.frame + 8 =
           omega (arith, sp, size) in
-          let slots : BodyWaits t fs program p m (context_of u.cpu) y.frame
-          (temporaries_end y name y.frame) b' acts = record {
+          let slots : BodyWaits t fs program p m (context_of u.cpu) y.slots
+          (temporaries_end y name y.slots) b' acts = record {
             code = w.code;
             body = w.body;
             label = label;
             instruction = record { low = inside.low; high = inside.high };
             same = all_same label (regions_of (body_of program name));
             small = well.rip_small;
-            activation = activation_with m (p.register name) y c (context_of u.cpu) y.frame
+            activation = activation_with m (p.register name) y c (context_of u.cpu) y.slots
                 b.activation acts name same
                 (subst (λ n. HasActivation m (get c) (p.register name) y (rsp c) n b.activation acts
                 name) l.0.slots w.activation);
             temporaries = subst (λ x. HoldsWords m (x + y.temporaries)
-                (x + temporaries_end y name y.frame) ts) (sym sp)
-                (front (rsp c + y.temporaries) (rsp c + temporaries_end y name y.frame)
+                (x + temporaries_end y name y.slots) ts) (sym sp)
+                (front (rsp c + y.temporaries) (rsp c + temporaries_end y name y.slots)
                 (subst (λ n. HoldsWords m (rsp c + y.temporaries) (rsp c + temporaries_end y name n)
                 b.temporaries) l.0.slots w.temporaries));
             space = subst (λ x. HasSpace x below_end (length acts + b.held)) (sym sp) w.space;

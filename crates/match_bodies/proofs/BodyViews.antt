@@ -1,7 +1,9 @@
 -- The running body has a view: its slots as templates see them hold linear code's numbers.
-use Rattle.std.proofs.Common.{◌≡◌, ℕ, ◌+◌, ◌*◌, ◌≤◌, Bool, true, false, Some, None, List, [], ◌∷◌, length, refl, sym, ap, subst, ◌∙◌, arith, inl, inr}
+use Rattle.std.proofs.Common.{◌≡◌, ℕ, ◌+◌, ◌*◌, ◌^◌, ◌<◌, ◌≤◌, Bool, true, false, Some, None, List, [], ◌∷◌, length, refl, sym, ap, subst, ◌∙◌, arith, inl, inr}
 use Rattle.std.specs.Prelude.{◌⊎◌, slice_get, slice_index}
-use Rattle.match_bodies.specs.Words.{STACK_START, STACK_END, Rsp, State, context_of, get, register, LinearBody, BodyName, FunctionBody, FuncletBody, body_of, Configuration, machine, context_below, locals_of, activations_below, temporaries_end, HasActivation, IsLinkedStack, IsFunctionLayout, IsLeafLayout, IsFuncletLayout, IsLayoutIf, IsLaidOut, IsFuncletPlan, slots_end, last_temporary, FrameHolds, seen_by_templates, counts_of, frame_at, state_of, Setting, RepresentsAt, Roomy, HasSlotsOf}
+use Rattle.match_bodies.specs.Words.{STACK_START, STACK_END, Rsp, State, context_of, get, register, LinearBody, BodyName, FunctionBody, FuncletBody, body_of, Configuration, machine, context_below, locals_of, activations_below, temporaries_end, HasActivation, IsLinkedStack, IsFunctionLayout, IsLeafLayout, IsFuncletLayout, IsLayoutIf, IsLaidOut, IsFuncletPlan, slots_end, last_temporary, FrameHolds, seen_by_templates, counts_of, frame_at, state_of, Setting, RepresentsAt, Roomy, HasSlotsOf, AllSmall, local_in, local_registers, number_placed}
+use Rattle.x64_instr.specs.declared.register.Reg.{Reg}
+use Rattle.x64_instr.specs.declared.register.Reg.TheVariants.{Rax, Rcx, Rdx, Rbx, Rbp, Rsi, Rdi, R8, R9, R10, R11, R12, R13, R14, R15}
 use Rattle.linear_machine.specs.Frames as linear
 use Rattle.match_bodies.proofs.Lemmas.{in_stack}
 use Rattle.match_bodies.proofs.SlotPlaces.{SlotsPlaced, function_placed, leaf_placed, funclet_placed, room_of, holds_of, local_is, temporary_is}
@@ -14,6 +16,26 @@ pub registers_are : (rs : List ℕ) → length rs ≡ 16
     ∷ slice_index rs 13 ∷ slice_index rs 14 ∷ slice_index rs 15 ∷ []
 registers_are (a ∷ b ∷ c ∷ d ∷ e ∷ f ∷ g ∷ h ∷ i ∷ j ∷ k ∷ l ∷ m ∷ n ∷ o ∷ p ∷ []) z = refl
 registers_are rs z = absurd (omega arith)
+
+-- each of them is a number of 64 bits
+pub locals_small : (rs : List ℕ) → length rs ≡ 16 → AllSmall rs
+    → (r : Reg) → local_in (local_registers rs) r < 2 ^ 64
+locals_small rs n small Rbx = small 3 (omega arith)
+locals_small rs n small Rsi = small 6 (omega arith)
+locals_small rs n small Rdi = small 7 (omega arith)
+locals_small rs n small R12 = small 12 (omega arith)
+locals_small rs n small R13 = small 13 (omega arith)
+locals_small rs n small R14 = small 14 (omega arith)
+locals_small rs n small R15 = small 15 (omega arith)
+locals_small rs n small Rax = omega arith
+locals_small rs n small Rcx = omega arith
+locals_small rs n small Rdx = omega arith
+locals_small rs n small Rsp = omega arith
+locals_small rs n small Rbp = omega arith
+locals_small rs n small R8 = omega arith
+locals_small rs n small R9 = omega arith
+locals_small rs n small R10 = omega arith
+locals_small rs n small R11 = omega arith
 
 pub is_machine : (s : State) → length s.cpu.registers ≡ 16
     → s ≡ machine (seen_by_templates s) s.cpu.rip s.cpu.flags
@@ -86,7 +108,7 @@ module _ (setting : Setting) where
 
       by_funclet : (k : ℕ) → c.frame.body ≡ FuncletBody k → IsFuncletPlan program p k code
           → HasActivation s.memory (get (context_of s.cpu)) (p.register c.frame.body)
-          (p.layout c.frame.body) sp (p.layout c.frame.body).frame
+          (p.layout c.frame.body) sp (p.layout c.frame.body).slots
           c.frame.activation b.body.acts (FuncletBody k)
           → SlotsPlaced s.memory (p.layout c.frame.body) code.temporaries sp c.frame.activation
           b.body.acts
@@ -145,15 +167,19 @@ module _ (setting : Setting) where
       room_here = room_of s.memory (p.layout c.frame.body) (counts_of code) sp c.frame.activation
           b.body.acts placed count
 
-      pub holds_here : FrameHolds (frame_at program p c.frame.body code sp placed.base) s.memory
-          (state_of program p s c placed.base)
+      pub holds_here : FrameHolds (frame_at program p c.frame.body code sp placed.base)
+          (local_registers s.cpu.registers) s.memory (state_of program p s c placed.base)
       holds_here = holds_of program.globals s.memory c.store.memory (p.layout c.frame.body)
-          (counts_of code) sp c.frame.activation b.body.acts placed count b.memory.data_alone.bytes
+          (counts_of code) sp c.frame.activation b.body.acts (local_registers s.cpu.registers)
+          placed count (locals_small s.cpu.registers b.well_formed.count b.well_formed.small)
+          b.memory.data_alone.bytes
           b.memory.stack b.memory.agrees
 
       pub slots_here : HasSlotsOf program p c code (state_of program p s c placed.base)
       slots_here = record {
-        locals = λ i lt. local_is s.memory (p.layout c.frame.body) code.temporaries sp i b.body.acts
+        locals = λ i lt. ap (number_placed (p.layout c.frame.body) placed.base
+            (local_registers s.cpu.registers) s.memory i) (image.in_frames c.frame.body i)
+            ∙ local_is s.memory (p.layout c.frame.body) code.temporaries sp i b.body.acts
             c
             b.body.store placed (let n = count in omega arith);
         temporaries = λ i v e. temporary_is s.memory (p.layout c.frame.body) sp _ i v
@@ -170,7 +196,7 @@ module _ (setting : Setting) where
         pub layout : IsFunctionLayout (p.layout c.frame.body) code
         pub activation : HasActivation s.memory (get (context_of s.cpu)) (p.register c.frame.body)
             (p.layout c.frame.body) sp
-            (p.layout c.frame.body).frame c.frame.activation b.body.acts (FunctionBody number)
+            (p.layout c.frame.body).slots c.frame.activation b.body.acts (FunctionBody number)
 
       pub record AsLeaf : Type 0 where
         pub number : ℕ
@@ -190,7 +216,7 @@ module _ (setting : Setting) where
             (p.layout (FunctionBody plan.funclet.function)) code
         pub activation : HasActivation s.memory (get (context_of s.cpu)) (p.register c.frame.body)
             (p.layout c.frame.body) sp
-            (p.layout c.frame.body).frame c.frame.activation b.body.acts (FuncletBody number)
+            (p.layout c.frame.body).slots c.frame.activation b.body.acts (FuncletBody number)
 
       kind_by_leaf : (f : ℕ) (leaf : Bool) → c.frame.body ≡ FunctionBody f
           → p.leaf c.frame.body ≡ leaf → IsLaidOut program p (FunctionBody f) code
@@ -252,7 +278,7 @@ module _ (setting : Setting) where
         | inl f ↦ subst (λ l. (p.layout c.frame.body).temporaries + 8 * code.temporaries
             ≤ last_temporary (p.layout c.frame.body) c.frame.body l) (sym f.framed)
             (subst (λ n. (p.layout c.frame.body).temporaries + 8 * code.temporaries
-            ≤ temporaries_end (p.layout c.frame.body) n (p.layout c.frame.body).frame) (sym f.name)
+            ≤ temporaries_end (p.layout c.frame.body) n (p.layout c.frame.body).slots) (sym f.name)
             f.layout.temporaries)
         | inr (inl f) ↦ subst (λ l. (p.layout c.frame.body).temporaries + 8 * code.temporaries
             ≤ last_temporary (p.layout c.frame.body) c.frame.body l) (sym f.leaf)
@@ -260,7 +286,7 @@ module _ (setting : Setting) where
         | inr (inr f) ↦ subst (λ l. (p.layout c.frame.body).temporaries + 8 * code.temporaries
             ≤ last_temporary (p.layout c.frame.body) c.frame.body l) (sym f.framed)
             (subst (λ n. (p.layout c.frame.body).temporaries + 8 * code.temporaries
-            ≤ temporaries_end (p.layout c.frame.body) n (p.layout c.frame.body).frame) (sym f.name)
+            ≤ temporaries_end (p.layout c.frame.body) n (p.layout c.frame.body).slots) (sym f.name)
             f.layout.temporaries)
       ]
 

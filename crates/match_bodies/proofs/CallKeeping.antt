@@ -9,7 +9,7 @@ use Rattle.x64_instr.specs.declared.operand.RegisterOrMemory.TheVariants as plac
 use Rattle.match_bodies.proofs.Lemmas.{thunk_encodable, code_split, straight, keep_first, frame_low}
 use Rattle.match_bodies.proofs.InstructionEffects.{others_of, Calls, jumps}
 use Rattle.match_bodies.proofs.SilentTurns.{program_kept}
-use Rattle.match_bodies.proofs.BodyFrames.{codes_above, owed_framed, owed_frame}
+use Rattle.match_bodies.proofs.BodyFrames.{codes_above, owed_framed, owed_frame, slots_within}
 use Rattle.match_bodies.proofs.OwedCallers.{at_return}
 use Rattle.match_bodies.proofs.RoutineWalks.{read_here, effect_here, StepsTo, steps_split, keeps_split, Beneath, beneath_stays, callers_above, gives_above, AllPlain, Finds, Ran, ran}
 use Rattle.match_bodies.proofs.ShadowTurns.{called, owed_called, call_keeps_shadow, beneath_callee}
@@ -31,9 +31,12 @@ module _ (setting : Setting) where
       (beneath : Beneath t s (owed_of p name) top (top + 8) back others list)
       (below : register s.cpu Rsp + (p.layout name).frame ≡ top) (low : 8 ≤ register s.cpu Rsp)
       (has : HasProgram setting s.memory)
-      (plain : AllPlain (p.layout name).frame (p.layout name).frame 8 before)
+      (plain : AllPlain (p.layout name).slots (p.layout name).frame 8 before)
       (run : StepsTo (length before + 1) s w)
     where
+      abbrev slots : ℕ
+      slots = (p.layout name).slots
+
       abbrev frame : ℕ
       frame = (p.layout name).frame
 
@@ -78,10 +81,11 @@ module _ (setting : Setting) where
           (template_there setting name b is m h label i at))
 
       first : Ran t fs program p q owed top (top + 8) back others list s u before
-      first = ran t fs program p q owed top (top + 8) back others list before s u frame frame 8
+      first = ran t fs program p q owed top (top + 8) back others list before s u slots frame 8
           halves.1
           plain (subst (λ a. HasCode s.memory a before) (sym here) (codes s.memory has).0) has
-          beneath below refl (omega arith) (codes_above setting name b is sp) finds
+          beneath below refl (slots_within setting name b is) (codes_above setting name b is sp)
+          finds
 
       -- its nonvolatile registers are those of the body
       others_same : others_of u.cpu.registers ≡ others_here
@@ -148,7 +152,7 @@ module _ (setting : Setting) where
         same : context_after from_here item ≡ context_below back (top + 8) others
         owned : (a : ℕ) → OwnedBy from_here item a → limit ≤ a
 
-      waits : (limit : ℕ) → limit ≤ top → Waits limit
+      waits : (limit : ℕ) → limit ≤ sp + slots → Waits limit
       waits limit most = by (p.leaf name) refl
         where
           up : sp - 8 + 8 + first.beneath.size ≡ top
@@ -182,6 +186,8 @@ module _ (setting : Setting) where
               (subst (λ (leaf : Bool). IsOwed v.memory from_here (owed_by i leaf)
               first.beneath.size back others) e owes) in
               let flat = n.none in
+              let h = whole in
+              let within = slots_within setting name b is in
               let u' = up in
               let y : sp - 8 + 8 + 8 ≡ top + 8 = omega arith in
               record {
@@ -206,8 +212,10 @@ module _ (setting : Setting) where
         pub stack : register w.cpu Rsp ≡ sp - 8
         pub program_there : HasProgram setting w.memory
 
-      pub callee_begins : (limit : ℕ) → sp ≤ limit → limit ≤ top → CalleeBegins limit
+      -- which may store up to where the slots of its caller end
+      pub callee_begins : (limit : ℕ) → sp ≤ limit → limit ≤ sp + slots → CalleeBegins limit
       callee_begins limit le most =
+          let within = slots_within setting name b is in
           let i = waits limit most in
           let first_state : CalleeFrom limit v = record {
             item = i.item;
@@ -215,7 +223,7 @@ module _ (setting : Setting) where
                 (i.item ∷ list)) others_same
                 (beneath_callee t fs owed top (top + 8) back others list u v st first.beneath
                 (sp - 8) to sp_below next there_is near after code_there i.item limit
-                i.is_there i.same i.owned (omega arith) most);
+                i.is_there i.same i.owned (omega arith) (omega arith));
             rip = is_called.rip;
             stack = is_called.stack;
             program_there = has_called;

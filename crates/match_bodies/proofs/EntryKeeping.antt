@@ -2,13 +2,13 @@
 -- stored.
 use Rattle.std.proofs.Common.{◌≡◌, ℕ, zero, suc, ◌+◌, ◌*◌, ◌^◌, ◌<◌, ◌≤◌, Bool, true, false, Option, Some, None, List, [], ◌∷◌, ◌++◌, length, refl, sym, ap, subst, ◌∙◌, arith, inl, inr, append_assoc}
 use Rattle.std.specs.Prelude.{◌⊎◌, nat_lt, if◌then◌else◌}
-use Rattle.match_bodies.specs.Words.{Reg, Rax, Rsp, Instr, State, register, AllSmall, Functions, Funclet, LinearProgram, LinearBody, BodyName, body_of, Layout, sizes, fetched, local_at, keep_register, HasCode, StackItem, ImagePlan, AllKeep, Sites, begin_of, making_size, HasProgram, IsProgramImage, FindsOwed, nothing_owed, owed_of, LARGEST_FRAME, setting_of, Rdx, temporary_at, parameter_register, stack_parameter, parameter_code, parameters_code, passing_code}
+use Rattle.match_bodies.specs.Words.{Reg, Rax, Rsp, Instr, State, register, AllSmall, Functions, Funclet, LinearProgram, LinearBody, BodyName, body_of, Layout, sizes, fetched, local_at, keep_register, HasCode, StackItem, ImagePlan, AllKeep, Sites, begin_of, making_size, HasProgram, IsProgramImage, FindsOwed, nothing_owed, owed_of, LARGEST_FRAME, setting_of, Rdx, temporary_at, parameter_register, stack_parameter, parameter_code, parameters_code, passing_code, place_of, InFrame, parameter_placed}
 use Rattle.template_code.specs.Calls.{arguments_code}
 use Rattle.match_bodies.proofs.Lemmas.{code_split, near}
 use Rattle.match_bodies.specs.CodeSites as sites
 use Rattle.match_bodies.proofs.RoutineWalks.{StepsTo, steps_split, keeps_split, Beneath, IsPlain, AllPlain, Finds, ran}
 use Rattle.match_bodies.proofs.ReturnAddresses.{argument_found}
-use Rattle.match_bodies.proofs.BodyFrames.{codes_above}
+use Rattle.match_bodies.proofs.BodyFrames.{codes_above, slots_within}
 use Rattle.match_bodies.proofs.PlannedPrologues.{frame_there}
 use Rattle.match_bodies.proofs.FrameMaking.{making_steps, made_by}
 
@@ -74,17 +74,19 @@ parameter_plain d whole e y i false lt lt' inside = (
   (kept_plain d whole e Rax (local_at y i) lt inside, tt),
 )
 
-pub parameters_plain : (d whole e : ℕ) (y : Layout) (i n : ℕ) → local_at y (i + n) < 2 ^ 31
+pub parameters_plain : (d whole e : ℕ) (y : Layout) (i n : ℕ)
+    → ((j : ℕ) → place_of y j ≡ InFrame) → local_at y (i + n) < 2 ^ 31
     → stack_parameter y (i + n) < 2 ^ 31
     → ((j : ℕ) → j < i + n → (local_at y j + 8 ≤ d)
     ⊎ ((whole + 8 ≤ local_at y j) × (local_at y j + 8 ≤ whole + e)))
     → AllPlain d whole e (parameters_code y i n)
-parameters_plain d whole e y i zero lt lt' inside = tt
-parameters_plain d whole e y i (suc n) lt lt' inside =
+parameters_plain d whole e y i zero framed lt lt' inside = tt
+parameters_plain d whole e y i (suc n) framed lt lt' inside =
     plain_both d whole e (parameter_code y i) (parameters_code y (i + 1) n)
+    (subst (λ k. AllPlain d whole e (parameter_placed y i k)) (sym (framed i))
     (parameter_plain d whole e y i (nat_lt i 4) (omega arith) (omega arith)
-    (inside i (omega arith)))
-    (parameters_plain d whole e y (i + 1) n (omega arith) (omega arith)
+    (inside i (omega arith))))
+    (parameters_plain d whole e y (i + 1) n framed (omega arith) (omega arith)
     (λ j l. inside j (omega arith)))
 
 -- where a funclet keeps its base
@@ -103,6 +105,9 @@ module _ (t : Functions) (fs : List Funclet) (program : LinearProgram) (p : Imag
     (image : IsProgramImage t fs program p q) where
   module _ (name : BodyName) (b : LinearBody) (is : body_of program name ≡ Some b)
       (some : 0 < length b.code) (top from back : ℕ) (others : List ℕ) (list : List StackItem) where
+    abbrev slots : ℕ
+    slots = (p.layout name).slots
+
     abbrev frame : ℕ
     frame = (p.layout name).frame
 
@@ -121,7 +126,7 @@ module _ (t : Functions) (fs : List Funclet) (program : LinearProgram) (p : Imag
         → Beneath t e nothing_owed top from back others list → AllSmall others
         → HasProgram t fs program p q e.memory → frame + 8 ≤ LARGEST_FRAME → LARGEST_FRAME ≤ top
         → from ≡ top + extra
-        → AllPlain frame frame extra a → EntryRan n e w a
+        → AllPlain slots frame extra a → EntryRan n e w a
     entry_ran n e w a c extra parts count run here at_top beneath small has most low up plain =
         let making = making_steps (p.leaf name) frame in
         let h = steps_split making (length a) e w (subst (λ k. StepsTo k e w) count run) in
@@ -136,9 +141,9 @@ module _ (t : Functions) (fs : List Funclet) (program : LinearProgram) (p : Imag
         subst (λ x. FindsOwed t mem (x + sizes done) (owed_of p name)) (sym m.rip)
         (argument_found (setting_of t fs program p q image) name b is mem k some done (left ++ c)
         (parts ∙ ap (λ (xs : List Instr). xs ++ c) split ∙ append_assoc done left c)) in
-        let r = ran t fs program p q (owed_of p name) top from back others list a u w frame frame
+        let r = ran t fs program p q (owed_of p name) top from back others list a u w slots frame
         extra h.2 plain (subst (λ x. HasCode u.memory x a) (sym m.rip) code.0) m.has m.beneath
-        m.stack up (omega arith)
+        m.stack up (slots_within (setting_of t fs program p q image) name b is)
         (codes_above (setting_of t fs program p q image) name b is (register u.cpu Rsp)) finds in
         record {
           keeps = subst (λ k. AllKeep t fs k e) (sym count)

@@ -1,7 +1,7 @@
 -- The next instruction of a body begins, in the memory that a template leaves.
 use Rattle.std.proofs.Common.{◌≡◌, ℕ, ◌+◌, ◌*◌, ◌<◌, ◌≤◌, true, Option, Some, None, Ok, List, [], ◌∷◌, length, refl, sym, ap, subst, ◌∙◌, arith, inl, inr}
-use Rattle.std.specs.Prelude.{◌⊎◌, slice_get, slice_index}
-use Rattle.match_bodies.specs.Words.{STACK_START, STACK_END, Event, Memory, Rax, Rsp, kept_of, HasFrame, frame_of, State, register, word, Local, Temporary, BodyState, LinearBody, BodyName, FunctionBody, FuncletBody, body_of, Item, Waits, Searches, Unwinds, Configuration, Context, Layout, FrameHolds, context_of, get, regions_of, InCode, context_below, Activation, locals_of, activations_below, HoldsWords, IsActivation, HasActivation, HasPointers, IsAbove, BodyWaits, HasSpace, below_end, home_end, IsLinkedStack, IsData, On, IsWellFormed, IsFunctionLayout, IsLayoutIf, slots_end, counts_of, frame_at, with_values, KeepsStackBut, OwnerHasFrame, InTemporaries, InLocals, last_temporary, Setting, RepresentsAt}
+use Rattle.std.specs.Prelude.{◌⊎◌, ◌-◌, slice_get, slice_index}
+use Rattle.match_bodies.specs.Words.{STACK_START, STACK_END, Event, Memory, Rax, Rsp, kept_of, HasFrame, frame_of, State, register, word, Local, Temporary, BodyState, LinearBody, BodyName, FunctionBody, FuncletBody, body_of, Item, Waits, Searches, Unwinds, Configuration, Context, Layout, FrameHolds, context_of, get, regions_of, InCode, context_below, Activation, locals_of, activations_below, HoldsWords, IsActivation, HasActivation, HasPointers, IsAbove, BodyWaits, HasSpace, below_end, home_end, IsLinkedStack, IsData, On, IsWellFormed, IsFunctionLayout, IsLayoutIf, slots_end, counts_of, frame_at, with_values, KeepsStackBut, OwnerHasFrame, InTemporaries, InLocals, last_temporary, Setting, RepresentsAt, local_registers, number_placed}
 use Rattle.virtual_unwind.specs.Undone.{Answer}
 use Rattle.match_bodies.proofs.Lemmas.{kept_by_other_memories}
 use Rattle.match_bodies.proofs.BodyResumption.{above_same}
@@ -56,7 +56,8 @@ module _ (setting : Setting) where
     -- a run of a template of this body
     pub record Ran (u : State) (d : BodyState) (values ts : List ℕ) : Type 0 where
       pub changed : Changed program.globals s u y (counts_of code) sp here.base
-      pub holds : FrameHolds (frame_at program p c.frame.body code sp here.base) u.memory d
+      pub holds : FrameHolds (frame_at program p c.frame.body code sp here.base)
+          (local_registers u.cpu.registers) u.memory d
       pub kept : kept_of u.cpu.registers ≡ kept_of s.cpu.registers
       pub leaves : Leaves code d values ts
 
@@ -92,7 +93,9 @@ module _ (setting : Setting) where
           (slot_word program.globals s u y (counts_of code) sp c.frame.activation b.body.acts here
           cnt r.changed b.memory.data_alone b.memory.stack (here.base + (y.locals + 8 * i)) v
           (omega arith) (let m = cnt in omega arith)
-          (r.holds.slot (Local i) (omega arith) ∙ r.leaves.locals i (omega arith) ∙ g.0))
+          (sym (ap (number_placed y here.base (local_registers u.cpu.registers) u.memory i)
+          (image.in_frames c.frame.body i)) ∙ r.holds.slot (Local i) (omega arith)
+          ∙ r.leaves.locals i (omega arith) ∙ g.0))
 
       new_locals : (end : ℕ) → here.base + y.locals + 8 * length values ≤ end
           → HoldsWords u.memory (here.base + y.locals) end values
@@ -170,13 +173,17 @@ module _ (setting : Setting) where
           → KeepsSlot s.memory y (Some h.slot) sp here.base
       funclet_base number size h = subst (λ o. KeepsSlot s.memory y o sp here.base) h.some here.kept
 
-      -- the frame's word at an offset that is in no slot
+      -- the frame's word at an offset is in no slot
       abbrev Beside : ℕ → Type 0
       Beside offset = (a : ℕ) → sp + offset ≤ a → a < sp + offset + 8
           → InTemporaries y (counts_of code) sp a ⊎ InLocals y (counts_of code) here.base a → ⊥
 
-      function_beside : AsFunction setting s c b counted → Beside y.frame
-      function_beside f a l h i =
+      -- where it is above the slots
+      abbrev Saved : Type 0
+      Saved = (offset : ℕ) → y.slots ≤ offset → offset ≤ y.frame → Beside offset
+
+      function_beside : AsFunction setting s c b counted → Saved
+      function_beside f offset from to a l h i =
           let base = function_base f.layout.none in let x = f.layout.temporaries in
           let z = f.layout.locals in
           elim i [
@@ -185,8 +192,8 @@ module _ (setting : Setting) where
                 absurd (omega arith))
           ]
 
-      leaf_beside : AsLeaf setting s c b counted → Beside y.frame
-      leaf_beside f a l h i =
+      leaf_beside : AsLeaf setting s c b counted → Saved
+      leaf_beside f offset from to a l h i =
           let base = function_base f.layout.none in let x = f.layout.temporaries in
           let z = f.layout.locals in let n = f.layout.frame in
           elim i [
@@ -196,25 +203,27 @@ module _ (setting : Setting) where
           ]
 
       funclet_beside : (f : AsFunclet setting s c b counted) → (offset : ℕ) →
-          (offset + 8 ≤ y.temporaries) ⊎ (y.frame ≡ offset) → Beside offset
+          (offset + 8 ≤ y.temporaries) ⊎ ((y.slots ≤ offset) × (offset ≤ y.frame)) → Beside offset
       funclet_beside f offset o a l h i =
-          let k = (funclet_base f.number y.frame f.activation).above_frame in
+          let k = (funclet_base f.number y.slots f.activation).above_frame in
           let x = f.layout.temporaries in
+          let j = f.layout.within in
           elim i [
-            | inl w ↦ (let g = w.0 in let z = w.1 in
-                elim o [ inl e ↦ absurd (omega arith) | inr e ↦ absurd (omega arith) ])
+            | inl w ↦ (let g = w.0 in let z = w.1 in elim o [
+              | inl e ↦ absurd (omega arith)
+              | inr e ↦ (let from = e.0 in absurd (omega arith))
+            ])
             | inr w ↦ (let g = w.0 in elim o [
               | inl e ↦ absurd (omega arith)
-              | inr
-                  e ↦ absurd (omega arith)
+              | inr e ↦ (let to = e.1 in absurd (omega arith))
             ])
           ]
 
-      own_beside : Beside y.frame
+      own_beside : Saved
       own_beside = elim (kind setting s c b counted) [
         | inl f ↦ function_beside f
         | inr (inl f) ↦ leaf_beside f
-        | inr (inr f) ↦ funclet_beside f y.frame (inr refl)
+        | inr (inr f) ↦ λ offset from to. funclet_beside f offset (inr (from, to))
       ]
 
       -- the frame's words are above its slots
@@ -225,10 +234,11 @@ module _ (setting : Setting) where
           let h = top in
           frame_stays setting c.frame.body code b.body.slots.body s u b.body.back b.body.others
           r.kept (λ a v from to w.
-          (let same : sp + y.frame ≡ a = omega arith in
+          (let same : sp + (a - sp) ≡ a = omega arith in
           kept_word a v (omega arith) (omega arith)
           (subst (λ n. (x : ℕ) → n ≤ x → x < n + 8 → InTemporaries y (counts_of code) sp x
-          ⊎ InLocals y (counts_of code) here.base x → ⊥) same own_beside) w))
+          ⊎ InLocals y (counts_of code) here.base x → ⊥) same
+          (own_beside (a - sp) (omega arith) (omega arith))) w))
           b.body.frame
 
       abbrev Held : ℕ → BodyName → Type 0
@@ -238,8 +248,8 @@ module _ (setting : Setting) where
       activation : Held (slots_end y (p.leaf c.frame.body)) c.frame.body
       activation = elim (kind setting s c b counted) [
         | inl f ↦ subst (λ l. Held (slots_end y l) c.frame.body) (sym f.framed)
-            (subst (Held y.frame) (sym f.name)
-            (own_activation f.number y.frame b.body.acts refl f.activation (let n = r.leaves.count
+            (subst (Held y.slots) (sym f.name)
+            (own_activation f.number y.slots b.body.acts refl f.activation (let n = r.leaves.count
             in let z = f.layout.locals in omega arith)))
         | inr (inl f) ↦ subst (λ l. Held (slots_end y l) c.frame.body) (sym f.leaf)
             (subst (Held y.temporaries) (sym f.name)
@@ -247,14 +257,15 @@ module _ (setting : Setting) where
             (let n = r.leaves.count in let x = f.layout.temporaries in let z = f.layout.locals in
             omega arith)))
         | inr (inr f) ↦ subst (λ l. Held (slots_end y l) c.frame.body) (sym f.framed)
-            (subst (Held y.frame) (sym f.name)
+            (subst (Held y.slots) (sym f.name)
             (record {
               slot = f.activation.slot;
               base = f.activation.base;
               some = f.activation.some;
               room = f.activation.room;
-              kept = (let k = funclet_base f.number y.frame f.activation in let z =
+              kept = (let k = funclet_base f.number y.slots f.activation in let z =
                   k.below_temporaries in let l = low in let h = top in let w = f.activation.room in
+                  let e = f.layout.within in
                   kept_word (sp + f.activation.slot) f.activation.base (omega arith) (omega arith)
                   (funclet_beside f f.activation.slot (inl z)) f.activation.kept);
               activation = still_is b.body.acts c.frame.activation values c.frame.activation
@@ -319,11 +330,11 @@ module _ (setting : Setting) where
 
         new_function : AsFunction setting s c b counted → New c.frame.body
         new_function f =
-            let l = low in let x = f.layout.temporaries in
+            let l = low in let x = f.layout.temporaries in let w = f.layout.within in
             let z = f.layout.locals in let base = function_base f.layout.none in
             subst New (sym f.name)
             (subst (λ acts. IsLinkedStack t fs program p u.memory above b.body.is c.below acts)
-            (function_below f.number b.body.acts y.frame f.activation)
+            (function_below f.number b.body.acts y.slots f.activation)
             (kept_by_other_memories t fs program p s.memory u.memory above b.body.is c.below
             (activations_below (FunctionBody f.number) b.body.acts)
             (stack_kept program.globals s u y (counts_of code) sp c.frame.activation b.body.acts
@@ -364,7 +375,8 @@ module _ (setting : Setting) where
         new_funclet f =
             let l = low in
             let x = f.layout.temporaries in
-            let kept = funclet_base f.number y.frame f.activation in
+            let w = f.layout.within in
+            let kept = funclet_base f.number y.slots f.activation in
             let base : f.activation.base ≡ here.base =
             same_word f.activation.base here.base (sym f.activation.kept ∙ kept.word_is) in
             let function_layout : IsFunctionLayout

@@ -4,7 +4,7 @@ use Rattle.std.proofs.Common.{◌≡◌, ℕ, suc, ◌+◌, ◌^◌, ◌<◌, �
 use Rattle.std.specs.Prelude.{slice_get}
 use Rattle.std.proofs.lemmas.Bool.{and_parts, eqb-true, eq-eqb, false≢true}
 use Rattle.std.proofs.lemmas.List.{append-nil}
-use Rattle.match_bodies.specs.Words.{Memory, Rax, Rsp, Instr, State, register, get, AllSmall, Functions, Funclet, Slot, Local, Temporary, LinearBody, BodyName, body_of, Layout, size, sizes, is_encodable, fetch, fetch_local, local_at, Steps, HasCode, StackItem, KeepsShadow, AllKeep, context_below, FindsReturn, FindsOwed, Owed, nothing_owed, owed_of, owed_by, Setting, return_code}
+use Rattle.match_bodies.specs.Words.{Memory, Rax, Rsp, Instr, State, register, get, AllSmall, Functions, Funclet, Slot, Local, Temporary, LinearBody, BodyName, body_of, Layout, size, sizes, is_encodable, fetch, fetch_local, local_at, Steps, HasCode, StackItem, KeepsShadow, AllKeep, context_below, FindsReturn, FindsOwed, Owed, nothing_owed, owed_of, owed_by, Setting, return_code, Place, InRegister, InFrame, place_of, fetch_placed}
 use Rattle.eh_tables.specs.declared.code.UnwindOperation.{UnwindOperation}
 use Rattle.x64_instr.specs.Registers as numbers
 use Rattle.x64_instr.specs.declared.instruction.Instr.TheVariants as instrs
@@ -31,7 +31,7 @@ use Rattle.match_bodies.specs.Setting.{HasProgram}
 use Rattle.match_bodies.proofs.Lemmas.{code_split, Fine, keep_first}
 use Rattle.match_bodies.proofs.StackTop.{leaf_layout}
 use Rattle.match_bodies.proofs.FrameCode.{plan_allowed, loads_before, loads_through, through_pop}
-use Rattle.match_bodies.proofs.BodyFrames.{codes_above, framed_some}
+use Rattle.match_bodies.proofs.BodyFrames.{codes_above, framed_some, slots_within}
 use Rattle.match_bodies.proofs.SilentTurns.{program_kept}
 use Rattle.match_bodies.proofs.RoutineWalks.{code_next, StepsTo, steps_split, keeps_split, Beneath, AllPlain, Finds, Ran, ran}
 use Rattle.match_bodies.proofs.ShadowTurns.{return_keeps_shadow, returned_others}
@@ -47,10 +47,15 @@ fetch_local_plain : (d whole e : ℕ) (o : Option ℕ) (k : ℕ) → Fine (fetch
 fetch_local_plain d whole e None k f = ((f.0, inl refl), tt)
 fetch_local_plain d whole e (Some b) k f = ((f.0, inl refl), ((f.3.0, inl refl), tt))
 
+fetch_placed_plain : (d whole e : ℕ) (y : Layout) (i : ℕ) (p : Place)
+    → Fine (fetch_placed y Rax i p) → AllPlain d whole e (fetch_placed y Rax i p)
+fetch_placed_plain d whole e y i (InRegister r) f = ((f.0, inl refl), tt)
+fetch_placed_plain d whole e y i InFrame f = fetch_local_plain d whole e y.base (local_at y i) f
+
 pub fetch_plain : (d whole e : ℕ) (y : Layout) (x : Slot) → Fine (fetch y Rax x)
     → AllPlain d whole e (fetch y Rax x)
 fetch_plain d whole e y (Temporary i) f = ((f.0, inl refl), tt)
-fetch_plain d whole e y (Local i) f = fetch_local_plain d whole e y.base (local_at y i) f
+fetch_plain d whole e y (Local i) f = fetch_placed_plain d whole e y i (place_of y i) f
 
 -- so many turns lead out of a body: each keeps the shadow, and then its caller has these registers
 -- again
@@ -69,7 +74,7 @@ module _ (setting : Setting) where
       (beneath : Beneath t s (owed_of p name) top (top + 8) back others list)
       (below : register s.cpu Rsp + (p.layout name).frame ≡ top)
       (has : HasProgram setting s.memory) (small : (p.layout name).frame < 2 ^ 31)
-      (plain : AllPlain (p.layout name).frame (p.layout name).frame 8
+      (plain : AllPlain (p.layout name).slots (p.layout name).frame 8
       (fetch (p.layout name) Rax from))
       (run : StepsTo (length (return_code (p.layout name) from)) s w) where
     abbrev y : Layout
@@ -175,10 +180,11 @@ module _ (setting : Setting) where
         (callers.returns m label from done left item h at split)
 
     first : Ran t fs program p q owed top (top + 8) back others list s u fetching
-    first = ran t fs program p q owed top (top + 8) back others list fetching s u y.frame
+    first = ran t fs program p q owed top (top + 8) back others list fetching s u y.slots
         y.frame 8 halves.1
         plain (subst (λ a. HasCode s.memory a fetching) (sym here) (codes s.memory has).0) has
-        beneath below refl (omega arith) (codes_above setting name b is (register s.cpu Rsp)) finds
+        beneath below refl (slots_within setting name b is)
+        (codes_above setting name b is (register s.cpu Rsp)) finds
 
     there_is : p.address name label + sizes fetching ≡ u.cpu.rip
     there_is = omega (arith, first.rip)

@@ -122,7 +122,8 @@ module _ (t : Functions) (fs : List Funclet) (program : LinearProgram) (p : Imag
           (subst (HasCode m (p.funclet k)) (made_small y.frame (p.funclet k) q.check_stack
           (p.leaf name) plan.framed
           (let a = plan.layout.passed in let b = plan.layout.kept in
-          let c = plan.layout.temporaries in omega arith) (omega arith)) frame.0) e quiet
+          let c = plan.layout.temporaries in let w = plan.layout.within in omega arith)
+          (omega arith)) frame.0) e quiet
 
       elsewhere : (s u : State) → Runs s u → HasProgram t fs program p q s.memory → (k : ℕ)
           → k < length program.funclets → s.cpu.rip ≢ p.funclet k

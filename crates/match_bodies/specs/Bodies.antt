@@ -24,11 +24,11 @@ use Rattle.match_bodies.specs.ProgramImages.{IsMachineMemory, frame_of}
 -- the temporaries come after the locals, up to the end of the home space above its return address
 abbrev pub slots_end : Layout → Bool → ℕ
 slots_end y true = y.temporaries
-slots_end y false = y.frame
+slots_end y false = y.slots
 
 abbrev pub last_temporary : Layout → BodyName → Bool → ℕ
 last_temporary y name true = home_end
-last_temporary y name false = temporaries_end y name y.frame
+last_temporary y name false = temporaries_end y name y.slots
 
 -- a leaf function has its return address at RSP, and its caller's registers as they are
 pub record IsLeafFrame (s : State) (f : StackFrame) : Type 0 where

@@ -8,31 +8,34 @@ use Rattle.match_stack.specs.ImagePlan.{ImagePlan}
 use Rattle.template_code.specs.declared.layout.TheConstants.{LARGEST_FRAME}
 
 -- a function's frame, from RSP up: home space and further arguments of its calls, temporaries,
--- locals
+-- locals, and what it saves
 pub record IsFunctionLayout (y : Layout) (b : LinearBody) : Type 0 where
   pub none : y.base ≡ None
   pub passed : 32 + 8 * b.passed ≤ y.temporaries
   pub temporaries : y.temporaries + 8 * b.temporaries ≤ y.locals
-  pub locals : y.locals + 8 * b.locals ≤ y.frame
+  pub locals : y.locals + 8 * b.locals ≤ y.slots
+  pub within : y.slots ≤ y.frame
   pub small : y.frame + 8 ≤ LARGEST_FRAME
 
 -- a leaf function has no frame: its slots are in the home space above its return address
 pub record IsLeafLayout (y : Layout) (b : LinearBody) : Type 0 where
   pub none : y.base ≡ None
+  pub slots : y.slots ≡ 0
   pub frame : y.frame ≡ 0
   pub locals : y.locals ≡ 8
   pub temporaries : y.temporaries ≡ 8 + 8 * b.locals
   pub few : b.locals + b.temporaries ≤ 4
 
 -- a funclet's frame: home space and further arguments, the base, the address of EXCEPTION_POINTERS,
--- temporaries; its locals are those of its function, above the base
+-- temporaries, and what it saves; its locals are those of its function, above the base
 pub record IsFuncletLayout (y function : Layout) (b : LinearBody) : Type 0 where
   pub slot : ℕ
   pub base : y.base ≡ Some slot
   pub passed : 32 + 8 * b.passed ≤ slot
   pub pointers : y.pointers ≡ slot + 8
   pub kept : slot + 16 ≤ y.temporaries
-  pub temporaries : y.temporaries + 8 * b.temporaries ≤ y.frame
+  pub temporaries : y.temporaries + 8 * b.temporaries ≤ y.slots
+  pub within : y.slots ≤ y.frame
   pub locals : y.locals ≡ function.locals
   pub small : y.frame ≤ PAGE
 

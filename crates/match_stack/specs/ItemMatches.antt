@@ -115,7 +115,7 @@ HoldsPlaces m now register i at end (v ∷ vs) =
     IsInPlace m now at v (register i) × HoldsPlaces m now register (i + 1) (at + 8) end vs
 
 -- where the temporaries of a body end at the latest: a function's before its locals, a funclet's
--- before its return address
+-- where its slots end
 abbrev pub temporaries_end : Layout → BodyName → ℕ → ℕ
 temporaries_end y (FunctionBody f) size = y.locals
 temporaries_end y (FuncletBody k) size = size
@@ -231,7 +231,7 @@ module _ (t : Functions) (fs : List Funclet) (program : LinearProgram) (p : Imag
       (acts : List Activation) : Type 0 where
     pub framed : p.leaf b.body ≡ false
     pub entry : f.entry ≡ p.entry b.body
-    pub slots : f.slots ≡ (p.layout b.body).frame
+    pub slots : f.slots ≡ (p.layout b.body).slots
     pub small : AllSmall f.others
     pub waits : BodyWaits m c f.slots (temporaries_end (p.layout b.body) b.body f.slots) b acts
     pub pointers : HasPointers m (p.layout b.body) (rsp c) f.size below

@@ -1,7 +1,7 @@
 -- The same body in another memory, whose stack is the same from RSP up.
 use Rattle.std.proofs.Common.{◌≡◌, ℕ, ◌+◌, ◌≤◌, false, sym, ap, ◌∙◌, arith, refl}
 use Rattle.match_turns.specs.Words.{STACK_START, STACK_END, Memory, Rsp, context_of, get, State, register, Configuration, context_below, activations_below, BodyWaits, temporaries_end, KeepsStack, slots_end, last_temporary, Setting, IsMachineMemory, RepresentsAt}
-use Rattle.match_turns.proofs.Lemmas.{end_within, reads_other, kept_by_other_memories, frame_stays, IsCounted, sp_low, frame_top, some_is}
+use Rattle.match_turns.proofs.Lemmas.{end_within, reads_other, kept_by_other_memories, frame_stays, slots_within, IsCounted, sp_low, frame_top, some_is}
 use Rattle.match_stack.proofs.ListMemories.{ReadsSame, body_kept, pointers_kept}
 
 -- the stack from further up
@@ -48,8 +48,11 @@ module _ (setting : Setting) (s : State) (c : Configuration)
         no_more_code = keeps.no_more_code;
       }) low (omega arith)
 
-  size_is : slots_end (p.layout c.frame.body) (p.leaf c.frame.body) ≡ frame
-  size_is = ap (slots_end (p.layout c.frame.body)) framed
+  slots_low : slots_end (p.layout c.frame.body) (p.leaf c.frame.body) ≤ frame
+  slots_low =
+      let e = ap (slots_end (p.layout c.frame.body)) framed in
+      let within = slots_within setting c.frame.body b.body.slots.code b.body.slots.body in
+      omega arith
 
   end_is : last_temporary (p.layout c.frame.body) c.frame.body (p.leaf c.frame.body)
       ≡ temporaries_end (p.layout c.frame.body) c.frame.body
@@ -64,7 +67,7 @@ module _ (setting : Setting) (s : State) (c : Configuration)
       b.body.acts
   slots =
       let h = top in
-      let e = size_is in
+      let e = slots_low in
       let f = end_is in
       let w = end_within s.memory (get (context_of s.cpu)) (p.register c.frame.body)
       (p.layout c.frame.body) sp

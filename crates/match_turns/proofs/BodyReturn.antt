@@ -1,7 +1,8 @@
 -- A body returns: RAX has the number of its slot, and RIP and RSP are those of its return address.
 use Rattle.std.proofs.Common.{◌≡◌, ℕ, ◌+◌, ◌^◌, ◌<◌, ◌≤◌, ◌==◌, Bool, true, false, Option, Some, None, ◌∷◌, length, refl, sym, subst, ◌∙◌, arith, length-append}
 use Rattle.std.specs.Prelude.{slice_get}
-use Rattle.match_turns.specs.Words.{kept_of, context_of, Rax, Rsp, State, register, Slot, Local, Temporary, IsSlot, Configuration, read, Layout, return_code, fetch, local_at, fetch_local, MachineView, machine, HasBack, moved, Returned, HaveRoom, IsWellFormed, AllKeep, counts_of, owed_of, Setting, RepresentsAt}
+use Rattle.template_code.specs.Places.{place_of}
+use Rattle.match_turns.specs.Words.{kept_of, context_of, Rax, Rsp, State, register, Slot, Local, Temporary, IsSlot, Configuration, read, Layout, return_code, fetch, local_at, fetch_local, MachineView, machine, HasBack, moved, Returned, HaveRoom, IsWellFormed, AllKeep, counts_of, owed_of, Setting, RepresentsAt, Place, InRegister, InFrame, fetch_placed}
 use Rattle.frame_rules.specs.Plan.{epilogue}
 use Rattle.template_code.specs.Frames.{plan_of_layout}
 use Rattle.template_code.proofs.Frames.{ending_by}
@@ -17,9 +18,13 @@ fetched_by : (o : Option ℕ) (d : ℕ) → length (fetch_local o Rax d) ≤ 2
 fetched_by None d = omega arith
 fetched_by (Some b) d = omega arith
 
+placed_soon : (y : Layout) (i : ℕ) (p : Place) → length (fetch_placed y Rax i p) ≤ 2
+placed_soon y i (InRegister r) = omega arith
+placed_soon y i InFrame = fetched_by y.base (local_at y i)
+
 fetched_soon : (y : Layout) (x : Slot) → length (fetch y Rax x) ≤ 2
 fetched_soon y (Temporary i) = omega arith
-fetched_soon y (Local i) = fetched_by y.base (local_at y i)
+fetched_soon y (Local i) = placed_soon y i (place_of y i)
 
 ends_soon : (n : ℕ) (none : Bool) → (1 ≤ length (ending_by n 0 none))
     × (length (ending_by n 0 none) ≤ 2)
@@ -127,7 +132,7 @@ module _ (setting : Setting) (roomy : HaveRoom setting.program) where
         returns_leave setting c.frame.body b.body.slots.code b.body.slots.body c.frame.next from at s
         after (top_of setting s c b counted) b.body.back b.body.others b.body.is b.rip
         (begins_beneath setting s c b counted) refl b.memory.code (omega arith)
-        (fetch_plain layout.frame layout.frame 8 layout from
+        (fetch_plain layout.slots layout.frame 8 layout from
         (fetch_fine f.layout f.counts f.sp f.base true from
         (room_here setting s c b counted) is_there)) (reaches_steps n s after reaches) b.body.small
         (omega arith)

@@ -80,12 +80,12 @@ module _ (setting : Setting) (roomy : HaveRoom setting.program) where
           omega (arith, sizes_append (arguments_code y first) (call_it ∷ []));
     }
 
-    plain : AllPlain y.frame y.frame 8 before
+    plain : AllPlain y.slots y.frame 8 before
     plain =
         let room = (room_here setting s c b counted).temporaries in
         let few = has_slots setting roomy s c b counted
         (instructions.CallBuiltIn f first) at in
-        ((refl, inl refl), arguments_plain y.frame y.frame 8 y first (omega arith))
+        ((refl, inl refl), arguments_plain y.slots y.frame 8 y first (omega arith))
 
     halves : (u : State) × StepsTo 6 s u × StepsTo 1 u w
     halves = steps_split 6 1 s w (reaches_steps 7 s w run)

@@ -58,7 +58,8 @@ module _ {setting : Setting} (at_call : AtCall setting) where
     pub temporaries : room ≤ layout.temporaries
     pub locals : sp + room ≤ at_base + layout.locals
     pub base : (k : ℕ) → layout.base ≡ Some k → (room ≤ k) × (k + 16 ≤ LARGEST_FRAME)
-    pub size : layout.temporaries ≤ layout.frame
+    pub slots : layout.temporaries ≤ layout.slots
+    pub within : layout.slots ≤ layout.frame
     pub small : layout.frame + 8 ≤ LARGEST_FRAME
 
   is_base : (o : Option ℕ) → layout.base ≡ o → o ≡ None → at_base ≡ sp
@@ -80,7 +81,8 @@ module _ {setting : Setting} (at_call : AtCall setting) where
         temporaries = a;
         locals = omega arith;
         base = λ k i. absurd (no k (sym g.layout.none ∙ i));
-        size = omega arith;
+        slots = omega arith;
+        within = g.layout.within;
         small = z;
       }
     where
@@ -108,7 +110,8 @@ module _ {setting : Setting} (at_call : AtCall setting) where
         locals = omega arith;
         base = λ i e. (let n = same_slot g.layout.slot i (sym g.layout.base ∙ e) in
             (omega arith, omega arith));
-        size = omega arith;
+        slots = omega arith;
+        within = g.layout.within;
         small = omega arith;
       }
 
@@ -127,11 +130,11 @@ module _ {setting : Setting} (at_call : AtCall setting) where
   top = frame_top setting s c b counted
 
   pub room_small : room + 8 ≤ LARGEST_FRAME
-  room_small = let g = bottom.temporaries in let h = bottom.size in let z = bottom.small in
+  room_small = let g = bottom.temporaries in let h = bottom.slots in let w = bottom.within in let z = bottom.small in
       omega arith
 
   pub room_top : sp + room + 8 ≤ STACK_END
-  room_top = let g = bottom.temporaries in let h = bottom.size in let z = top in omega arith
+  room_top = let g = bottom.temporaries in let h = bottom.slots in let w = bottom.within in let z = top in omega arith
 
   outgoing : HasOutgoing here s.memory room
   outgoing = record {

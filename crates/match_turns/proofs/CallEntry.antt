@@ -149,21 +149,22 @@ module _ {setting : Setting} (at_call : AtCall setting) where
   near_next = subst (λ r. IsNear (return_at y first (r + sizes passing)) (q.function f)) b.rip
       (entering.near at_call)
 
-  plain : AllPlain y.frame y.frame 8 before
+  plain : AllPlain y.slots y.frame 8 before
   plain =
       let h = few_passed in
       let room = (room_here setting s c b counted).temporaries in
       let z = calling.bottom at_call in
       let z0 = z.temporaries in
-      let z1 = z.size in
-      let z2 = z.small in
+      let z1 = z.slots in
+      let z2 = z.within in
+      let z3 = z.small in
       let slots = calling.has_room at_call in
       let s0 = slots.0 in
       let s1 = slots.1 in
-      plain_both y.frame y.frame 8 passing (arguments_code y first)
-      (passing_plain y.frame y.frame 8 y first 4 (count - 4) (omega arith) (omega arith)
+      plain_both y.slots y.frame 8 passing (arguments_code y first)
+      (passing_plain y.slots y.frame 8 y first 4 (count - 4) (omega arith) (omega arith)
       (omega arith))
-      (arguments_plain y.frame y.frame 8 y first (omega arith))
+      (arguments_plain y.slots y.frame 8 y first (omega arith))
 
   abbrev callee_found : (m : Memory) → FindsReturn t m (q.function f)
   callee_found m = (image.callers (FunctionBody f) o there).entries m (λ e. some)
@@ -193,7 +194,8 @@ module _ {setting : Setting} (at_call : AtCall setting) where
   callee_there =
       let z = calling.bottom at_call in
       let z0 = z.temporaries in
-      let z1 = z.size in
+      let z1 = z.slots in
+      let z2 = z.within in
       callee_entered setting c.frame.body b.body.slots.code b.body.slots.body c.frame.next
       (instructions.Call f first count) at (λ h. h) before rest next (q.function f) parts next_is
       near_next c.frame.next resumed callee_found s at_callee (top_of setting s c b counted)
@@ -206,22 +208,25 @@ module _ {setting : Setting} (at_call : AtCall setting) where
       n) parameters
 
   arguments_stored : (leaf : Bool) → IsLayoutIf program p layout o leaf
-      → AllPlain layout.frame layout.frame 40 (parameters_code layout 0 count) ×
+      → AllPlain layout.slots layout.frame 40 (parameters_code layout 0 count) ×
       (layout.frame + 8 ≤ LARGEST_FRAME)
   arguments_stored true l =
       let h = fits in
       let e = l.frame in
       let a = l.locals in
       let n = l.few in (
-        parameters_plain layout.frame layout.frame 40 layout 0 count (omega arith) (omega arith)
+        parameters_plain layout.slots layout.frame 40 layout 0 count
+            (image.in_frames (FunctionBody f)) (omega arith) (omega arith)
             (λ j lt. inr (omega arith, omega arith)),
         omega arith,
       )
   arguments_stored false l =
       let h = fits in
       let a = l.locals in
+      let w = l.within in
       let z = l.small in (
-        parameters_plain layout.frame layout.frame 40 layout 0 count (omega arith) (omega arith)
+        parameters_plain layout.slots layout.frame 40 layout 0 count
+            (image.in_frames (FunctionBody f)) (omega arith) (omega arith)
             (λ j lt. inl (omega arith)),
         l.small,
       )
@@ -240,7 +245,7 @@ module _ {setting : Setting} (at_call : AtCall setting) where
       (sym (append-nil (sites.arguments_code program p (FunctionBody f)))) inside.exact
       (enters_steps inside.turns at_callee after inside.comes) k.rip k.stack k.beneath_it
       (small_registers s b.well_formed) k.program_there stored.1 (omega arith) (omega arith)
-      (subst (λ (xs : List Instr). AllPlain layout.frame layout.frame 40 xs) (sym arguments_are)
+      (subst (λ (xs : List Instr). AllPlain layout.slots layout.frame 40 xs) (sym arguments_are)
       stored.0)
 
   entry_keeps : AllKeep t fs inside.turns at_callee
@@ -357,7 +362,8 @@ module _ {setting : Setting} (at_call : AtCall setting) where
       × (inside.sp + slots_end layout leaf ≤ caller + 32)
   slots_fit true l = let e = l.frame in let a = l.locals in let k = l.temporaries in let n = l.few
       in let z = inside.place in (omega arith, omega arith)
-  slots_fit false l = let a = l.locals in let z = inside.place in (omega arith, omega arith)
+  slots_fit false l = let a = l.locals in let w = l.within in let z = inside.place in
+      (omega arith, omega arith)
 
   at_home : (leaf : Bool) → HasPlan leaf → leaf ≡ true → inside.sp + home_end ≤ STACK_END
   at_home true l e = let k = l.frame in let z = inside.place in let w = top in omega arith

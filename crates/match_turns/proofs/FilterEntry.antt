@@ -110,9 +110,12 @@ module _ (setting : Setting) where
     x_small : x < 2 ^ 64
     x_small = let h = e.top in let z = e.sp_is in let r = points in omega arith
 
-    fits : y.pointers + 8 ≤ y.frame
-    fits = let g = l.plan.layout.pointers in let z = l.plan.layout.kept in
+    fits_slots : y.pointers + 8 ≤ y.slots
+    fits_slots = let g = l.plan.layout.pointers in let z = l.plan.layout.kept in
         let r = l.plan.layout.temporaries in omega arith
+
+    fits : y.pointers + 8 ≤ y.frame
+    fits = let g = fits_slots in let w = l.plan.layout.within in omega arith
 
     cell : HasCell e.after.memory (e.sp + y.pointers)
     cell =
@@ -212,8 +215,8 @@ module _ (setting : Setting) where
         funclet_ran setting s k handler.activation argument items acts l w c.store.memory memory
         some low_enough high_enough (register s.cpu Rdx) a.reaches.base leads (e.turns + 1) u
         (base ++ last) [] parts count (enters_steps (e.turns + 1) s u run)
-        (plain_both y.frame y.frame 8 base last plain (
-          kept_plain y.frame y.frame 8 Rcx y.pointers (let g = fits in omega arith) (inl fits),
+        (plain_both y.slots y.frame 8 base last plain (
+          kept_plain y.slots y.frame 8 Rcx y.pointers (let g = fits in omega arith) (inl fits_slots),
           tt,
         ))
 

@@ -9,7 +9,7 @@ use Rattle.x64_templates.specs.Runs.{Reaches}
 use Rattle.x64_instr.specs.declared.instruction.Instr.TheVariants as instrs
 use Rattle.linear_code.specs.declared.instruction.Instruction.TheVariants as instructions
 use Rattle.linear_code.specs.declared.program.FuncletKind.TheVariants as funclets
-use Rattle.match_turns.proofs.Lemmas.{with_two, FinallyCalled, finally_begins, pushed_back, reaches_above, kept_by_stores_below, first_in_code, frame_with, reaches_comes, others_of, reaches_steps, calls_keep, OnTop, body_on_top, may_read_written, word_of, reaches_keeps, stays_well_formed, IsCounted, sp_low, frame_top, v, same_state, template_here, sp_is}
+use Rattle.match_turns.proofs.Lemmas.{with_two, FinallyCalled, finally_begins, pushed_back, reaches_above, kept_by_stores_below, first_in_code, frame_with, slots_within, reaches_comes, others_of, reaches_steps, calls_keep, OnTop, body_on_top, may_read_written, word_of, reaches_keeps, stays_well_formed, IsCounted, sp_low, frame_top, v, same_state, template_here, sp_is}
 use Rattle.match_stack.specs.ItemMatches as linked
 use Rattle.match_stack.proofs.SearchHandlers.{body_reaches}
 use Rattle.match_turns.proofs.ReturnAddressPlace.{top_of, begins_beneath}
@@ -276,7 +276,7 @@ module _ (setting : Setting) (roomy : HaveRoom setting.program)
 
     -- ---- what the block finds
 
-    held : HasActivation s.memory (get (context_of s.cpu)) (p.register name) y sp y.frame
+    held : HasActivation s.memory (get (context_of s.cpu)) (p.register name) y sp y.slots
         c.frame.activation b.body.acts name
     held = subst (λ z. HasActivation s.memory (get (context_of s.cpu)) (p.register name) y sp
         (slots_end y z) c.frame.activation b.body.acts name) framed b.body.slots.activation
@@ -285,9 +285,10 @@ module _ (setting : Setting) (roomy : HaveRoom setting.program)
         c.frame.activation b.body.acts
     activation =
         let h = top in
+        let within = slots_within setting name code b.body.slots.body in
         reaches_above t fs program p s.memory bytes sp name sp c.frame.activation b.body.acts
         keeps_above (omega arith)
-        (body_reaches t fs program p s.memory name sp y.frame c.frame.activation b.body.acts
+        (body_reaches t fs program p s.memory name sp y.slots c.frame.activation b.body.acts
         (get (context_of s.cpu)) (omega arith) held)
 
     is_funclet : IsFunclet t fs program p name k

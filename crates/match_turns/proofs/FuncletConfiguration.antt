@@ -150,6 +150,7 @@ module _ (setting : Setting) where
       (sym l.some ∙ plan.layout.base) in
       let a = plan.layout.kept in
       let b = plan.layout.temporaries in
+      let d = plan.layout.within in
       let c = plan.layout.small in
       subst (λ o. LeadsBy m o frame base) (sym l.some)
       (record { near = omega arith; room = l.room; kept = l.kept })

@@ -128,6 +128,7 @@ module _ (setting : Setting) where
         let x = l.plan.layout.small in
         let z = l.plan.layout.kept in
         let w = l.plan.layout.temporaries in
+        let i = l.plan.layout.within in
         record {
           at = sp_is;
           high = omega arith;

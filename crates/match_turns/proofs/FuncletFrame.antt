@@ -248,9 +248,10 @@ module _ (setting : Setting) where
         let r = h.rip in record { low = omega arith; high = omega arith }
 
     pub kept_base : HasActivation u.memory (get (context_of u.cpu)) (p.register (FuncletBody k)) y
-        sp y.frame activation acts (FuncletBody k)
+        sp y.slots activation acts (FuncletBody k)
     kept_base =
         let e = high in
+        let i = l.plan.layout.within in
         let z = l.plan.layout.kept in
         let w = l.plan.layout.temporaries in
         record {
@@ -264,7 +265,7 @@ module _ (setting : Setting) where
           activation = h.distance;
         }
 
-    pub no_temporaries : HoldsWords u.memory (sp + y.temporaries) (sp + y.frame) []
+    pub no_temporaries : HoldsWords u.memory (sp + y.temporaries) (sp + y.slots) []
     no_temporaries = let w = l.plan.layout.temporaries in omega arith
 
     abbrev pub slots : BodyWaits t fs program p u.memory (context_of u.cpu)

@@ -35,13 +35,14 @@ module _ (setting : Setting) where
         ∙ ap (λ o. keep_base (parent_base p l.funclet.parent) (elim o [ Some b ↦ b | None ↦ 0 ])
         ++ keep_argument (p.layout (FuncletBody k)) l.funclet.kind) l.plan.layout.base
 
-    pub base_is_plain : AllPlain (p.layout (FuncletBody k)).frame
+    pub base_is_plain : AllPlain (p.layout (FuncletBody k)).slots
         (p.layout (FuncletBody k)).frame 8 base_code
     base_is_plain =
         let x = l.plan.layout.small in
         let z = l.plan.layout.kept in
         let w = l.plan.layout.temporaries in
-        base_plain (p.layout (FuncletBody k)).frame (p.layout (FuncletBody k)).frame 8
+        let e = l.plan.layout.within in
+        base_plain (p.layout (FuncletBody k)).slots (p.layout (FuncletBody k)).frame 8
         (parent_base p l.funclet.parent)
         l.plan.layout.slot (near_parent s.memory (parent_base p l.funclet.parent) frame base
         leads) (omega arith) (omega arith)
@@ -49,7 +50,7 @@ module _ (setting : Setting) where
     pub funclet_ran : (n : ℕ) (w : State) (stored left : List Instr)
         → arguments_code program p (FuncletBody k) ≡ stored ++ left → n ≡ 1 + length stored
         → StepsTo n s w
-        → AllPlain (p.layout (FuncletBody k)).frame (p.layout (FuncletBody k)).frame 8 stored
+        → AllPlain (p.layout (FuncletBody k)).slots (p.layout (FuncletBody k)).frame 8 stored
         → EntryRan t fs program p q image (FuncletBody k) l.funclet.body (ap funclet_body l.there)
         some (register s.cpu Rsp) (register s.cpu Rsp + 8) a.back (others_of s.cpu.registers) a.is
         n s w stored

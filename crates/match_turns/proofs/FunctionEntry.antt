@@ -90,7 +90,8 @@ module _ {setting : Setting} (at_call : AtCall setting) where
       let made = no_frame (entering.called at_call) target
       (entering.flags at_call) (caller - 8) (entering.arguments at_call) (calling.called_sp at_call)
       (calling.in_registers at_call) in
-      entering.entered at_call (caller - 8) target 0 made (with_home layout) (record {
+      entering.entered at_call (caller - 8) target 0 made (with_home layout)
+      (image.in_frames (FunctionBody f)) (record {
         none = l.none;
         low = omega arith;
         temporaries = omega arith;
@@ -99,7 +100,12 @@ module _ {setting : Setting} (at_call : AtCall setting) where
         locals_small = omega arith;
         apart = inl (omega arith);
       })
-      (record { base = refl; temporaries = omega arith; locals = omega arith }) refl (omega arith)
+      (record {
+        base = refl;
+        temporaries = omega arith;
+        locals = omega arith;
+        within = omega arith;
+      }) refl (omega arith)
       (λ i ge lt. absurd (omega arith)) (omega arith)
       (subst (λ code. HasCode s.memory target code) (sym same)
       (subst (λ a. HasCode s.memory a (parameters_code layout 0 count)) none
@@ -140,8 +146,9 @@ module _ {setting : Setting} (at_call : AtCall setting) where
         let z = top in
         let a = l.temporaries in
         let m = l.locals in
+        let j = l.within in
         let k = l.small in
-        entering.entered at_call sp (target + sizes making) n made layout (record {
+        entering.entered at_call sp (target + sizes making) n made layout (image.in_frames (FunctionBody f)) (record {
           none = l.none;
           low = omega arith;
           temporaries = omega arith;
@@ -150,7 +157,12 @@ module _ {setting : Setting} (at_call : AtCall setting) where
           locals_small = omega arith;
           apart = inr (omega arith);
         })
-        (record { base = refl; temporaries = omega arith; locals = omega arith }) refl k
+        (record {
+          base = refl;
+          temporaries = omega arith;
+          locals = omega arith;
+          within = l.within;
+        }) refl k
         (λ i ge lt. (let w : sp + frame + 8 ≡ caller = omega arith in w)) (omega arith)
         (subst (λ i. HasCode s.memory (target + sizes i) (parameters_code layout 0 count)) e
         (entry false leaf).storing)
@@ -185,7 +197,8 @@ module _ {setting : Setting} (at_call : AtCall setting) where
         let some = l.passed in
         let is : making_frame p q f false ≡ enter_code frame =
         made_small frame target q.check_stack false refl
-        (let a = l.temporaries in let b = l.locals in omega arith) (leb-true frame 4096 e) in
+        (let a = l.temporaries in let b = l.locals in let c = l.within in omega arith)
+        (leb-true frame 4096 e) in
         framed_entered (enter_code frame) 1 is (ap (λ x. if x then 1 else 8) e)
         (small_frame (entering.called at_call) target (entering.flags at_call) (caller - 8)
         (entering.arguments at_call) (calling.called_sp at_call)

@@ -31,7 +31,7 @@ pub use Rattle.match_stack.proofs.ListKeeping.{reads_other, kept_by_other_memori
 pub use Rattle.match_bodies.proofs.ActivationPlaces.{locals_count, got_before, got_last, activations_are_at}
 pub use Rattle.match_bodies.proofs.ActivationStores.{same_activations, activated}
 pub use Rattle.match_bodies.proofs.BodyCallers.{gives_caller, begin_finds}
-pub use Rattle.match_bodies.proofs.BodyFrames.{body_owed, frame_from, frame_owed, frame_stays, frame_with, small_others}
+pub use Rattle.match_bodies.proofs.BodyFrames.{body_owed, frame_from, frame_owed, frame_stays, frame_with, slots_within, small_others}
 pub use Rattle.match_bodies.proofs.BodyResumption.{IsFront, waits_in_body, frame_size, all_front, no_front}
 pub use Rattle.match_bodies.proofs.BodyViews.{IsCounted, sp_low, frame_top, room_here, holds_here, slots_here, AsFunction, AsFunclet, kind, is_machine, locals_here}
 pub use Rattle.match_bodies.proofs.CallKeeping.{calls_keep, CalleeBegins, callee_begins, thunk_keeps}

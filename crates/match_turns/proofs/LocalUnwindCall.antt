@@ -238,7 +238,7 @@ module _ (setting : Setting) (made : IsWellMade setting.program setting.plan)
     abbrev before : List Instr
     before = move W64 Rcx Rsp ∷ address_to (place + 10) target ∷ []
 
-    plain : AllPlain y.frame y.frame 8 before
+    plain : AllPlain y.slots y.frame 8 before
     plain = ((refl, inl refl), ((short (place + 10) target near_target, inl refl), tt))
 
     before_size : place + sizes before + 5 ≡ back

@@ -61,6 +61,7 @@ function_room : (y : Layout) (b : LinearBody) → IsFunctionLayout y b
 function_room y b l =
     let x = l.temporaries in
     let z = l.locals in
+    let w = l.within in
     let s = l.small in
     own_room y (counts_of b) l.none (omega arith) (omega arith) (inr (omega arith))
 
@@ -76,9 +77,11 @@ funclet_room : (y f : Layout) (b g : LinearBody) → IsFuncletLayout y f b → I
 funclet_room y f b g l m same =
     let x = l.temporaries in
     let z = l.locals in
+    let w = l.within in
     let s = l.small in
     let k = l.kept in
     let u = m.locals in
+    let i = m.within in
     let v = m.small in
     record {
       sp = 0;

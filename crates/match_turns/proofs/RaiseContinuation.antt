@@ -25,9 +25,10 @@ temporaries_near program p (FunctionBody f) b h = by (p.leaf (FunctionBody f)) h
     by : (leaf : Bool) → IsLayoutIf program p (p.layout (FunctionBody f)) b leaf
         → (p.layout (FunctionBody f)).temporaries + 8 * b.temporaries + 8 ≤ LARGEST_FRAME
     by true l = let a = l.temporaries in let e = l.few in omega arith
-    by false l = let a = l.temporaries in let e = l.locals in let z = l.small in omega arith
+    by false l = let a = l.temporaries in let e = l.locals in let w = l.within in let z = l.small in
+        omega arith
 temporaries_near program p (FuncletBody k) b h = let a = h.layout.temporaries in
-    let z = h.layout.small in omega arith
+    let w = h.layout.within in let z = h.layout.small in omega arith
 
 module _ (setting : Setting) where
   open setting use {functions as t, funclets as fs, program, plan as p, sites as q, image}

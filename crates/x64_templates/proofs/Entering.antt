@@ -1,7 +1,8 @@
 -- A function begins: its frame holds its arguments.
-use Rattle.std.proofs.Common.{◌≡◌, ℕ, zero, suc, ◌+◌, ◌-◌, ◌^◌, ◌<◌, ◌≤◌, cond, [], ◌∷◌, length, refl, sym, subst, arith, inl, inr, length-append}
+use Rattle.std.proofs.Common.{◌≡◌, ℕ, zero, suc, ◌+◌, ◌-◌, ◌^◌, ◌<◌, ◌≤◌, cond, [], ◌∷◌, length, refl, sym, subst, arith, inl, inr, length-append, true, false, ltb}
+use Rattle.std.specs.Prelude.{◌⊎◌}
 use Rattle.std.proofs.lemmas.Bool.{cases_lt, lt-ltb, le-ltb}
-use Rattle.x64_templates.specs.Words.{Memory, Rax, Rsp, Flags, State, BodyState, LocalRegisters, OtherRegisters, MachineView, machine, sizes, fetched, local_at, parameter_register, keep_register, stack_parameter, parameter_code, parameters_code, enter_code, sp_of, with_sp, moved, with_arguments, InRegisters, OnStack, IsFunctionFrame, body_in_memory, FreshFrame, ChangesOwn, HasCode, FramePlace, Roomy, FrameHolds, ReachesBody, Enters, function_entry, EntersBody}
+use Rattle.x64_templates.specs.Words.{Memory, Rax, Rsp, Flags, State, BodyState, LocalRegisters, OtherRegisters, MachineView, machine, sizes, fetched, local_at, parameter_register, keep_register, stack_parameter, parameter_code, parameters_code, enter_code, sp_of, with_sp, moved, with_arguments, InRegisters, OnStack, IsFunctionFrame, body_in_memory, FreshFrame, ChangesOwn, HasCode, FramePlace, Roomy, FrameHolds, ReachesBody, Enters, function_entry, EntersBody, W64, move, Place, InRegister, InFrame, place_of, parameter_placed}
 use Rattle.x64_templates.proofs.PlacedCode.{enters_then}
 use Rattle.x64_templates.proofs.Lemmas.{sizes_append}
 use Rattle.x64_templates.proofs.Encoded.{Fine, fine_both, near}
@@ -16,19 +17,33 @@ parameter_fine : (p : FramePlace) (i count : ℕ) (arguments : ℕ → ℕ) (m :
 parameter_fine p i count arguments m room lc ll stack =
     let y = p.layout in
     let l = room.locals in
-    let in_register = keep_register (parameter_register i) (local_at y i) ∷ [] in
-    let on_stack = fetched Rax Rsp (stack_parameter y i) ∷ keep_register Rax (local_at y i) ∷ [] in
     let small : local_at y i < 2 ^ 31 = omega arith in
-    elim (cases_lt i 4) [
-      | inl lt ↦ subst (λ c. Fine (cond c in_register on_stack)) (sym (lt-ltb i 4 lt))
-          (near (local_at y i) small, refl, refl, tt)
-      | inr ge ↦ subst (λ c. Fine (cond c in_register on_stack)) (sym (le-ltb i 4 ge)) (
-        near (stack_parameter y i) (stack.near i lc),
-        refl,
-        refl,
-        (near (local_at y i) small, refl, refl, tt),
-      )
-    ]
+    by (place_of y i) (elim (cases_lt i 4) [
+      | inl lt ↦ inl (lt-ltb i 4 lt)
+      | inr ge ↦ inr (le-ltb i 4 ge)
+    ]) small
+  where
+    by : (q : Place) → (ltb i 4 ≡ true) ⊎ (ltb i 4 ≡ false) → local_at p.layout i < 2 ^ 31
+        → Fine (parameter_placed p.layout i q)
+    by (InRegister r) (inl e) small = subst (λ c. Fine (cond c
+        (move W64 r (parameter_register i) ∷ []) (fetched r Rsp (stack_parameter p.layout i) ∷ [])))
+        (sym e) (refl, refl, refl, tt)
+    by (InRegister r) (inr e) small = subst (λ c. Fine (cond c
+        (move W64 r (parameter_register i) ∷ []) (fetched r Rsp (stack_parameter p.layout i) ∷ [])))
+        (sym e) (near (stack_parameter p.layout i) (stack.near i lc), refl, refl, tt)
+    by InFrame (inl e) small = subst (λ c. Fine (cond c
+        (keep_register (parameter_register i) (local_at p.layout i) ∷ [])
+        (fetched Rax Rsp (stack_parameter p.layout i) ∷ keep_register Rax (local_at p.layout i)
+        ∷ []))) (sym e) (near (local_at p.layout i) small, refl, refl, tt)
+    by InFrame (inr e) small = subst (λ c. Fine (cond c
+        (keep_register (parameter_register i) (local_at p.layout i) ∷ [])
+        (fetched Rax Rsp (stack_parameter p.layout i) ∷ keep_register Rax (local_at p.layout i)
+        ∷ []))) (sym e) (
+          near (stack_parameter p.layout i) (stack.near i lc),
+          refl,
+          refl,
+          (near (local_at p.layout i) small, refl, refl, tt),
+        )
 
 pub parameters_fine : (p : FramePlace) (i n count : ℕ) (arguments : ℕ → ℕ) (m : Memory) → Roomy p
     → i + n ≤ count → i + n ≤ p.counts.locals → OnStack p m count arguments
@@ -39,16 +54,17 @@ parameters_fine p i (suc n) count arguments m room lc ll stack = fine_both
     (parameter_fine p i count arguments m room (omega arith) (omega arith) stack)
     (parameters_fine p (i + 1) n count arguments m room (omega arith) (omega arith) stack)
 
-pub fresh_holds : (p : FramePlace) (m source : Memory) → FreshFrame p m source
-    → FrameHolds p m (body_in_memory p.layout p.sp p.base m source)
-fresh_holds p m source b = holds_body_in_memory p.layout p.counts p.reserved p.sp p.base m source
-    b.bytes b.base b.writable b.own b.own_base b.agrees
+pub fresh_holds : (p : FramePlace) (l : LocalRegisters) (m source : Memory)
+    → FreshFrame p l m source
+    → FrameHolds p l m (body_in_memory p.layout p.sp p.base l m source)
+fresh_holds p l m source b = holds_body_in_memory p.layout p.counts p.reserved p.sp p.base l m source
+    b.small b.bytes b.base b.writable b.own b.own_base b.agrees
 
 -- ---- parameters, once RSP is the frame's
 
 pub parameters_run : (p : FramePlace) (count : ℕ) (arguments : ℕ → ℕ) (v : MachineView) (rip : ℕ)
     (f : Flags) (b : BodyState) → Roomy p → IsFunctionFrame p → count ≤ p.counts.locals
-    → sp_of v ≡ p.sp → FrameHolds p v.memory b → InRegisters v arguments
+    → sp_of v ≡ p.sp → FrameHolds p v.locals v.memory b → InRegisters v arguments
     → OnStack p v.memory count arguments → HasCode v.memory rip (parameters_code p.layout 0 count)
     → ReachesBody p (length (parameters_code p.layout 0 count)) (machine v rip f)
     (rip + sizes (parameters_code p.layout 0 count)) v.rest v.locals
@@ -57,7 +73,7 @@ parameters_run p count arguments v rip f b room fn le at h regs stack code =
     let params = parameters_code p.layout 0 count in
     let k = parameters_do p 0 count count v b arguments room fn (omega arith) (omega arith) at h
     regs stack in
-    let last : MachineView = record v { rax = k.rax; memory = k.memory } in
+    let last : MachineView = record v { rax = k.rax; locals = k.locals; memory = k.memory } in
     let r = runs_view params v last rip f (parameters_fine p 0 count count arguments v.memory room
     (omega arith) (omega arith) stack) code k.does in
     record {
@@ -65,7 +81,7 @@ parameters_run p count arguments v rip f b room fn le at h regs stack code =
       flags = r.left;
       comes = r.comes;
       rest = refl;
-      locals = refl;
+      locals = k.unused;
       holds = k.holds;
       changes = k.changes;
     }
@@ -88,12 +104,12 @@ entered_then p m n s t to others locals b e same r = record {
 pub function_enters : (p : FramePlace) (count : ℕ) (arguments : ℕ → ℕ) (v : MachineView)
     (source : Memory) (rip : ℕ) (f : Flags) → Roomy p → IsFunctionFrame p → count ≤ p.counts.locals
     → sp_of v ≡ p.sp + p.layout.frame → p.layout.frame < 2 ^ 31
-    → FreshFrame p v.memory source → InRegisters v arguments → OnStack p v.memory count arguments
+    → FreshFrame p v.locals v.memory source → InRegisters v arguments → OnStack p v.memory count arguments
     → HasCode v.memory rip (function_entry p.layout count)
     → EntersBody p (length (function_entry p.layout count)) (machine v rip f)
     (rip + sizes (function_entry p.layout count)) (with_sp v.rest p.sp) v.locals
     (record {
-      slots = with_arguments (body_in_memory p.layout p.sp p.base v.memory source).slots
+      slots = with_arguments (body_in_memory p.layout p.sp p.base v.locals v.memory source).slots
           arguments 0 count;
       memory = source;
     })
@@ -110,7 +126,7 @@ function_enters p count arguments v source rip f room fn le at small bare regs s
     let there = rip + sizes enter in
     let first = subst (λ s. Enters 1 (machine v rip f) (machine (moved v s) there e.flags)) back
     e.comes in
-    let b = body_in_memory y p.sp p.base v.memory source in
+    let b = body_in_memory y p.sp p.base v.locals v.memory source in
     let c : BodyState = record {
       slots = with_arguments b.slots arguments 0 count;
       memory = source;
@@ -122,7 +138,7 @@ function_enters p count arguments v source rip f room fn le at small bare regs s
       fourth = regs.fourth;
     } in
     let k = parameters_run p count arguments w there e.flags b room fn le refl
-    (fresh_holds p v.memory source bare) regs' stack parts.1 in
+    (fresh_holds p v.locals v.memory source bare) regs' stack parts.1 in
     let place : there + sizes params ≡ rip + sizes (function_entry y count) = omega
     (arith, sizes_append enter params) in
     let turns : 1 + length params ≡ length (function_entry y count) = sym

@@ -25,7 +25,7 @@ pub record Outlasts (reserved : ℕ → Bool) (sp : ℕ) (m m' : Memory) : Type 
 -- ---- after a call: RAX goes to its slot
 
 pub call_ends : (p : FramePlace) (to : Slot) (v : MachineView) (at : ℕ) (f : Flags) (b : BodyState)
-    → Roomy p → IsThere p to → v.rax < 2 ^ 64 → sp_of v ≡ p.sp → FrameHolds p v.memory b
+    → Roomy p → IsThere p to → v.rax < 2 ^ 64 → sp_of v ≡ p.sp → FrameHolds p v.locals v.memory b
     → HasCode v.memory at (keep p.layout to) → ReachesBody p (length (keep p.layout to))
     (machine v at f) (at + sizes (keep p.layout to)) v.rest v.locals
     (record { slots = with_slot b.slots to v.rax; memory = b.memory })
@@ -134,7 +134,7 @@ epilogue_run v sp frame back rip f false none at lt high b code =
 
 pub return_run : (p : FramePlace) (from : Slot) (v : MachineView) (back rip : ℕ) (f : Flags)
     (b : BodyState) → Roomy p → IsThere p from → sp_of v ≡ p.sp
-    → p.layout.frame < 2 ^ 31 → FrameHolds p v.memory b
+    → p.layout.frame < 2 ^ 31 → FrameHolds p v.locals v.memory b
     → HasBack v.memory (p.sp + p.layout.frame) back
     → HasCode v.memory rip (return_code p.layout from)
     → Returned (length (return_code p.layout from)) v (p.sp + p.layout.frame + 8) back

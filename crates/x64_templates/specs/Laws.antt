@@ -36,7 +36,7 @@ OperationsRun =
     (p : FramePlace) (to : Slot) (o : Operation) (first second : Slot) (v : MachineView) (rip : ℕ)
     (f : Flags) (b : BodyState)
     → Roomy p → IsThere p to → IsThere p first → IsThere p second → sp_of v ≡ p.sp
-    → FrameHolds p v.memory b
+    → FrameHolds p v.locals v.memory b
     → HasCode v.memory rip (compute_code p.layout to o first second)
     → Computed p to o first second v rip f b
     (step p.reserved (instructions.Compute to o first second) b)
@@ -47,7 +47,7 @@ abbrev pub BodiesRun : Type 0
 BodiesRun =
     (p : FramePlace) (k : Links) (start : ℕ) (body : List Instruction) (n : ℕ) → Roomy p
     → (number : ℕ) (v : MachineView) (f : Flags) (b : BodyState) (last : ℕ) (c : BodyState)
-    → IsLinked p k v.memory start body → sp_of v ≡ p.sp → FrameHolds p v.memory b
+    → IsLinked p k v.memory start body → sp_of v ≡ p.sp → FrameHolds p v.locals v.memory b
     → run p.reserved body n number b ≡ Some (last, c)
     → RunsAllTo p n (machine v (start + offset_of p.layout body number) f)
     (start + offset_of p.layout body last) v.rest v.locals c
@@ -61,7 +61,7 @@ BodiesFault =
     (v : MachineView)
     (f : Flags) (b : BodyState) (last : ℕ) (c : BodyState)
     (to first second : Slot) (o : Operation) (code : Code) (access : Option (Bool × ℕ))
-    → Roomy p → IsLinked p k v.memory start body → sp_of v ≡ p.sp → FrameHolds p v.memory b
+    → Roomy p → IsLinked p k v.memory start body → sp_of v ≡ p.sp → FrameHolds p v.locals v.memory b
     → run p.reserved body n number b ≡ Some (last, c) → last < length body
     → get_or body last instructions.Separator ≡ instructions.Compute to o first second
     → step p.reserved (instructions.Compute to o first second) c ≡ Faults code access
@@ -78,7 +78,7 @@ FaultsAreRetried =
     (to first second : Slot) (o : Operation) (x y : ℕ)
     → Roomy p → IsLinked p k v.memory start body → number < length body
     → get_or body number instructions.Separator ≡ instructions.Compute to o first second
-    → x < 2 ^ 64 → y < 2 ^ 64 → HasOperands o x y v → sp_of v ≡ p.sp → FrameHolds p v.memory b
+    → x < 2 ^ 64 → y < 2 ^ 64 → HasOperands o x y v → sp_of v ≡ p.sp → FrameHolds p v.locals v.memory b
     → Retried p (start + offset_of p.layout body (suc number)) to o v
     (start + offset_of p.layout body number + sizes (operands_code p.layout o first second)) f b
     (performed p.reserved o x y b.memory)
@@ -90,7 +90,7 @@ FaultsAreRetried =
 abbrev pub CallsBegin : Type 0
 CallsBegin =
     (p : FramePlace) (first : ℕ) (v : MachineView) (rip to : ℕ) (f : Flags) (b : BodyState)
-    → Roomy p → first + 4 ≤ p.counts.temporaries → sp_of v ≡ p.sp → FrameHolds p v.memory b
+    → Roomy p → first + 4 ≤ p.counts.temporaries → sp_of v ≡ p.sp → FrameHolds p v.locals v.memory b
     → HasBelow v.memory p.sp 8
     → IsNear (return_at p.layout first rip) to
     → HasCode v.memory rip (begin_call p.layout first rip to)
@@ -103,12 +103,12 @@ FunctionsEnter =
     (f : Flags)
     → Roomy p → IsFunctionFrame p → count ≤ p.counts.locals
     → sp_of v ≡ p.sp + p.layout.frame → p.layout.frame < 2 ^ 31
-    → FreshFrame p v.memory source → InRegisters v arguments → OnStack p v.memory count arguments
+    → FreshFrame p v.locals v.memory source → InRegisters v arguments → OnStack p v.memory count arguments
     → HasCode v.memory rip (function_entry p.layout count)
     → EntersBody p (length (function_entry p.layout count)) (machine v rip f)
     (rip + sizes (function_entry p.layout count)) (with_sp v.rest p.sp) v.locals
     (record {
-      slots = with_arguments (body_in_memory p.layout p.sp p.base v.memory source).slots
+      slots = with_arguments (body_in_memory p.layout p.sp p.base v.locals v.memory source).slots
           arguments 0 count;
       memory = source;
     })
@@ -118,7 +118,7 @@ abbrev pub BodiesReturn : Type 0
 BodiesReturn =
     (p : FramePlace) (from : Slot) (v : MachineView) (back rip : ℕ) (f : Flags) (b : BodyState)
     → Roomy p → IsThere p from → sp_of v ≡ p.sp → p.layout.frame < 2 ^ 31
-    → FrameHolds p v.memory b → HasBack v.memory (p.sp + p.layout.frame) back
+    → FrameHolds p v.locals v.memory b → HasBack v.memory (p.sp + p.layout.frame) back
     → HasCode v.memory rip (return_code p.layout from)
     → Returned (length (return_code p.layout from)) v (p.sp + p.layout.frame + 8) back
     (b.slots from) rip f
