@@ -9,8 +9,7 @@ use Rattle.x64_templates.proofs.PrologueParts.{registers_are}
 use Rattle.match_bodies.proofs.Lemmas.{in_stack}
 use Rattle.match_bodies.proofs.SlotPlaces.{SlotsPlaced, function_placed, leaf_placed, funclet_placed, room_of, holds_of, local_is, temporary_is}
 
--- a state is made of its registers
--- each of them is a number of 64 bits
+-- each register of a state is a number of 64 bits
 pub locals_small : (rs : List ℕ) → length rs ≡ 16 → AllSmall rs
     → (r : Reg) → local_in (local_registers rs) r < 2 ^ 64
 locals_small rs n small Rbx = small 3 (omega arith)
@@ -30,6 +29,7 @@ locals_small rs n small R9 = omega arith
 locals_small rs n small R10 = omega arith
 locals_small rs n small R11 = omega arith
 
+-- a state is made of its registers
 pub is_machine : (s : State) → length s.cpu.registers ≡ 16
     → s ≡ machine (seen_by_templates s) s.cpu.rip s.cpu.flags
 is_machine s e = ap (λ rs. let u : State = record {

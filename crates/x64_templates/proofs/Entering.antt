@@ -2,7 +2,7 @@
 use Rattle.std.proofs.Common.{◌≡◌, ℕ, zero, suc, ◌+◌, ◌^◌, ◌<◌, ◌≤◌, cond, [], ◌∷◌, length, refl, sym, subst, arith, inl, inr, true, false, ltb}
 use Rattle.std.specs.Prelude.{◌⊎◌}
 use Rattle.std.proofs.lemmas.Bool.{cases_lt, lt-ltb, le-ltb}
-use Rattle.x64_templates.specs.Words.{Memory, Rax, Rsp, Flags, BodyState, MachineView, machine, sizes, fetched, local_at, parameter_register, keep_register, stack_parameter, parameter_code, parameters_code, sp_of, with_arguments, InRegisters, OnStack, IsFunctionFrame, body_in_memory, FreshFrame, HasCode, FramePlace, Roomy, FrameHolds, ReachesBody, W64, move, Place, InRegister, InFrame, place_of, parameter_placed}
+use Rattle.x64_templates.specs.Words.{Memory, Rax, Rsp, Flags, BodyState, MachineView, machine, sizes, fetched, local_at, parameter_register, keep_register, stack_parameter, parameter_code, parameters_code, sp_of, with_arguments, InRegisters, OnStack, IsFunctionFrame, body_in_memory, FreshFrame, HasCode, FramePlace, Roomy, FrameHolds, ReachesBody, W64, move, Place, InRegister, InFrame, place_of, parameter_placed, LocalRegisters}
 use Rattle.x64_templates.proofs.Encoded.{Fine, fine_both, near}
 use Rattle.x64_templates.proofs.Computes.{runs_view}
 use Rattle.x64_templates.proofs.Entries.{holds_body_in_memory}
