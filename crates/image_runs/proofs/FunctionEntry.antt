@@ -8,14 +8,14 @@ use Rattle.x64_templates.specs.CallStates.{sp_of}
 use Rattle.match_bodies.specs.CodeSites.{body_plan, making_size}
 use Rattle.seh_records.specs.Laws.{AllSmall}
 use Rattle.x64_templates.specs.Frames.{InTemporaries, InLocals, IsBytes, Agrees}
-use Rattle.seh_records.specs.Laws.{AllSmall}
 use Rattle.x64_instr.specs.declared.register.Reg.{Reg}
 use Rattle.template_code.specs.declared.layout.Place.TheVariants.{InFrame}
 use Rattle.template_code.specs.Places.{place_of}
 use Rattle.x64_templates.specs.Straight.{registers_of}
 use Rattle.x64_templates.specs.Locals.{local_in}
 use Rattle.x64_templates.specs.Frames.{number_placed}
-use Rattle.match_bodies.proofs.BodyViews.{locals_small, registers_are}
+use Rattle.match_bodies.proofs.BodyViews.{locals_small}
+use Rattle.x64_templates.proofs.PrologueParts.{registers_are}
 use Rattle.match_bodies.proofs.ChainKeeping.{all_are, are_all}
 use Rattle.image_runs.proofs.Lemmas.{bytes_kept, enters_then, making_steps, stack_is_reserved, Keeps, enters_keeps, own_frame, IsOwn, roomy_own, fresh_own, parameters_soon, argument_is, Made}
 use Rattle.x64_templates.proofs.Ranges.{within_agrees}
