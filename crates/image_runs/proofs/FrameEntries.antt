@@ -148,7 +148,8 @@ module _ (t : Functions) (fs : List Funclet) (program : LinearProgram) (p : Imag
         (entering.view_stack t fs program p q image s source f fn top arguments h)
         h.registers plan q.check_stack frame (body_planned setting (FunctionBody f) o there some
         leaf)
-        (few_turns frame plan.probe) (plan_depth plan frame l.plan.whole) begins (entry false leaf).making
+        (few_turns frame plan.probe) (plan_depth plan frame l.plan.whole) begins
+        (entry false leaf).making
         (body_probed setting (FunctionBody f) o there some) h.memory.code.check_stack
 
     framed_entered : Goal

@@ -19,7 +19,11 @@ Framed x = AreFramed x.routine
 placed_framed : (s : SiteView) (info at : ℕ) (rs : List RoutineView) → AllByRecursion AreFramed rs
     → AllByRecursion Framed (placed_from s info at rs)
 placed_framed s info at [] h = tt
-placed_framed s info at (r ∷ rs) h = (h.0, placed_framed s (info + length (info_bytes s at r)) (at + routine_size r) rs h.1)
+placed_framed s info at (r ∷ rs) h = (
+  h.0,
+  placed_framed s (info + length (info_bytes s at r))
+      (at + routine_size r) rs h.1,
+)
 
 all_taken : (n : ℕ) (xs : List Placed) → AllByRecursion Framed xs
     → AllByRecursion Framed (take n xs)

@@ -118,7 +118,8 @@ module _ (p : FramePlan) (is_plan : IsPlan p) where
       → AreLinksNear k → IsFramed y → IsInstructionNear y i
       → at + 256 < 2 ^ 31 → IsFine (template k y at i)
   template_fine k y at (instructions.Return from) e links framed near lt = return_fine y from e near
-  template_fine k y at (instructions.Compute to o first second) e links framed near lt = fine_inner _
+  template_fine k y at (instructions.Compute to o first second) e links framed near lt =
+      fine_inner _
       (template_inner k y at (instructions.Compute to o first second) links framed near lt (λ h. h))
   template_fine k y at (instructions.Information to field) e links framed near lt = fine_inner _
       (template_inner k y at (instructions.Information to field) links framed near lt (λ h. h))
@@ -128,10 +129,13 @@ module _ (p : FramePlan) (is_plan : IsPlan p) where
       (template_inner k y at (instructions.Jump label) links framed near lt (λ h. h))
   template_fine k y at (instructions.JumpIfZero slot label) e links framed near lt = fine_inner _
       (template_inner k y at (instructions.JumpIfZero slot label) links framed near lt (λ h. h))
-  template_fine k y at (instructions.Call function first count) e links framed near lt = fine_inner _
+  template_fine k y at (instructions.Call function first count) e links framed near lt =
+      fine_inner _
       (template_inner k y at (instructions.Call function first count) links framed near lt (λ h. h))
-  template_fine k y at (instructions.CallBuiltIn function first) e links framed near lt = fine_inner _
-      (template_inner k y at (instructions.CallBuiltIn function first) links framed near lt (λ h. h))
+  template_fine k y at (instructions.CallBuiltIn function first) e links framed near lt =
+      fine_inner _
+      (template_inner k y at (instructions.CallBuiltIn function first) links framed near lt
+      (λ h. h))
   template_fine k y at (instructions.CallFinally funclet) e links framed near lt = fine_inner _
       (template_inner k y at (instructions.CallFinally funclet) links framed near lt (λ h. h))
   template_fine k y at (instructions.LocalUnwind label) e links framed near lt = fine_inner _

@@ -158,7 +158,8 @@ module _ (setting : Setting) (roomy : HaveRoom setting.program) where
     module _ (around : Surroundings) where
       -- a run of so many turns to an instruction of the body, with these slots
       pub to_label : (n label rip : ℕ) (d : BodyState) (values ts : List ℕ) (landed : Option ℕ)
-          (events : List Event) → ReachesBody frame n s rip v.rest v.locals d → rip ≡ p.address name label
+          (events : List Event) → ReachesBody frame n s rip v.rest v.locals d → rip
+          ≡ p.address name label
           → label < length code.code → rip < 2 ^ 64 → Leaves code d values ts → landed ≡ None
           → RunsKeep setting s c b counted n s → (u : State) × (Comes t fs n s [] u) ×
           (RepresentsAt setting u (further setting c b.body.acts label values ts landed d.memory

@@ -324,5 +324,6 @@ module _ (t : Functions) (fs : List Funclet) (program : LinearProgram) (p : Imag
     pub callers : (name : BodyName) (b : LinearBody) → body_of program name ≡ Some b
         → FindsCallers name b
     pub callers_outside : FindsCallersOutside
-    -- where `walk` is called, the rows of names hold the code of functions alone, with their numbers
+    -- where `walk` is called, the rows of names hold the code of functions alone, with their
+    -- numbers
     pub names : CallsBuiltIn program Walk → NumbersFunctions program p (number_at t)

@@ -211,7 +211,8 @@ module _ (setting : Setting) (roomy : HaveRoom setting.program) where
         let top = frame_top setting s c b counted in
         let low = sp_low setting s c b counted in
         let f = frame setting roomy s c b counted in
-        returns_leave setting c.frame.body b.body.slots.code b.body.slots.body c.frame.next from at s
+        returns_leave setting c.frame.body b.body.slots.code b.body.slots.body c.frame.next from at
+        s
         after (top_of setting s c b counted) b.body.back b.body.others b.body.is b.rip
         (begins_beneath setting s c b counted) refl b.memory.code
         (fetch_plain layout.slots layout.frame 8 layout from

@@ -122,8 +122,7 @@ module _ (setting : Setting) (roomy : HaveRoom setting.program) where
           well_formed = record {
             rip_small = small_address;
             count = well_formed.count;
-            small =
-                well_formed.small;
+            small = well_formed.small;
           };
           memory = memory;
           body = waits_in_body t fs program p q image earlier above is w items acts w.next
@@ -285,7 +284,8 @@ module _ (setting : Setting) (roomy : HaveRoom setting.program) where
       pub resumes : Resumes t fs program p q u (answered w items source acts es result)
       resumes =
           let r = subst (λ x. ReachesBody (frame setting roomy earlier caller waits counted) 1 x
-          (u.cpu.rip + sizes (keep layout (Temporary first))) (seen_by_templates u).rest (seen_by_templates u).locals (record {
+          (u.cpu.rip + sizes (keep layout (Temporary first))) (seen_by_templates u).rest
+          (seen_by_templates u).locals (record {
             slots = with_slot (slots setting roomy earlier caller waits counted).slots (Temporary
                 first) result;
             memory = source;
@@ -300,7 +300,8 @@ module _ (setting : Setting) (roomy : HaveRoom setting.program) where
             small = k.small;
           } in
           let same = kept_by_view r.after u.cpu.registers r.rest
-          (locals_stay layout (seen_by_templates u).locals r.after.locals (image.in_frames w.body) r.locals) in
+          (locals_stay layout (seen_by_templates u).locals r.after.locals (image.in_frames w.body)
+          r.locals) in
           let d : BodyState = record {
             slots = with_slot
                 (slots setting roomy earlier caller waits counted).slots (Temporary first) result;

@@ -49,7 +49,8 @@ module _ (p : FramePlace) (roomy : Roomy p) (room : ℕ) where
         h.1,
       )
 
-  pub holds_beside : (l : LocalRegisters) (m : Memory) (at x : ℕ) (b : BodyState) → HasOutgoing p m room → p.sp ≤ at
+  pub holds_beside : (l : LocalRegisters) (m : Memory) (at x : ℕ) (b : BodyState)
+      → HasOutgoing p m room → p.sp ≤ at
       → at + 8 ≤ p.sp + room → ((k : ℕ) → p.layout.base ≡ Some k → p.sp + k + 8 < 2 ^ 64)
       → FrameHolds p l m b → FrameHolds p l (stored m at x) b
   holds_beside l m at x b out low le base_high h =

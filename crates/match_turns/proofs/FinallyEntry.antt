@@ -275,8 +275,7 @@ module _ (setting : Setting) where
           changed = record {
             changes = record {
               protection = r.changes.protection;
-              byte =
-                  r.changes.byte;
+              byte = r.changes.byte;
               bytes = r.changes.bytes;
             };
             keeps =
@@ -284,13 +283,13 @@ module _ (setting : Setting) where
                   protection = z.protection;
                   fixed = z.fixed;
                   count = z.count;
-                  small =
-                      z.small;
+                  small = z.small;
                 };
           };
           holds = r.holds;
           kept = kept_alike r.after e.after r.rest
-              (locals_stay y e.after.locals r.after.locals (image.in_frames (FuncletBody k)) r.locals);
+              (locals_stay y e.after.locals r.after.locals (image.in_frames (FuncletBody k))
+              r.locals);
           leaves = leaves;
         }
 
@@ -325,8 +324,7 @@ module _ (setting : Setting) where
             body = FuncletBody k;
             next = 0;
             activation = activation;
-            exception =
-                no_exception;
+            exception = no_exception;
             held = held + 2;
             temporaries = [];
             landed = None;
@@ -355,7 +353,8 @@ module _ (setting : Setting) where
     storing = put_back Rcx (local_at y flag)
 
     last_is : last ≡ mid ++ (storing ∷ [])
-    last_is = ap (λ q. move W32 Rax Rcx ∷ keep_placed y flag q) (image.in_frames (FuncletBody k) flag)
+    last_is = ap (λ q. move W32 Rax Rcx ∷ keep_placed y flag q)
+        (image.in_frames (FuncletBody k) flag)
         ∙ ap (λ o. move W32 Rax Rcx ∷ keep_local o (local_at y flag)) l.plan.layout.base
 
     all_parts : arguments_code program p (FuncletBody k) ≡ (base ++ mid) ++ (storing ∷ [])

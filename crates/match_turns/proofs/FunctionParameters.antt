@@ -306,7 +306,8 @@ module _ {setting : Setting} (at_call : AtCall setting) where
 
     run : ReachesBody (own_frame program.globals y o sp) (length (parameters_code y 0 count)) k
         (to + sizes (parameters_code y 0 count)) made.after.rest made.after.locals (record {
-          slots = with_arguments (body_in_memory y sp sp made.after.locals made.after.memory c.store.memory).slots
+          slots = with_arguments (body_in_memory y sp sp made.after.locals made.after.memory
+              c.store.memory).slots
               arguments 0 count;
           memory = c.store.memory;
         })
@@ -314,7 +315,8 @@ module _ {setting : Setting} (at_call : AtCall setting) where
         parameters_run (own_frame program.globals y o sp) count arguments made.after to made.flags
         (body_in_memory y sp sp made.after.locals made.after.memory c.store.memory)
         (roomy_own program.globals y o sp own) whole fits made.stack
-        (fresh_holds (own_frame program.globals y o sp) made.after.locals made.after.memory c.store.memory
+        (fresh_holds (own_frame program.globals y o sp) made.after.locals made.after.memory
+        c.store.memory
         (fresh_own program.globals y o sp made.after.locals made.after.memory c.store.memory own
         made_small made_bytes made_may
         made_agrees)) made.registers stack_arguments (record {
@@ -345,8 +347,10 @@ module _ {setting : Setting} (at_call : AtCall setting) where
               ≡ sp + (y.locals + 8 * i) = omega arith in
               ap (number_at run.after.memory.byte 8) w
               ∙ sym (ap (number_placed y sp run.after.locals run.after.memory i)
-              (framed i)) ∙ run.holds.slot (Local i) (let z : i < o.locals = omega (arith, fits) in z)
-              ∙ argument_is (body_in_memory y sp sp made.after.locals made.after.memory c.store.memory).slots
+              (framed i)) ∙ run.holds.slot (Local i)
+              (let z : i < o.locals = omega (arith, fits) in z)
+              ∙ argument_is (body_in_memory y sp sp made.after.locals made.after.memory
+              c.store.memory).slots
               arguments 0 count i (omega arith) (omega arith));
           bytes = run.changes.bytes made_bytes;
           agrees = run.holds.source;

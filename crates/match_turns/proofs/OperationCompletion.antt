@@ -98,7 +98,8 @@ module _ (setting : Setting) (made : IsWellMade setting.program setting.plan)
         };
         holds = r.holds;
         kept = kept_by_view r.after s.cpu.registers r.rest
-            (locals_stay y (seen_by_templates s).locals r.after.locals (image.in_frames c.frame.body) r.locals);
+            (locals_stay y (seen_by_templates s).locals r.after.locals
+            (image.in_frames c.frame.body) r.locals);
         leaves = leaves;
       }
 
@@ -107,7 +108,8 @@ module _ (setting : Setting) (made : IsWellMade setting.program setting.plan)
       keeps_shadow =
           keep u r.comes (ends_at setting old c begins counted u label at lt
           (kept_by_view r.after s.cpu.registers r.rest
-          (locals_stay y (seen_by_templates s).locals r.after.locals (image.in_frames c.frame.body) r.locals))
+          (locals_stay y (seen_by_templates s).locals r.after.locals (image.in_frames c.frame.body)
+          r.locals))
           (is_after setting old c begins counted u d values ts ran around.caller around.owner))
 
       silently : Comes t fs n s [] u
@@ -164,7 +166,8 @@ module _ (setting : Setting) (made : IsWellMade setting.program setting.plan)
           after
       run =
           subst (λ x. ReachesBody here (length finish) x (s.cpu.rip + sizes finish)
-          (seen_by_templates s).rest (seen_by_templates s).locals after) (sym (is_machine s w.well_formed.count))
+          (seen_by_templates s).rest (seen_by_templates s).locals after)
+          (sym (is_machine s w.well_formed.count))
           (subst (λ x. Finished here o to (seen_by_templates s) s.cpu.rip s.cpu.flags
           now x) (inside.same_outcome setting made s c w known (Gives value m) gives)
           (inside.made_here setting made s c w known))

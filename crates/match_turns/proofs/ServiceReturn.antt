@@ -58,7 +58,11 @@ module _ (setting : Setting) (roomy : HaveRoom setting.program) where
 
     -- the state after the service, by its result and the memory that it leaves
     abbrev pub view_after : ℕ → Memory → MachineView
-    view_after x m = record with_given { rax = x; rest = with_sp with_given.rest sp_after; memory = m }
+    view_after x m = record with_given {
+      rax = x;
+      rest = with_sp with_given.rest sp_after;
+      memory = m;
+    }
 
     abbrev pub returned_to : ℕ → Memory → State
     returned_to x m = machine (view_after x m) to (flags_there setting roomy s c b counted f first
@@ -196,7 +200,8 @@ module _ (setting : Setting) (roomy : HaveRoom setting.program) where
 
       kept_after : kept_of after.cpu.registers ≡ kept_of s.cpu.registers
       kept_after = kept_alike run.after (view_after x m) run.rest
-          (locals_stay (p.layout c.frame.body) (view_after x m).locals run.after.locals (image.in_frames c.frame.body) run.locals) ∙ kept_back
+          (locals_stay (p.layout c.frame.body) (view_after x m).locals run.after.locals
+          (image.in_frames c.frame.body) run.locals) ∙ kept_back
 
       abbrev values : List ℕ
       values = linear.locals_of c.store c.frame.activation

@@ -83,7 +83,8 @@ module _ (y : Layout) (n : Counts) (reserved : ℕ → Bool) (sp base : ℕ)
     ]
   ]
 
-  free_off : (l : LocalRegisters) (m : Memory) (b : BodyState) (a : ℕ) → HoldsBody y n reserved sp base l m b
+  free_off : (l : LocalRegisters) (m : Memory) (b : BodyState) (a : ℕ)
+      → HoldsBody y n reserved sp base l m b
       → reserved a ≡ false → InTemporaries y n sp a ⊎ InLocals y n base a → ⊥
   free_off l m b a h r is = let x : true ≡ false = sym (h.own a is) ∙ r in absurd cc
 
@@ -319,7 +320,11 @@ module _ (y : Layout) (n : Counts) (reserved : ℕ → Bool) (sp base : ℕ)
       → sp_of v ≡ sp → HasBase y o sp base → MemoryKeepsBase o sp base v.memory
       → HoldsBody y n reserved sp base v.locals v.memory b → v.rax < 2 ^ 64
       → (rcx : ℕ) × Executes (keep_local o (local_at y i)) v
-      (record v { rcx = rcx; memory = with_bytes v.memory (with_number v.memory.byte 8 (base + local_at y i) v.rax) })
+      (record v {
+        rcx = rcx;
+        memory = with_bytes v.memory
+            (with_number v.memory.byte 8 (base + local_at y i) v.rax);
+      })
   local_kept None i v b lt at has keeps h small =
       let e : (sp_of v + 0 + local_at y i) % 2 ^ 64
       ≡ base + local_at y i = ap (λ (s : ℕ). (s + 0 + local_at y i) % 2 ^ 64) (at ∙ sym has)

@@ -137,7 +137,8 @@ call_reaches v sp rip to f at below n code =
 
 pub call_begins : (p : FramePlace) (first : ℕ) (v : MachineView) (rip to : ℕ) (f : Flags)
     (b : BodyState) → Roomy p → first + 4 ≤ p.counts.temporaries → sp_of v ≡ p.sp
-    → FrameHolds p v.locals v.memory b → HasBelow v.memory p.sp 8 → IsNear (return_at p.layout first rip) to
+    → FrameHolds p v.locals v.memory b → HasBelow v.memory p.sp 8
+    → IsNear (return_at p.layout first rip) to
     → HasCode v.memory rip (begin_call p.layout first rip to) → CallBegun p first v rip to f b
 call_begins p first v rip to f b room le at h below n code =
     let args = arguments_code p.layout first in

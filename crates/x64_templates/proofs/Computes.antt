@@ -182,14 +182,20 @@ operands_run p o first second v rip f b room i j at h code =
 -- code that leads to a number in RAX, and the slot to which the number goes
 pub leads_kept : (p : FramePlace) (code : List Instr) (to : Slot) (v : MachineView) (at : ℕ)
     (f : Flags) (b : BodyState) (x : ℕ) (source : Memory) → Fine code → Roomy p → IsThere p to
-    → sp_of v ≡ p.sp → FrameHolds p v.locals v.memory b → HasCode v.memory at (code ++ keep p.layout to)
+    → sp_of v ≡ p.sp → FrameHolds p v.locals v.memory b
+    → HasCode v.memory at (code ++ keep p.layout to)
     → LeavesResult p.reserved code v x source
     → ReachesBody p (length (code ++ keep p.layout to)) (machine v at f)
     (at + sizes (code ++ keep p.layout to)) v.rest v.locals
     (record { slots = with_slot b.slots to x; memory = source })
 leads_kept p code to v at f b x source fine room is sp h is_there l =
     let y = p.layout in
-    let mid : MachineView = record v { rax = x; rcx = l.yields.rcx; rdx = l.yields.rdx; memory = l.after } in
+    let mid : MachineView = record v {
+      rax = x;
+      rcx = l.yields.rcx;
+      rdx = l.yields.rdx;
+      memory = l.after;
+    } in
     let body : BodyState = record { slots = b.slots; memory = source } in
     let held = holds_same y p.counts p.reserved p.sp p.base room v.locals v.memory l.after source b
     l.own l.protection l.agrees h in
@@ -244,7 +250,12 @@ pub record Worked (p : FramePlace) (o : Operation) (v : MachineView) (at : ℕ) 
   pub result : LeavesResult p.reserved (work o) v x source
   pub left : Flags
   pub comes : Reaches (length (work o)) (machine v at f)
-      (machine (record v { rax = x; rcx = result.yields.rcx; rdx = result.yields.rdx; memory = result.after }) (at + sizes (work o)) left)
+      (machine (record v {
+        rax = x;
+        rcx = result.yields.rcx;
+        rdx = result.yields.rdx;
+        memory = result.after;
+      }) (at + sizes (work o)) left)
 
 pub work_run : (p : FramePlace) (o : Operation) (v : MachineView) (at : ℕ) (f : Flags)
     (b : BodyState) (x y value : ℕ) (source : Memory) → x < 2 ^ 64 → y < 2 ^ 64
@@ -259,7 +270,12 @@ work_run p o v at f b x y value source lx ly waits h code gives =
     (subst (λ c. Implements p.reserved (work o) v (performed p.reserved o c y b.memory)) ex
     (subst (λ c. Implements p.reserved (work o) v (performed p.reserved o v.rax c b.memory)) ey
     w)) in
-    let r = runs_view (work o) v (record v { rax = value; rcx = l.yields.rcx; rdx = l.yields.rdx; memory = l.after }) at f (work_fine o) code l.yields.does in
+    let r = runs_view (work o) v (record v {
+      rax = value;
+      rcx = l.yields.rcx;
+      rdx = l.yields.rdx;
+      memory = l.after;
+    }) at f (work_fine o) code l.yields.does in
     record { result = l; left = r.left; comes = r.comes }
 
 -- ---- a whole operation
@@ -305,13 +321,16 @@ compute_by p to o first second v rip f b (Gives x m) g fin =
     let rest = finish_code p.layout o to in
     let c : BodyState = record { slots = with_slot b.slots to x; memory = m } in
     let whole = follows_after p (length ops) (length rest) (machine v rip f)
-    (machine g.stopped (rip + sizes ops) g.left) (rip + sizes ops + sizes rest) g.stopped.rest g.stopped.locals c
+    (machine g.stopped (rip + sizes ops) g.left) (rip + sizes ops + sizes rest) g.stopped.rest
+    g.stopped.locals c
     g.comes g.memory fin in
     let turns : length ops + length rest ≡ length (ops ++ rest) = sym (length-append ops rest) in
     let place : rip + sizes ops + sizes rest ≡ rip
     + sizes (ops ++ rest) = omega (arith, sizes_append ops rest) in
-    subst (λ k. ReachesBody p k (machine v rip f) (rip + sizes (ops ++ rest)) v.rest v.locals c) turns
-    (subst (λ a. ReachesBody p (length ops + length rest) (machine v rip f) a v.rest v.locals c) place
+    subst (λ k. ReachesBody p k (machine v rip f) (rip + sizes (ops ++ rest)) v.rest v.locals c)
+    turns
+    (subst (λ a. ReachesBody p (length ops + length rest) (machine v rip f) a v.rest v.locals c)
+    place
     (named_alike p (length ops + length rest) (machine v rip f) (rip + sizes ops + sizes rest)
     g.stopped.rest v.rest g.stopped.locals v.locals c g.rest g.locals whole))
 compute_by p to o first second v rip f b (Raises code access) g fin = record {

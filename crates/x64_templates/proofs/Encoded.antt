@@ -87,7 +87,8 @@ pub fetch_fine : (y : Layout) (n : Counts) (sp base : ℕ) (r : Bool) (x : Slot)
     → SlotsHaveRoom y n sp base → IsSlot n x → Fine (fetch y (reg r) x)
 fetch_fine y n sp base r (Temporary i) room is = let t = room.temporaries in
     fetched_fine r Rsp (temporary_at y i) (omega arith)
-fetch_fine y n sp base r (Local i) room is = fetch_placed_fine y n sp base r i (place_of y i) room is
+fetch_fine y n sp base r (Local i) room is = fetch_placed_fine y n sp base r i (place_of y i) room
+    is
 
 pub keep_fine : (y : Layout) (n : Counts) (sp base : ℕ) (x : Slot) → SlotsHaveRoom y n sp base
     → IsSlot n x → Fine (keep y x)

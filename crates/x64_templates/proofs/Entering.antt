@@ -54,7 +54,8 @@ parameters_fine p i (suc n) count arguments m room lc ll stack = fine_both
 pub fresh_holds : (p : FramePlace) (l : LocalRegisters) (m source : Memory)
     → FreshFrame p l m source
     → FrameHolds p l m (body_in_memory p.layout p.sp p.base l m source)
-fresh_holds p l m source b = holds_body_in_memory p.layout p.counts p.reserved p.sp p.base l m source
+fresh_holds p l m source b = holds_body_in_memory p.layout p.counts p.reserved p.sp p.base l m
+    source
     b.small b.bytes b.base b.writable b.own b.own_base b.agrees
 
 -- ---- parameters, once RSP is the frame's

@@ -44,7 +44,8 @@ pub holds_body_in_memory : (y : Layout) (n : Counts) (reserved : ℕ → Bool) (
     → ((a : ℕ) → InTemporaries y n sp a ⊎ InLocals y n base a → reserved a ≡ true)
     → KeepsReserved y.base sp reserved → Agrees reserved m source
     → HoldsBody y n reserved sp base locals m (body_in_memory y sp base locals m source)
-holds_body_in_memory y n reserved sp base locals m source small bytes base_kept writable own own_base
+holds_body_in_memory y n reserved sp base locals m source small bytes base_kept writable own
+    own_base
     agrees =
     record {
       slot = λ x is. refl;

@@ -95,7 +95,8 @@ branch_done p k slot label v here f b false g =
             ∷ []),
       );
       follows = subst (λ a. ReachesBody p (length
-          (jump_if_zero_code p.layout slot here (k.label label))) (machine v here f) a v.rest v.locals b) z
+          (jump_if_zero_code p.layout slot here (k.label label))) (machine v here f) a v.rest
+          v.locals b) z
           g;
     }
 

@@ -24,7 +24,8 @@ one_reaches i v w rip at f g enc inside code e =
     (record { low = l; high = omega arith }) e).comes
 
 stays : (p : FramePlace) (turns : ℕ) (v w : MachineView) (rip at : ℕ) (f g : Flags) (b : BodyState)
-    → Reaches turns (machine v rip f) (machine w at g) → w.rest ≡ v.rest → w.locals ≡ v.locals → w.memory ≡ v.memory
+    → Reaches turns (machine v rip f) (machine w at g) → w.rest ≡ v.rest → w.locals ≡ v.locals
+    → w.memory ≡ v.memory
     → FrameHolds p v.locals v.memory b → ReachesBody p turns (machine v rip f) at v.rest v.locals b
 stays p turns v w rip at f g b comes rest locals same h = record {
   after = w;
@@ -48,7 +49,8 @@ jump_size d = refl
 -- ---- a jump, and nothing
 
 pub jump_run : (p : FramePlace) (v : MachineView) (rip to : ℕ) (f : Flags) (b : BodyState)
-    → IsNear (rip + 5) to → FrameHolds p v.locals v.memory b → HasCode v.memory rip (jump_code rip to)
+    → IsNear (rip + 5) to → FrameHolds p v.locals v.memory b
+    → HasCode v.memory rip (jump_code rip to)
     → ReachesBody p 1 (machine v rip f) to v.rest v.locals b
 jump_run p v rip to f b near h code =
     let i = jump (rip + 5) to in
@@ -120,7 +122,8 @@ three_then l m n s t u w a b c = reaches_then l (m + n) s t w a (reaches_then m 
 pub jump_if_zero_comes : (p : FramePlace) (slot : Slot) (v : MachineView) (rip to : ℕ) (f : Flags)
     (b : BodyState) (z : Bool) → eqb (b.slots slot) 0 ≡ z → Roomy p → IsThere p slot
     → sp_of v ≡ p.sp → IsNear (rip + sizes (test_code p.layout slot) + 6) to
-    → FrameHolds p v.locals v.memory b → HasCode v.memory rip (jump_if_zero_code p.layout slot rip to)
+    → FrameHolds p v.locals v.memory b → HasCode v.memory rip
+    (jump_if_zero_code p.layout slot rip to)
     → ReachesBody p (length (jump_if_zero_code p.layout slot rip to)) (machine v rip f)
     (cond z to (rip + sizes (test_code p.layout slot) + 6)) v.rest v.locals b
 jump_if_zero_comes p slot v rip to f b z e room is at near h code =

@@ -55,13 +55,20 @@ put_local v r rip f x = Ok (machine (record v { locals = with_local v.locals r x
 moves_to_local : (r from : Reg) (v : MachineView) (rip : ℕ) (f : Flags) (x : ℕ)
     → is_of_local r ≡ true → slice_index (registers_of v) (number from) ≡ x → x < 2 ^ 64
     → effect (machine v rip f) (move W64 r from) ≡ put_local v r rip f x
-moves_to_local Rbx from v rip f x l e lt = ap (put_local v Rbx rip f) (twice x (slice_index (registers_of v) (number from)) e lt)
-moves_to_local Rsi from v rip f x l e lt = ap (put_local v Rsi rip f) (twice x (slice_index (registers_of v) (number from)) e lt)
-moves_to_local Rdi from v rip f x l e lt = ap (put_local v Rdi rip f) (twice x (slice_index (registers_of v) (number from)) e lt)
-moves_to_local R12 from v rip f x l e lt = ap (put_local v R12 rip f) (twice x (slice_index (registers_of v) (number from)) e lt)
-moves_to_local R13 from v rip f x l e lt = ap (put_local v R13 rip f) (twice x (slice_index (registers_of v) (number from)) e lt)
-moves_to_local R14 from v rip f x l e lt = ap (put_local v R14 rip f) (twice x (slice_index (registers_of v) (number from)) e lt)
-moves_to_local R15 from v rip f x l e lt = ap (put_local v R15 rip f) (twice x (slice_index (registers_of v) (number from)) e lt)
+moves_to_local Rbx from v rip f x l e lt = ap (put_local v Rbx rip f)
+    (twice x (slice_index (registers_of v) (number from)) e lt)
+moves_to_local Rsi from v rip f x l e lt = ap (put_local v Rsi rip f)
+    (twice x (slice_index (registers_of v) (number from)) e lt)
+moves_to_local Rdi from v rip f x l e lt = ap (put_local v Rdi rip f)
+    (twice x (slice_index (registers_of v) (number from)) e lt)
+moves_to_local R12 from v rip f x l e lt = ap (put_local v R12 rip f)
+    (twice x (slice_index (registers_of v) (number from)) e lt)
+moves_to_local R13 from v rip f x l e lt = ap (put_local v R13 rip f)
+    (twice x (slice_index (registers_of v) (number from)) e lt)
+moves_to_local R14 from v rip f x l e lt = ap (put_local v R14 rip f)
+    (twice x (slice_index (registers_of v) (number from)) e lt)
+moves_to_local R15 from v rip f x l e lt = ap (put_local v R15 rip f)
+    (twice x (slice_index (registers_of v) (number from)) e lt)
 moves_to_local Rax from v rip f x l e lt = absurd cc
 moves_to_local Rcx from v rip f x l e lt = absurd cc
 moves_to_local Rdx from v rip f x l e lt = absurd cc
@@ -79,7 +86,8 @@ pub moved_to_local : (r from : Reg) (v : MachineView) (x : ℕ) → is_of_local 
     → slice_index (registers_of v) (number from) ≡ x → x < 2 ^ 64
     → Executes (move W64 r from ∷ []) v (record v { locals = with_local v.locals r x })
 moved_to_local r from v x l e lt = executes_one (move W64 r from) v
-    (record v { locals = with_local v.locals r x }) (λ rip f. (f, moves_to_local r from v rip f x l e lt))
+    (record v { locals = with_local v.locals r x })
+    (λ rip f. (f, moves_to_local r from v rip f x l e lt))
 
 -- and from a place above RSP
 loads_to_local : (r : Reg) (v : MachineView) (rip : ℕ) (f : Flags) (d : ℕ) → is_of_local r ≡ true
@@ -111,7 +119,8 @@ loaded_to_local r v d at x l e may is lt = executes_one (fetched r Rsp d) v
       f,
       loads_to_local r v rip f d l
           ∙ ap (λ (a : ℕ). load v.memory a W64 >>= λ y. put_local v r rip f (low W64 y)) e
-          ∙ ap (λ (o : Answer ℕ). o >>= λ y. put_local v r rip f (low W64 y)) (load_at v.memory at may)
+          ∙ ap (λ (o : Answer ℕ). o >>= λ y. put_local v r rip f (low W64 y))
+          (load_at v.memory at may)
           ∙ ap (put_local v r rip f) (word_is (number_at v.memory.byte 8 at) x is lt),
     ))
 
@@ -168,7 +177,8 @@ seen_with l = record {
 
 -- another one is as it was
 pub local_beside : (l : LocalRegisters) (r q : Reg) (x : ℕ) → is_of_local r ≡ true
-    → is_of_local q ≡ true → (number r ≡ number q → ⊥) → local_in (with_local l r x) q ≡ local_in l q
+    → is_of_local q ≡ true → (number r ≡ number q → ⊥) → local_in (with_local l r x) q
+    ≡ local_in l q
 local_beside l r q x e f apart =
     let v = seen_with l in
     sym (local_held (seen_with (with_local l r x)) q f)

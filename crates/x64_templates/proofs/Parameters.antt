@@ -65,7 +65,8 @@ framed_does : (p : FramePlace) (i count : ℕ) (v : MachineView) (b : BodyState)
 framed_does p i count v b arguments room fn lc ll at h regs stack =
     let y = p.layout in
     let to = slot_at y p.sp p.base (Local i) in
-    let may = may_write_slot y p.counts p.reserved p.sp p.base room v.locals v.memory b (Local i) h ll in
+    let may = may_write_slot y p.counts p.reserved p.sp p.base room v.locals v.memory b (Local i) h
+    ll in
     let e = local_address p i (sp_of v) room fn ll at in
     let in_register = keep_register (parameter_register i) (local_at y i) ∷ [] in
     let on_stack = fetched Rax Rsp (stack_parameter y i) ∷ keep_register Rax (local_at y i) ∷ [] in
@@ -204,7 +205,8 @@ parameters_do p i (suc n) count v b arguments room fn lc ll at h regs stack =
     let m = w.memory in
     let c : BodyState = record { slots = with_slot b.slots (Local i) x; memory = b.memory } in
     let ch = changes_slot y p.counts p.reserved p.sp p.base room v.memory (Local i) x il in
-    let hold = holds_after y p.counts p.reserved p.sp p.base room v.locals v.memory b (Local i) x h il lt in
+    let hold = holds_after y p.counts p.reserved p.sp p.base room v.locals v.memory b (Local i) x h
+    il lt in
     let r = parameters_do p (i + 1) n count w c arguments room fn (omega arith) (omega arith) at
     hold (record {
       first = regs.first;

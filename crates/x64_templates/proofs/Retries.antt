@@ -87,7 +87,8 @@ pub body_retries : (p : FramePlace) (k : Links) (start : ℕ) (body : List Instr
     (v : MachineView) (f : Flags) (b : BodyState) (to first second : Slot) (o : Operation) (x y : ℕ)
     → Roomy p → IsLinked p k v.memory start body → number < length body
     → get_or body number instructions.Separator ≡ instructions.Compute to o first second
-    → x < 2 ^ 64 → y < 2 ^ 64 → HasOperands o x y v → sp_of v ≡ p.sp → FrameHolds p v.locals v.memory b
+    → x < 2 ^ 64 → y < 2 ^ 64 → HasOperands o x y v → sp_of v ≡ p.sp
+    → FrameHolds p v.locals v.memory b
     → Retried p (start + offset_of p.layout body (suc number)) to o v
     (start + offset_of p.layout body number + sizes (operands_code p.layout o first second)) f b
     (performed p.reserved o x y b.memory)

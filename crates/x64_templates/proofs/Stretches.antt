@@ -14,7 +14,8 @@ use Rattle.x64_templates.proofs.InstructionRuns.{body_instruction_run}
 
 -- ---- code stays where it is
 
-bytes_stay : (p : FramePlace) (l : LocalRegisters) (m m' : Memory) (b : BodyState) (at : ℕ) (bytes : List ℕ)
+bytes_stay : (p : FramePlace) (l : LocalRegisters) (m m' : Memory) (b : BodyState) (at : ℕ)
+    (bytes : List ℕ)
     → ChangesOwn p m m' → FrameHolds p l m b → ((a : ℕ) → at ≤ a → a < at + length bytes
     → p.reserved a ≡ true) → IsCodeAt m at bytes → IsCodeAt m' at bytes
 bytes_stay p l m m' b at [] c h own s = tt
@@ -30,7 +31,8 @@ bytes_stay p l m m' b at (x ∷ bytes) c h own s =
       bytes_stay p l m m' b (at + 1) bytes c h (λ a lo hi. own a (omega arith) (omega arith)) s.1,
     )
 
-pub code_stays : (p : FramePlace) (l : LocalRegisters) (m m' : Memory) (b : BodyState) (at : ℕ) (code : List Instr)
+pub code_stays : (p : FramePlace) (l : LocalRegisters) (m m' : Memory) (b : BodyState) (at : ℕ)
+    (code : List Instr)
     → ChangesOwn p m m' → FrameHolds p l m b → ((a : ℕ) → at ≤ a → a < at + sizes code
     → p.reserved a ≡ true) → HasCode m at code → HasCode m' at code
 code_stays p l m m' b at code c h own s =
@@ -111,14 +113,16 @@ made_then p m n v at f mid to b c g r =
       turns = m + r.turns;
       least = omega arith;
       most = omega arith;
-      follows = follows_then p m r.turns (machine v at f) mid to v.rest v.locals b c g.follows r.follows;
+      follows = follows_then p m r.turns (machine v at f) mid to v.rest v.locals b c g.follows
+          r.follows;
     }
 
 -- ---- the body
 
 abbrev Runs : FramePlace → Links → ℕ → List Instruction → ℕ → Type 0
 Runs p k start body n = (number : ℕ) (v : MachineView) (f : Flags) (b : BodyState) (last : ℕ)
-    (c : BodyState) → IsLinked p k v.memory start body → sp_of v ≡ p.sp → FrameHolds p v.locals v.memory b
+    (c : BodyState) → IsLinked p k v.memory start body → sp_of v ≡ p.sp
+    → FrameHolds p v.locals v.memory b
     → run p.reserved body n number b ≡ Some (last, c)
     → RunsAllTo p n (machine v (start + offset_of p.layout body number) f)
     (start + offset_of p.layout body last) v.rest v.locals c
@@ -150,7 +154,8 @@ after_line p k start body n number v f b last c instruction (Next d) rec l at h 
     let next : here + template_size y instruction
     ≡ start + offset_of y body (number + 1) = step_to (number + 1) (omega arith) in
     let turns = length (template k y here instruction) in
-    let g : RunsTo p turns (machine v here f) (start + offset_of y body (number + 1)) v.rest v.locals
+    let g : RunsTo p turns (machine v here f) (start + offset_of y body (number + 1)) v.rest
+    v.locals
     d = subst (λ a. RunsTo p turns (machine v here f) a v.rest v.locals d) next done in
     go turns g e
   where
@@ -174,8 +179,10 @@ after_line p k start body n number v f b last c instruction (Next d) rec l at h 
         (start + offset_of p.layout body (number + 1)) (start + offset_of p.layout body last) d c g
         (runs_alike p n (machine g.follows.after (start + offset_of p.layout body (number + 1))
         g.follows.flags) (start + offset_of p.layout body last) g.follows.after.rest v.rest
-        g.follows.after.locals c g.follows.rest (rec (number + 1) g.follows.after g.follows.flags d last c
-        (linked_stays p k v.locals v.memory g.follows.after.memory start body b g.follows.changes h l)
+        g.follows.after.locals c g.follows.rest (rec (number + 1) g.follows.after g.follows.flags d
+        last c
+        (linked_stays p k v.locals v.memory g.follows.after.memory start body b g.follows.changes h
+        l)
         (ap (λ (r : OtherRegisters). r.rsp) g.follows.rest ∙ at) g.follows.holds e))
 after_line p k start body n number v f b last c instruction (JumpsTo d label) rec l at h lt is done
     e =
@@ -193,7 +200,8 @@ after_line p k start body n number v f b last c instruction (JumpsTo d label) re
         (runs_alike p n (machine g.follows.after (start + offset_of p.layout body label)
         g.follows.flags) (start + offset_of p.layout body last) g.follows.after.rest v.rest
         g.follows.after.locals c g.follows.rest (rec label g.follows.after g.follows.flags d last c
-        (linked_stays p k v.locals v.memory g.follows.after.memory start body b g.follows.changes h l)
+        (linked_stays p k v.locals v.memory g.follows.after.memory start body b g.follows.changes h
+        l)
         (ap (λ (r : OtherRegisters). r.rsp) g.follows.rest ∙ at) g.follows.holds e))
 after_line p k start body n number v f b last c instruction (Faults code access) rec l at h lt is
     done e =

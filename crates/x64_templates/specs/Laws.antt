@@ -86,7 +86,8 @@ FaultsAreRetried =
     (to first second : Slot) (o : Operation) (x y : ℕ)
     → Roomy p → IsLinked p k v.memory start body → number < length body
     → get_or body number instructions.Separator ≡ instructions.Compute to o first second
-    → x < 2 ^ 64 → y < 2 ^ 64 → HasOperands o x y v → sp_of v ≡ p.sp → FrameHolds p v.locals v.memory b
+    → x < 2 ^ 64 → y < 2 ^ 64 → HasOperands o x y v → sp_of v ≡ p.sp
+    → FrameHolds p v.locals v.memory b
     → Retried p (start + offset_of p.layout body (suc number)) to o v
     (start + offset_of p.layout body number + sizes (operands_code p.layout o first second)) f b
     (performed p.reserved o x y b.memory)
@@ -119,7 +120,8 @@ ArgumentsAreKept =
     (p : FramePlace) (count : ℕ) (arguments : ℕ → ℕ) (v : MachineView) (rip : ℕ) (f : Flags)
     (b : BodyState)
     → Roomy p → IsFunctionFrame p → count ≤ p.counts.locals → sp_of v ≡ p.sp
-    → FrameHolds p v.locals v.memory b → InRegisters v arguments → OnStack p v.memory count arguments
+    → FrameHolds p v.locals v.memory b → InRegisters v arguments
+    → OnStack p v.memory count arguments
     → HasCode v.memory rip (parameters_code p.layout 0 count)
     → ReachesBody p (length (parameters_code p.layout 0 count)) (machine v rip f)
     (rip + sizes (parameters_code p.layout 0 count)) v.rest v.locals

@@ -86,7 +86,8 @@ ChangesOwn p old new = Changes p.layout p.counts p.reserved p.sp p.base old new
 abbrev pub IsThere : FramePlace → Slot → Type 0
 IsThere p x = IsSlot p.counts x
 
--- the run comes to this address, with this body in the frame and in the registers of its locals, and
+-- the run comes to this address, with this body in the frame and in the registers of its locals,
+-- and
 -- all other registers but RAX, RCX and RDX as they were
 pub record ReachesBody (p : FramePlace) (turns : ℕ) (s : State) (to : ℕ) (others : OtherRegisters)
     (same : LocalRegisters) (b : BodyState) : Type 0 where
