@@ -3,6 +3,8 @@ use Rattle.std.proofs.Common.{◌≡◌, ℕ, zero, suc, ◌+◌, ◌*◌, ◌<�
 use Rattle.std.specs.List.{AllByRecursion}
 use Rattle.image_link.specs.Words.{W32, Local, Instruction, FrameLayout, plan_of, Layout, spelled, size, sizes, template_size, AreNear, IsInstructionNear, IsNear, keep_base, code_room, LinearFunction, prologue_bytes, FitsFrame, RoutineView, function_facts, function_frame, framed, IsFrameNear, IsEntryNear, IsRoutineNear, SiteView, routine_bytes, routines_bytes, room, routine_room, routine_size, bounds, frame_code, base_of, argument_code, entry_code, entry_size}
 use Rattle.x64_instr.specs.declared.instruction.Instr.{Instr}
+use Rattle.seh_num.specs.declared.width.Width.TheVariants.{W64}
+use Rattle.x64_instr.specs.declared.register.Reg.{Reg}
 use Rattle.x64_instr.specs.declared.register.Reg.TheVariants.{Rax, Rcx, Rsp}
 use Rattle.frame_rules.specs.Bytes.{prologue_code}
 use Rattle.frame_layout.proofs.Frames.{registers_few}
@@ -11,7 +13,10 @@ use Rattle.frame_layout.proofs.Sizes.{run, prologue_taken, prologue_few}
 use Rattle.template_code.specs.Operations.{move}
 use Rattle.template_code.specs.Slots.{fetched, keep, local_at}
 use Rattle.template_code.specs.Jumps.{distance}
-use Rattle.template_code.specs.Calls.{keep_register, parameter_register, stack_parameter, parameter_code, parameters_code}
+use Rattle.template_code.specs.declared.layout.Place.{Place}
+use Rattle.template_code.specs.declared.layout.Place.TheVariants.{InRegister, InFrame}
+use Rattle.template_code.specs.Places.{place_of}
+use Rattle.template_code.specs.Calls.{parameter_placed, keep_register, parameter_register, stack_parameter, parameter_code, parameters_code}
 use Rattle.image_link.proofs.Lemmas.{sizes_append, sizes_spelled, instruction_in_room, code_in_room}
 use Rattle.template_code.proofs.Lengths.{sizes_small, keep_length}
 use Rattle.x64_emit.specs.Bodies.{label_list}
@@ -54,11 +59,21 @@ parameter_by : (y : Layout) (i : ℕ) (few : Bool)
 parameter_by y i true = omega arith
 parameter_by y i false = omega arith
 
+register_by : (y : Layout) (i : ℕ) (r : Reg) (few : Bool)
+    → length (cond few (move W64 r (parameter_register i) ∷ [])
+    (fetched r Rsp (stack_parameter y i) ∷ [])) ≤ 2
+register_by y i r true = omega arith
+register_by y i r false = omega arith
+
+parameter_few : (y : Layout) (i : ℕ) (p : Place) → length (parameter_placed y i p) ≤ 2
+parameter_few y i (InRegister r) = register_by y i r (ltb i 4)
+parameter_few y i InFrame = parameter_by y i (ltb i 4)
+
 parameters_small : (y : Layout) (i n : ℕ) → sizes (parameters_code y i n) ≤ 30 * n
 parameters_small y i zero = omega arith
 parameters_small y i (suc n) =
     let r = parameters_small y (i + 1) n in
-    let l : length (parameter_code y i) ≤ 2 = parameter_by y i (ltb i 4) in
+    let l : length (parameter_code y i) ≤ 2 = parameter_few y i (place_of y i) in
     omega (
       arith,
       sizes_append (parameter_code y i) (parameters_code y (i + 1) n),

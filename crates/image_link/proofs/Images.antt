@@ -1,4 +1,5 @@
 -- The image of routines that have room can be written.
+use Rattle.template_code.specs.declared.layout.TheConstants.{NO_REGISTERS}
 use Rattle.std.proofs.Common.{◌≡◌, ℕ, zero, suc, ◌+◌, ◌-◌, ◌*◌, ◌^◌, ◌<◌, ◌≤◌, ◌==◌, Bool, true, false, not, List, [], ◌∷◌, ◌++◌, length, get_or, take, drop, map, None, Result, Ok, Err, refl, sym, ap, subst, ◌∙◌, arith, length-append}
 use Rattle.std.specs.Prelude.{◌&&◌, IfOk}
 use Rattle.std.specs.List.{AllByRecursion}
@@ -182,6 +183,7 @@ no_routine = record {
     temporaries = 0;
     slots = 0;
     frame = 0;
+    registers = NO_REGISTERS;
   };
   body = record { locals = 0; temporaries = 0; passed = 0; code = []; regions = [] };
 }

@@ -1,4 +1,6 @@
 -- Each routine of a program that fits is near, and all of them have room.
+use Rattle.template_code.specs.declared.layout.Place.TheVariants.{InFrame}
+use Rattle.template_code.specs.Places.{place_of}
 use Rattle.std.proofs.Common.{◌≡◌, ℕ, suc, ◌+◌, ◌<◌, ◌≤◌, ◌==◌, Bool, true, false, not, List, [], ◌∷◌, ◌++◌, length, map, Option, Some, None, refl, ap, arith}
 use Rattle.std.specs.Prelude.{◌&&◌}
 use Rattle.std.specs.List.{AllByRecursion}
@@ -200,15 +202,43 @@ funclets_near p (f ∷ fs) fits all = (funclet_near p f fits all.0, funclets_nea
 
 -- ---- programs
 
-both_near : (a b : List RoutineView) → AllByRecursion IsRoutineNear a
-    → AllByRecursion IsRoutineNear b → AllByRecursion IsRoutineNear (a ++ b)
-both_near [] b p q = q
-both_near (r ∷ a) b p q = (p.0, both_near a b p.1 q)
+both : (P : RoutineView → Type 0) (a b : List RoutineView) → AllByRecursion P a
+    → AllByRecursion P b → AllByRecursion P (a ++ b)
+both P [] b p q = q
+both P (r ∷ a) b p q = (p.0, both P a b p.1 q)
 
 pub routines_near : (p : LinearProgram) → FitsProgram p → AllByRecursion IsRoutineNear (routines p)
-routines_near p fits = both_near (functions_from p.main 0 p.functions) (map (funclet p) p.funclets)
+routines_near p fits = both IsRoutineNear (functions_from p.main 0 p.functions) (map (funclet p)
+    p.funclets)
     (functions_near p.main 0 p.functions fits.functions)
     (funclets_near p p.funclets fits fits.funclets)
+
+-- ---- all locals stand in frames
+
+abbrev pub AreFramed : RoutineView → Type 0
+AreFramed r = (local : ℕ) → place_of r.layout local ≡ InFrame
+
+function_framed : (b : Bool) (f : LinearFunction) → AreFramed (leaf_if b f)
+function_framed true f = λ local. refl
+function_framed false f = λ local. refl
+
+functions_framed : (main index : ℕ) (fs : List LinearFunction)
+    → AllByRecursion AreFramed (functions_from main index fs)
+functions_framed main index [] = tt
+functions_framed main index (f ∷ fs) = (
+  function_framed (not (index == main) && is_leaf f.body) f,
+  functions_framed main (suc index) fs,
+)
+
+funclets_framed : (p : LinearProgram) (fs : List LinearFunclet)
+    → AllByRecursion AreFramed (map (funclet p) fs)
+funclets_framed p [] = tt
+funclets_framed p (f ∷ fs) = ((λ local. refl), funclets_framed p fs)
+
+pub routines_framed : (p : LinearProgram) → AllByRecursion AreFramed (routines p)
+routines_framed p = both AreFramed (functions_from p.main 0 p.functions)
+    (map (funclet p) p.funclets) (functions_framed p.main 0 p.functions)
+    (funclets_framed p p.funclets)
 
 -- ---- room
 

@@ -9,6 +9,7 @@ use Rattle.linear_code.specs.Program.{LinearBody, LinearFunction, LinearFunclet,
 use Rattle.frame_layout.specs.declared.frame.Facts.{Facts}
 use Rattle.frame_layout.specs.declared.frame.FrameLayout.{FrameLayout}
 use Rattle.frame_layout.specs.Layout.{frame_of}
+use Rattle.template_code.specs.declared.layout.TheConstants.{NO_REGISTERS}
 use Rattle.template_code.specs.declared.layout.Layout.{Layout}
 use Rattle.image_link.specs.declared.routine.Entry.{Entry}
 use Rattle.image_link.specs.declared.routine.Entry.TheVariants as entries
@@ -64,6 +65,7 @@ leaf_layout b =
       temporaries = 8 + 8 * b.locals;
       slots = 0;
       frame = 0;
+      registers = NO_REGISTERS;
     }
 
 abbrev pub function_layout : FrameLayout → Layout
@@ -75,6 +77,7 @@ function_layout f =
       temporaries = f.temporaries;
       slots = f.slots;
       frame = f.depth;
+      registers = NO_REGISTERS;
     }
 
 abbrev pub leaf : LinearFunction → RoutineView
@@ -164,6 +167,7 @@ funclet_layout function own =
       temporaries = own.temporaries;
       slots = own.slots;
       frame = own.depth;
+      registers = NO_REGISTERS;
     }
 
 abbrev pub funclet : LinearProgram → LinearFunclet → RoutineView

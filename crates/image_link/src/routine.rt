@@ -10,7 +10,7 @@ use linear_code::instruction::Instruction;
 use linear_code::program::{FuncletKind, IrBody, IrFunclet, IrFunction, IrProgram, Region};
 use std::alloc::{AllocError, Global};
 use std::marker::Model;
-use template_code::layout::Layout;
+use template_code::layout::{Layout, NO_REGISTERS};
 
 /// The words of the home space, which a leaf function uses for its slots.
 const HOME_WORDS: u64 = 4;
@@ -124,6 +124,7 @@ fn leaf<'a>(function: &'a IrFunction) -> Routine<'a>
             temporaries: 8 + 8 * function.body.locals,
             slots: 0,
             frame: 0,
+            registers: NO_REGISTERS,
         },
         body: &function.body,
     }
@@ -160,6 +161,7 @@ fn framed<'a>(function: &'a IrFunction) -> Routine<'a>
             temporaries: frame.temporaries,
             slots: frame.slots,
             frame: frame.depth,
+            registers: NO_REGISTERS,
         },
         body: &function.body,
     }
@@ -230,6 +232,7 @@ fn funclet_routine<'a>(program: &IrProgram, funclet: &'a IrFunclet) -> Routine<'
             temporaries: own.temporaries,
             slots: own.slots,
             frame: own.depth,
+            registers: NO_REGISTERS,
         },
         body: &funclet.body,
     }

@@ -114,7 +114,8 @@ module _ (t : Functions) (fs : List Funclet) (program : LinearProgram) (p : Imag
       let n = l.few in
       let fits = h.fits in
       let few = h.few in (
-        parameters_plain layout.slots layout.frame 40 layout 0 fn.parameters (omega arith)
+        parameters_plain layout.slots layout.frame 40 layout 0 fn.parameters
+            (image.in_frames (FunctionBody f)) (omega arith)
             (omega arith) (λ j lt. inr (omega arith, omega arith)),
         omega arith,
       )
@@ -124,7 +125,8 @@ module _ (t : Functions) (fs : List Funclet) (program : LinearProgram) (p : Imag
       let z = l.small in
       let fits = h.fits in
       let few = h.few in (
-        parameters_plain layout.slots layout.frame 40 layout 0 fn.parameters (omega arith)
+        parameters_plain layout.slots layout.frame 40 layout 0 fn.parameters
+            (image.in_frames (FunctionBody f)) (omega arith)
             (omega arith) (λ j lt. inl (omega arith)),
         l.small,
       )

@@ -69,7 +69,7 @@ module _ (t : Functions) (fs : List Funclet) (program : LinearProgram) (p : Imag
       (entering.view_stack t fs program p q image s source f fn top arguments h)
       h.registers in
       entering.entered t fs program p q image s source f fn top arguments h top target 0 made
-      (with_home layout)
+      (with_home layout) (image.in_frames (FunctionBody f))
       (record {
         none = l.none;
         low = omega arith;
@@ -162,7 +162,7 @@ module _ (t : Functions) (fs : List Funclet) (program : LinearProgram) (p : Imag
         let k = l.small in
         entering.entered t fs program p q image s source f fn top arguments h sp
         (target + sizes (making_frame p q f false)) (prologue_turns plan) made layout
-        (record {
+        (image.in_frames (FunctionBody f)) (record {
           none = l.none;
           low = omega arith;
           temporaries = omega arith;

@@ -1,6 +1,6 @@
 -- A function with at most four parameters is entered from its first byte: once its frame is made,
 -- the parameters go to their locals.
-use Rattle.std.proofs.Common.{◌≡◌, ℕ, ◌+◌, ◌*◌, ◌^◌, ◌<◌, ◌≤◌, true, Some, List, length, sym, ap, subst, ◌∙◌, arith, inl, inr}
+use Rattle.std.proofs.Common.{◌≡◌, ℕ, ◌+◌, ◌*◌, ◌^◌, ◌<◌, ◌≤◌, true, Some, List, length, sym, ap, subst, ◌∙◌, arith, inl, inr, refl}
 use Rattle.std.specs.Prelude.{◌⊎◌, slice_get}
 use Rattle.image_runs.specs.Words.{STACK_START, STACK_END, Memory, number_at, may_write, Protection, Rsp, State, register, Functions, Funclet, Local, LinearProgram, LinearBody, LinearFunction, FunctionBody, body_of, function_body, Layout, sizes, spelled, parameters_code, stack_parameter, MachineView, InRegisters, with_arguments, OnStack, IsFunctionFrame, body_in_memory, HasCode, Enters, ReachesBody, ImagePlan, Sites, arguments_code, IsMachineMemory, IsProgramImage, OtherRegisters, seen_by_templates, counts_of, LARGEST_FRAME, is_reserved, machine}
 use Rattle.flat_memory.specs.Protections.{is_writable}
@@ -8,6 +8,15 @@ use Rattle.x64_templates.specs.CallStates.{sp_of}
 use Rattle.match_bodies.specs.CodeSites.{body_plan, making_size}
 use Rattle.seh_records.specs.Laws.{AllSmall}
 use Rattle.x64_templates.specs.Frames.{InTemporaries, InLocals, IsBytes, Agrees}
+use Rattle.x64_instr.specs.declared.register.Reg.{Reg}
+use Rattle.template_code.specs.declared.layout.Place.TheVariants.{InFrame}
+use Rattle.template_code.specs.Places.{place_of}
+use Rattle.x64_templates.specs.Straight.{registers_of}
+use Rattle.x64_templates.specs.Locals.{local_in}
+use Rattle.x64_templates.specs.Frames.{number_placed}
+use Rattle.match_bodies.proofs.BodyViews.{locals_small}
+use Rattle.x64_templates.proofs.PrologueParts.{registers_are}
+use Rattle.match_bodies.proofs.ChainKeeping.{all_are, are_all}
 use Rattle.image_runs.proofs.Lemmas.{bytes_kept, enters_then, making_steps, stack_is_reserved, Keeps, enters_keeps, own_frame, IsOwn, roomy_own, fresh_own, parameters_soon, argument_is, Made}
 use Rattle.x64_templates.proofs.Ranges.{within_agrees}
 use Rattle.x64_templates.proofs.Entering.{fresh_holds, parameters_run}
@@ -23,6 +32,7 @@ pub record IsCalled (t : Functions) (fs : List Funclet) (program : LinearProgram
   pub low : STACK_START + 16384 ≤ top
   pub high : top + 40 ≤ STACK_END
   pub count : length s.cpu.registers ≡ 16
+  pub numbers : AllSmall s.cpu.registers
   pub few : fn.parameters ≤ 4
   pub fits : fn.parameters ≤ fn.body.locals
   pub registers : InRegisters (seen_by_templates s) arguments
@@ -83,7 +93,8 @@ module _ (t : Functions) (fs : List Funclet) (program : LinearProgram) (p : Imag
   -- ---- once the frame is made, the parameters
 
   module _ (sp to n : ℕ) (made : Made view target to s.cpu.flags top sp arguments n) (y : Layout)
-      (own : IsOwn program.globals y o sp) (whole : IsFunctionFrame
+      (framed : (i : ℕ) → place_of y i ≡ InFrame) (own : IsOwn program.globals y o sp) (whole :
+      IsFunctionFrame
       (own_frame program.globals y o sp)) (same_locals : y.locals ≡ layout.locals)
       (short : y.frame + 8 ≤ LARGEST_FRAME)
       (place : sp + layout.frame ≡ top) (code : HasCode s.memory to (parameters_code y 0 count))
@@ -102,6 +113,11 @@ module _ (t : Functions) (fs : List Funclet) (program : LinearProgram) (p : Imag
 
     made_bytes : IsBytes made.after.memory
     made_bytes = made.within.bytes h.memory.data_alone.bytes
+
+    made_small : (r : Reg) → local_in made.after.locals r < 2 ^ 64
+    made_small = locals_small (registers_of made.after) refl (are_all (registers_of made.after)
+        (made_keeps.small (all_are (registers_of view)
+        (subst AllSmall (registers_are s.cpu.registers h.count) h.numbers))))
 
     made_agrees : Agrees (is_reserved program.globals) made.after.memory source
     made_agrees =
@@ -128,16 +144,19 @@ module _ (t : Functions) (fs : List Funclet) (program : LinearProgram) (p : Imag
     run : ReachesBody (own_frame program.globals y o sp) (length (parameters_code y 0 count)) k
         (to + sizes (parameters_code y 0 count)) made.after.rest made.after.locals
         (record {
-          slots = with_arguments (body_in_memory y sp sp made.after.memory source).slots
+          slots = with_arguments (body_in_memory y sp sp made.after.locals made.after.memory
+              source).slots
               arguments 0 count;
           memory = source;
         })
     run =
         parameters_run (own_frame program.globals y o sp) count arguments made.after to made.flags
-        (body_in_memory y sp sp made.after.memory source) (roomy_own program.globals y o sp own)
+        (body_in_memory y sp sp made.after.locals made.after.memory source) (roomy_own
+        program.globals y o sp own)
         whole h.fits made.stack
-        (fresh_holds (own_frame program.globals y o sp) made.after.memory source
-        (fresh_own program.globals y o sp made.after.memory source own made_bytes made_may
+        (fresh_holds (own_frame program.globals y o sp) made.after.locals made.after.memory source
+        (fresh_own program.globals y o sp made.after.locals made.after.memory source own made_small
+        made_bytes made_may
         made_agrees)) made.registers stack_arguments
         (record {
           is_there = bytes_kept s.memory made.after.memory to
@@ -168,8 +187,10 @@ module _ (t : Functions) (fs : List Funclet) (program : LinearProgram) (p : Imag
           locals = λ i lt. (let fits = h.fits in
               let w : sp + (layout.locals + 8 * i) ≡ sp + (y.locals + 8 * i) = omega arith in
               ap (number_at run.after.memory.byte 8) w
+              ∙ sym (ap (number_placed y sp run.after.locals run.after.memory i) (framed i))
               ∙ run.holds.slot (Local i) (let z : i < o.locals = omega arith in z)
-              ∙ argument_is (body_in_memory y sp sp made.after.memory source).slots arguments 0
+              ∙ argument_is (body_in_memory y sp sp made.after.locals made.after.memory
+              source).slots arguments 0
               count i (omega arith) (omega arith));
           bytes = run.changes.bytes made_bytes;
           agrees = run.holds.source;

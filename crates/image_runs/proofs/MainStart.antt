@@ -104,6 +104,7 @@ module _ (t : Functions) (fs : List Funclet) (program : LinearProgram) (p : Imag
     low = omega arith;
     high = omega arith;
     count = well_formed.count;
+    numbers = well_formed.small;
     few = omega (arith, few);
     fits = made.whole.parameters program.main main is_main;
     registers = subst (λ (c : Cpu). InRegisters

@@ -17,6 +17,10 @@ use Rattle.image_tables.specs.Entries as tables
 use Rattle.image_tables.specs.CodeInMemory.{image_base, template_at, links}
 use Rattle.image_tables.proofs.CodeInMemory.{executable_split, code_split, IsThere, template_there}
 use Rattle.image_tables.proofs.BodyInstructions.{AllInner, inner_at, fetch_inner}
+use Rattle.template_code.specs.declared.layout.Place.{Place}
+use Rattle.template_code.specs.declared.layout.Place.TheVariants.{InRegister, InFrame}
+use Rattle.template_code.specs.Places.{place_of}
+use Rattle.template_code.specs.Slots.{fetch_placed}
 use Rattle.image_tables.proofs.Layouts.{size_of, sized, slots_of, slots_placed}
 use Rattle.image_tables.proofs.BodyFrames.{near_at, HasItem, frame_at, leaf_at}
 use Rattle.image_runs.proofs.Lemmas.{template_some, IsSome}
@@ -30,9 +34,13 @@ local_some : (o : Option ℕ) (d : ℕ) → IsSome (fetch_local o Rax d)
 local_some None d = record { item = _; left = []; parts = refl }
 local_some (Some b) d = record { item = _; left = _; parts = refl }
 
+placed_some : (y : Layout) (i : ℕ) (p : Place) → IsSome (fetch_placed y Rax i p)
+placed_some y i (InRegister r) = record { item = _; left = []; parts = refl }
+placed_some y i InFrame = local_some y.base (local_at y i)
+
 fetch_some : (y : Layout) (from : Slot) → IsSome (fetch y Rax from)
 fetch_some y (Temporary i) = record { item = _; left = []; parts = refl }
-fetch_some y (Local i) = local_some y.base (local_at y i)
+fetch_some y (Local i) = placed_some y i (place_of y i)
 
 module _ (p : LinearProgram) (m : Memory) (x : Placed) (number : ℕ) (from : Slot)
     (code : IsExecutableAt m (image_base + x.begin)

@@ -238,7 +238,8 @@ module _ (program : LinearProgram) (c : HasWholeImage program) (name : BodyName)
   module _ (done left : List Instr) (item : Instr) (parts : arguments ≡ done ++ (item ∷ left)) where
     item_inner : Inner item
     item_inner = inner_at done left item (subst AllInner parts
-        (arguments_inner y x.routine.entry (here program c name b is).near.entry))
+        (arguments_inner y x.routine.entry (here program c name b is).framed
+        (here program c name b is).near.entry))
 
     abbrev pub argument_at : ℕ
     argument_at = begin + (sizes making + sizes done)

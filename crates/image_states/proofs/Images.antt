@@ -2,6 +2,7 @@
 use Rattle.std.proofs.Common.{◌≡◌, ℕ, ◌+◌, ◌<◌, length, Some, refl, sym, ap, subst, ◌∙◌, arith}
 use Rattle.std.proofs.lemmas.Bool.{lt-ltb, ltb-true}
 use Rattle.image_states.specs.Words.{LinearBody, LinearProgram, BodyName, body_of, sizes, body_size, offset_of, Placed, end_of, image_base, begin_of, entry_code, functions_of, funclets_of, routine_of, address_of, plan_of, sites_of, HasWholeImage, HasAddresses, ImagesArePrograms, probe_begin}
+use Rattle.image_states.proofs.Framing.{all_framed}
 use Rattle.image_states.proofs.Lemmas.{entry_sizes}
 use Rattle.image_states.proofs.Addresses.{InImage, check_stack_inside, place, here, label_rises, body_inside, not_first, no_funclet_inside}
 use Rattle.image_states.proofs.Slots.{laid_out}
@@ -75,6 +76,7 @@ images_are_programs program c = record {
   addresses = λ name b is. addresses program c name b is;
   check_stack = check_stack_inside program c;
   no_registers = λ name local. refl;
+  in_frames = all_framed program;
   lands = λ name b label is lt. lt-ltb label (length (routine_of program name).routine.body.code)
       (let e = same_length program c name b is in omega arith);
   landings = λ name b label is l. (let lt = ltb-true label

@@ -15,6 +15,7 @@ pub mod Inserting
 pub mod Funclets
 pub mod Giving
 pub mod Resuming
+mod Framing
 pub mod Images
 pub mod Leaves
 pub mod Sections

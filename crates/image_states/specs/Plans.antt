@@ -39,6 +39,7 @@ use Rattle.image_tables.specs.CodeInMemory.{image_base, template_at}
 use Rattle.image_tables.specs.RegionRows.{funclet_begin}
 use Rattle.match_stack.specs.ImagePlan.{ImagePlan}
 use Rattle.match_bodies.specs.CodeSites.{Sites}
+use Rattle.template_code.specs.declared.layout.TheConstants.{NO_REGISTERS}
 use Rattle.match_bodies.specs.ProgramImages.{view_of}
 
 -- ---- the function table, and the funclets that it names
@@ -55,7 +56,15 @@ funclets_of program = funclets (tables.entries program)
 
 abbrev pub no_layout : Layout
 no_layout =
-    record { base = None; pointers = 0; locals = 0; temporaries = 0; slots = 0; frame = 0 }
+    record {
+      base = None;
+      pointers = 0;
+      locals = 0;
+      temporaries = 0;
+      slots = 0;
+      frame = 0;
+      registers = NO_REGISTERS;
+    }
 
 abbrev pub nowhere : Placed
 nowhere =

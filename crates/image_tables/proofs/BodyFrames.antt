@@ -87,7 +87,8 @@ item_there p x rva fits h b =
     let whole = ap sizes b.parts in
     let near = near_at (IsInstructionNear y) r.body.code b.number b.instruction h.near.code
     b.there in
-    let all = template_inner k y (template_at x b.number) b.instruction (links_near p x fits h) near
+    let all = template_inner k y (template_at x b.number) b.instruction (links_near p x fits h)
+    h.framed near
     (omega arith) b.continues in
     let inner : Inner b.item = inner_at b.done b.left b.item (subst AllInner b.parts all) in
     let some = size_some b.item inner in

@@ -1,6 +1,6 @@
 -- Instructions of a body: each has a spelling, keeps RSP and the nonvolatile registers, and begins
 -- no epilogue.
-use Rattle.std.proofs.Common.{◌≡◌, ◌≢◌, ℕ, ◌^◌, Bool, true, false, not, ◌&&◌, ◌||◌, eqb, List, [], ◌∷◌, ◌++◌, Option, Some, None, refl, sym, ap, ◌∙◌, arith, inl, inr}
+use Rattle.std.proofs.Common.{◌≡◌, ◌≢◌, ℕ, ◌^◌, Bool, true, false, not, ◌&&◌, ◌||◌, eqb, List, [], ◌∷◌, ◌++◌, Option, Some, None, refl, sym, ap, ◌∙◌, arith, inl, inr, subst}
 use Rattle.std.proofs.lemmas.Bool.{lt-ltb, false≢true, cases_eq, and_parts, and_from, or_left, or_right, or_cases, not-true, eq-eqb, ne_eqb, not_from_false}
 use Rattle.image_tables.specs.Words.{W32, low, Rax, Rcx, Rsp, Instr, is_encodable, UnwindOperation, Other, role_of, written, may_write_all, Slot, Local, Temporary, Layout, before, work, temporary_at, local_at, fetch_local, keep_local, fetch, keep, IsNear, W8, W16, W64, is_signed, compare, extended, pure_code, high_half, IsBaseNear, IsSlotNear}
 use Rattle.seh_num.specs.declared.width.Width.{Width}
@@ -16,6 +16,10 @@ use Rattle.c_operations.specs.declared.operation.Signedness.TheVariants.{Unsigne
 use Rattle.c_operations.specs.declared.operation.Relation.{Relation}
 use Rattle.c_operations.specs.declared.operation.Relation.TheVariants as relations
 use Rattle.c_operations.specs.declared.operation.Pure.{Pure}
+use Rattle.template_code.specs.declared.layout.Place.{Place}
+use Rattle.template_code.specs.declared.layout.Place.TheVariants.{InRegister, InFrame}
+use Rattle.template_code.specs.Places.{place_of}
+use Rattle.template_code.specs.Slots.{fetch_placed, keep_placed}
 use Rattle.c_operations.specs.declared.operation.Pure.TheVariants as pures
 use Rattle.c_operations.specs.declared.operation.Operation.{Operation}
 use Rattle.c_operations.specs.declared.operation.Operation.TheVariants as operations
@@ -98,17 +102,38 @@ keep_local_inner (Some b) d near lt = (
   ((signed d lt, (λ b. refl), (λ o. refl)), tt),
 )
 
+fetch_placed_inner : (y : Layout) (i : ℕ) (p : Place) → IsBaseNear y.base → IsNear (local_at y i)
+    → AllInner (fetch_placed y Rax i p) × AllInner (fetch_placed y Rcx i p)
+fetch_placed_inner y i (InRegister r) near lt = (
+  ((refl, (λ b. refl), (λ o. refl)), tt),
+  ((refl, (λ b. refl), (λ o. refl)), tt),
+)
+fetch_placed_inner y i InFrame near lt = fetch_local_inner y.base (local_at y i) near lt
+
 pub fetch_inner : (y : Layout) (x : Slot) → IsSlotNear y x → AllInner (fetch y Rax x)
 fetch_inner y (Temporary i) near = ((signed (temporary_at y i) near, (λ b. refl), (λ o. refl)), tt)
-fetch_inner y (Local i) near = (fetch_local_inner y.base (local_at y i) near.1 near.0).0
+fetch_inner y (Local i) near = (fetch_placed_inner y i (place_of y i) near.1 near.0).0
 
 pub fetch_second : (y : Layout) (x : Slot) → IsSlotNear y x → AllInner (fetch y Rcx x)
 fetch_second y (Temporary i) near = ((signed (temporary_at y i) near, (λ b. refl), (λ o. refl)), tt)
-fetch_second y (Local i) near = (fetch_local_inner y.base (local_at y i) near.1 near.0).1
+fetch_second y (Local i) near = (fetch_placed_inner y i (place_of y i) near.1 near.0).1
 
-pub keep_inner : (y : Layout) (x : Slot) → IsSlotNear y x → AllInner (keep y x)
-keep_inner y (Temporary i) near = ((signed (temporary_at y i) near, (λ b. refl), (λ o. refl)), tt)
-keep_inner y (Local i) near = keep_local_inner y.base (local_at y i) near.1 near.0
+-- all locals stand in the frame
+abbrev pub IsFramed : Layout → Type 0
+IsFramed y = (i : ℕ) → place_of y i ≡ InFrame
+
+pub keep_inner : (y : Layout) (x : Slot) → IsFramed y → IsSlotNear y x → AllInner (keep y x)
+keep_inner y (Temporary i) framed near = (
+  (
+    signed (temporary_at y i) near,
+    (λ b. refl),
+    (λ o.
+        refl),
+  ),
+  tt,
+)
+keep_inner y (Local i) framed near = subst (λ p. AllInner (keep_placed y i p)) (sym (framed i))
+    (keep_local_inner y.base (local_at y i) near.1 near.0)
 
 -- ---- operations
 

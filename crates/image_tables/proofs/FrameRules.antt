@@ -31,9 +31,9 @@ rest_fine p x q is_plan ends fits h =
     fine_both q is_plan (argument_code r.layout r.entry)
     (code_from (links p x) r.layout (body_begin x) r.body.code)
     (fine_inner q is_plan (argument_code r.layout r.entry)
-    (arguments_inner r.layout r.entry h.near.entry))
+    (arguments_inner r.layout r.entry h.framed h.near.entry))
     (body_fine q is_plan (links p x) r.layout (body_begin x) r.body.code ends
-    (links_near p x fits h) h.near.code (omega arith))
+    (links_near p x fits h) h.framed h.near.code (omega arith))
 
 -- that of a leaf function
 pub leaf_fine : (p : LinearProgram) (index : ℕ) (x : Placed) → FitsProgram p

@@ -1,5 +1,13 @@
 -- Where the instructions of a body begin: each takes some bytes.
 use Rattle.std.proofs.Common.{ℕ, zero, suc, ◌+◌, ◌<◌, ◌≤◌, List, [], ◌∷◌, ◌++◌, length, Option, Some, None, arith}
+use Rattle.x64_emit.proofs.Rooms.{copied_size}
+use Rattle.seh_num.specs.declared.width.Width.TheVariants.{W64}
+use Rattle.x64_instr.specs.declared.register.Reg.{Reg}
+use Rattle.template_code.specs.Operations.{move}
+use Rattle.template_code.specs.declared.layout.Place.{Place}
+use Rattle.template_code.specs.declared.layout.Place.TheVariants.{InRegister, InFrame}
+use Rattle.template_code.specs.Places.{place_of}
+use Rattle.template_code.specs.Slots.{fetch_placed, keep_placed}
 use Rattle.image_tables.specs.Words.{Rax, Rcx, Rsp, modrm, opcode_register, Slot, Local, Temporary, Instruction, Layout, size, sizes, before, fetched, temporary_at, local_at, fetch_local, keep_local, fetch, keep, operands_code, finish_code, compare_zero, jump_equal, test_code, finally_arguments, template_size, body_size, label_list, address_or, put_back, separator_code, clear_result}
 use Rattle.linear_code.specs.declared.instruction.Instruction.TheVariants as instructions
 use Rattle.frame_rules.specs.Plan.{epilogue}
@@ -24,17 +32,28 @@ fetch_local_some : (o : Option ℕ) (d : ℕ) → 0 < sizes (fetch_local o Rax d
 fetch_local_some None d = let s = fetched_rax d in omega arith
 fetch_local_some (Some b) d = let s = fetched_rax b in omega arith
 
+move_some : (to from : Reg) → 0 < size (move W64 to from)
+move_some to from = let s = copied_size to from in omega arith
+
+fetch_placed_some : (y : Layout) (i : ℕ) (p : Place) → 0 < sizes (fetch_placed y Rax i p)
+fetch_placed_some y i (InRegister r) = let s = move_some Rax r in omega arith
+fetch_placed_some y i InFrame = fetch_local_some y.base (local_at y i)
+
 fetch_some : (y : Layout) (x : Slot) → 0 < sizes (fetch y Rax x)
 fetch_some y (Temporary i) = let s = fetched_rax (temporary_at y i) in omega arith
-fetch_some y (Local i) = fetch_local_some y.base (local_at y i)
+fetch_some y (Local i) = fetch_placed_some y i (place_of y i)
 
 keep_local_some : (o : Option ℕ) (d : ℕ) → 0 < sizes (keep_local o d)
 keep_local_some None d = let s = put_back_some d in omega arith
 keep_local_some (Some b) d = let s = fetched_rcx b in omega arith
 
+keep_placed_some : (y : Layout) (i : ℕ) (p : Place) → 0 < sizes (keep_placed y i p)
+keep_placed_some y i (InRegister r) = let s = move_some r Rax in omega arith
+keep_placed_some y i InFrame = keep_local_some y.base (local_at y i)
+
 keep_some : (y : Layout) (x : Slot) → 0 < sizes (keep y x)
 keep_some y (Temporary i) = let s = put_back_some (temporary_at y i) in omega arith
-keep_some y (Local i) = keep_local_some y.base (local_at y i)
+keep_some y (Local i) = keep_placed_some y i (place_of y i)
 
 clear_some : 0 < size clear_result
 unfolding size modrm opcode_register

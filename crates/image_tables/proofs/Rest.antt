@@ -13,7 +13,7 @@ use Rattle.image_tables.proofs.Lemmas.{spells_all, plans_are_encodable, inner_fo
 use Rattle.linear_code.specs.declared.instruction.Instruction.TheVariants as instructions
 use Rattle.template_code.specs.Frames.{plan_of_layout}
 use Rattle.x64_emit.specs.Rooms.{code_room}
-use Rattle.image_tables.proofs.BodyInstructions.{Inner, AllInner, inner_role, inner_writes, fetch_inner}
+use Rattle.image_tables.proofs.BodyInstructions.{Inner, AllInner, inner_role, inner_writes, fetch_inner, IsFramed}
 use Rattle.image_tables.proofs.Templates.{AreLinksNear, template_inner}
 
 -- ---- inner instructions
@@ -115,36 +115,41 @@ module _ (p : FramePlan) (is_plan : IsPlan p) where
       })
 
   template_fine : (k : Links) (y : Layout) (at : ℕ) (i : Instruction) → EndsByPlan y
-      → AreLinksNear k
-      → IsInstructionNear y i → at + 256 < 2 ^ 31 → IsFine (template k y at i)
-  template_fine k y at (instructions.Return from) e links near lt = return_fine y from e near
-  template_fine k y at (instructions.Compute to o first second) e links near lt = fine_inner _
-      (template_inner k y at (instructions.Compute to o first second) links near lt (λ h. h))
-  template_fine k y at (instructions.Information to field) e links near lt = fine_inner _
-      (template_inner k y at (instructions.Information to field) links near lt (λ h. h))
-  template_fine k y at (instructions.Landing to) e links near lt = fine_inner _
-      (template_inner k y at (instructions.Landing to) links near lt (λ h. h))
-  template_fine k y at (instructions.Jump label) e links near lt = fine_inner _
-      (template_inner k y at (instructions.Jump label) links near lt (λ h. h))
-  template_fine k y at (instructions.JumpIfZero slot label) e links near lt = fine_inner _
-      (template_inner k y at (instructions.JumpIfZero slot label) links near lt (λ h. h))
-  template_fine k y at (instructions.Call function first count) e links near lt = fine_inner _
-      (template_inner k y at (instructions.Call function first count) links near lt (λ h. h))
-  template_fine k y at (instructions.CallBuiltIn function first) e links near lt = fine_inner _
-      (template_inner k y at (instructions.CallBuiltIn function first) links near lt (λ h. h))
-  template_fine k y at (instructions.CallFinally funclet) e links near lt = fine_inner _
-      (template_inner k y at (instructions.CallFinally funclet) links near lt (λ h. h))
-  template_fine k y at (instructions.LocalUnwind label) e links near lt = fine_inner _
-      (template_inner k y at (instructions.LocalUnwind label) links near lt (λ h. h))
-  template_fine k y at instructions.Separator e links near lt = fine_inner _
-      (template_inner k y at instructions.Separator links near lt (λ h. h))
+      → AreLinksNear k → IsFramed y → IsInstructionNear y i
+      → at + 256 < 2 ^ 31 → IsFine (template k y at i)
+  template_fine k y at (instructions.Return from) e links framed near lt = return_fine y from e near
+  template_fine k y at (instructions.Compute to o first second) e links framed near lt =
+      fine_inner _
+      (template_inner k y at (instructions.Compute to o first second) links framed near lt (λ h. h))
+  template_fine k y at (instructions.Information to field) e links framed near lt = fine_inner _
+      (template_inner k y at (instructions.Information to field) links framed near lt (λ h. h))
+  template_fine k y at (instructions.Landing to) e links framed near lt = fine_inner _
+      (template_inner k y at (instructions.Landing to) links framed near lt (λ h. h))
+  template_fine k y at (instructions.Jump label) e links framed near lt = fine_inner _
+      (template_inner k y at (instructions.Jump label) links framed near lt (λ h. h))
+  template_fine k y at (instructions.JumpIfZero slot label) e links framed near lt = fine_inner _
+      (template_inner k y at (instructions.JumpIfZero slot label) links framed near lt (λ h. h))
+  template_fine k y at (instructions.Call function first count) e links framed near lt =
+      fine_inner _
+      (template_inner k y at (instructions.Call function first count) links framed near lt (λ h. h))
+  template_fine k y at (instructions.CallBuiltIn function first) e links framed near lt =
+      fine_inner _
+      (template_inner k y at (instructions.CallBuiltIn function first) links framed near lt
+      (λ h. h))
+  template_fine k y at (instructions.CallFinally funclet) e links framed near lt = fine_inner _
+      (template_inner k y at (instructions.CallFinally funclet) links framed near lt (λ h. h))
+  template_fine k y at (instructions.LocalUnwind label) e links framed near lt = fine_inner _
+      (template_inner k y at (instructions.LocalUnwind label) links framed near lt (λ h. h))
+  template_fine k y at instructions.Separator e links framed near lt = fine_inner _
+      (template_inner k y at instructions.Separator links framed near lt (λ h. h))
 
   pub body_fine : (k : Links) (y : Layout) (at : ℕ) (is : List Instruction) → EndsByPlan y
-      → AreLinksNear k → AllByRecursion (IsInstructionNear y) is → at + code_room is + 256 < 2 ^ 31
+      → AreLinksNear k → IsFramed y → AllByRecursion (IsInstructionNear y) is
+      → at + code_room is + 256 < 2 ^ 31
       → IsFine (code_from k y at is)
-  body_fine k y at [] e links near lt = record { leads = λ rs. (rs, refl); encodable = refl }
-  body_fine k y at (i ∷ is) e links near lt =
+  body_fine k y at [] e links framed near lt = record { leads = λ rs. (rs, refl); encodable = refl }
+  body_fine k y at (i ∷ is) e links framed near lt =
       let small = instruction_in_room y i near.0 in
       fine_both (template k y at i) (code_from k y (at + template_size y i) is)
-      (template_fine k y at i e links near.0 (omega arith))
-      (body_fine k y (at + template_size y i) is e links near.1 (omega arith))
+      (template_fine k y at i e links framed near.0 (omega arith))
+      (body_fine k y (at + template_size y i) is e links framed near.1 (omega arith))

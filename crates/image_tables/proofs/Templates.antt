@@ -5,7 +5,7 @@ use Rattle.c_operations.specs.declared.field.Field.{Field}
 use Rattle.c_operations.specs.declared.field.Field.TheVariants.{ExceptionCode, ExceptionFlags, NumberParameters, ExceptionInformation}
 use Rattle.linear_code.specs.declared.instruction.Instruction.TheVariants as instructions
 use Rattle.image_tables.proofs.Lemmas.{near_signed, test_small, arguments_small, passing_small}
-use Rattle.image_tables.proofs.BodyInstructions.{AllInner, inner_both, signed, fetch_inner, fetch_second, keep_inner, before_inner, work_inner}
+use Rattle.image_tables.proofs.BodyInstructions.{IsFramed, AllInner, inner_both, signed, fetch_inner, fetch_second, keep_inner, before_inner, work_inner}
 
 -- what code refers to is in the image
 pub record AreLinksNear (k : Links) : Type 0 where
@@ -56,7 +56,7 @@ call_inner y first at to lt here near =
       ),
       tt,
     ))
-    (keep_inner y (Temporary first) (omega arith))
+    ((signed (temporary_at y first) (omega arith), (λ b. refl), (λ o. refl)), tt)
 
 -- ---- what a filter reads
 
@@ -81,19 +81,21 @@ finally_near at lt = omega arith
 -- ---- all
 
 pub template_inner : (k : Links) (y : Layout) (at : ℕ) (i : Instruction) → AreLinksNear k
-    → IsInstructionNear y i → at + 256 < 2 ^ 31 → (IsReturn i → ⊥) → AllInner (template k y at i)
-template_inner k y at (instructions.Compute to o first second) links near here goes =
+    → IsFramed y → IsInstructionNear y i → at + 256 < 2 ^ 31 → (IsReturn i → ⊥)
+    → AllInner (template k y at i)
+template_inner k y at (instructions.Compute to o first second) links framed near here goes =
     inner_both (operands_code y o first second) (finish_code y o to)
     (inner_both (fetch y Rax first) (fetch y Rcx second ++ before o) (fetch_inner y first near.1)
     (inner_both (fetch y Rcx second) (before o) (fetch_second y second near.2) (before_inner o)))
-    (inner_both (work o) (keep y to) (work_inner o) (keep_inner y to near.0))
-template_inner k y at (instructions.Information to field) links near here goes =
+    (inner_both (work o) (keep y to) (work_inner o) (keep_inner y to framed near.0))
+template_inner k y at (instructions.Information to field) links framed near here goes =
     let load = field_inner field near.2 in (
       (signed y.pointers near.1, (λ b. refl), (λ o. refl)),
-      ((refl, (λ b. refl), (λ o. refl)), (load.0, keep_inner y to near.0)),
+      ((refl, (λ b. refl), (λ o. refl)), (load.0, keep_inner y to framed near.0)),
     )
-template_inner k y at (instructions.Landing to) links near here goes = keep_inner y to near
-template_inner k y at (instructions.Jump label) links near here goes = (
+template_inner k y at (instructions.Landing to) links framed near here goes = keep_inner y to
+    framed near
+template_inner k y at (instructions.Jump label) links framed near here goes = (
   (
     near_signed (at + 5) (k.label label) (omega arith) (links.label label),
     (λ b. refl),
@@ -101,7 +103,7 @@ template_inner k y at (instructions.Jump label) links near here goes = (
   ),
   tt,
 )
-template_inner k y at (instructions.JumpIfZero slot label) links near here goes =
+template_inner k y at (instructions.JumpIfZero slot label) links framed near here goes =
     let small = test_small y slot in
     inner_both (fetch y Rax slot) (compare_zero
     ∷ jump_equal (at + sizes (test_code y slot) + 6) (k.label label) ∷ [])
@@ -117,7 +119,7 @@ template_inner k y at (instructions.JumpIfZero slot label) links near here goes 
         tt,
       ),
     )
-template_inner k y at (instructions.Call function first count) links near here goes =
+template_inner k y at (instructions.Call function first count) links framed near here goes =
     let few = near.few in
     let lt = near.temporaries in
     let passing = passing_code y first 4 (count - 4) in
@@ -127,12 +129,12 @@ template_inner k y at (instructions.Call function first count) links near here g
     (passing_inner y first 4 (count - 4) (omega arith) (omega arith))
     (call_inner y first (at + sizes passing) (k.function function) lt (omega arith)
     (links.function function))
-template_inner k y at (instructions.CallBuiltIn function first) links near here goes = (
+template_inner k y at (instructions.CallBuiltIn function first) links framed near here goes = (
   (refl, (λ b. refl), (λ o. refl)),
   call_inner y first (at + 5) (k.known function)
       near.temporaries (omega arith) (links.known function),
 )
-template_inner k y at (instructions.CallFinally funclet) links near here goes = (
+template_inner k y at (instructions.CallFinally funclet) links framed near here goes = (
   (refl, (λ b. refl), (λ o. refl)),
   (
     (refl, (λ b. refl), (λ o. refl)),
@@ -147,7 +149,7 @@ template_inner k y at (instructions.CallFinally funclet) links near here goes = 
     ),
   ),
 )
-template_inner k y at (instructions.LocalUnwind label) links near here goes = (
+template_inner k y at (instructions.LocalUnwind label) links framed near here goes = (
   (refl, (λ b. refl), (λ o. refl)),
   (
     (
@@ -166,6 +168,6 @@ template_inner k y at (instructions.LocalUnwind label) links near here goes = (
     ),
   ),
 )
-template_inner k y at instructions.Separator links near here
+template_inner k y at instructions.Separator links framed near here
     goes = ((refl, (λ b. refl), (λ o. refl)), tt)
-template_inner k y at (instructions.Return from) links near here goes = absurd (goes tt)
+template_inner k y at (instructions.Return from) links framed near here goes = absurd (goes tt)

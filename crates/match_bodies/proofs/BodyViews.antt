@@ -1,11 +1,33 @@
 -- The running body has a view: its slots as templates see them hold linear code's numbers.
-use Rattle.std.proofs.Common.{◌≡◌, ℕ, ◌+◌, ◌*◌, ◌≤◌, Bool, true, false, Some, None, List, [], ◌∷◌, length, refl, sym, ap, subst, ◌∙◌, arith, inl, inr}
+use Rattle.std.proofs.Common.{◌≡◌, ℕ, ◌+◌, ◌*◌, ◌^◌, ◌<◌, ◌≤◌, Bool, true, false, Some, None, List, [], ◌∷◌, length, refl, sym, ap, subst, ◌∙◌, arith, inl, inr}
 use Rattle.std.specs.Prelude.{◌⊎◌, slice_get, slice_index}
-use Rattle.match_bodies.specs.Words.{STACK_START, STACK_END, Rsp, State, context_of, get, register, LinearBody, BodyName, FunctionBody, FuncletBody, body_of, Configuration, machine, context_below, locals_of, activations_below, temporaries_end, HasActivation, IsLinkedStack, IsFunctionLayout, IsLeafLayout, IsFuncletLayout, IsLayoutIf, IsLaidOut, IsFuncletPlan, slots_end, last_temporary, FrameHolds, seen_by_templates, counts_of, frame_at, state_of, Setting, RepresentsAt, Roomy, HasSlotsOf}
+use Rattle.match_bodies.specs.Words.{STACK_START, STACK_END, Rsp, State, context_of, get, register, LinearBody, BodyName, FunctionBody, FuncletBody, body_of, Configuration, machine, context_below, locals_of, activations_below, temporaries_end, HasActivation, IsLinkedStack, IsFunctionLayout, IsLeafLayout, IsFuncletLayout, IsLayoutIf, IsLaidOut, IsFuncletPlan, slots_end, last_temporary, FrameHolds, seen_by_templates, counts_of, frame_at, state_of, Setting, RepresentsAt, Roomy, HasSlotsOf, AllSmall, local_in, local_registers, number_placed}
+use Rattle.x64_instr.specs.declared.register.Reg.{Reg}
+use Rattle.x64_instr.specs.declared.register.Reg.TheVariants.{Rax, Rcx, Rdx, Rbx, Rbp, Rsi, Rdi, R8, R9, R10, R11, R12, R13, R14, R15}
 use Rattle.linear_machine.specs.Frames as linear
 use Rattle.x64_templates.proofs.PrologueParts.{registers_are}
 use Rattle.match_bodies.proofs.Lemmas.{in_stack}
 use Rattle.match_bodies.proofs.SlotPlaces.{SlotsPlaced, function_placed, leaf_placed, funclet_placed, room_of, holds_of, local_is, temporary_is}
+
+-- each register of a state is a number of 64 bits
+pub locals_small : (rs : List ℕ) → length rs ≡ 16 → AllSmall rs
+    → (r : Reg) → local_in (local_registers rs) r < 2 ^ 64
+locals_small rs n small Rbx = small 3 (omega arith)
+locals_small rs n small Rsi = small 6 (omega arith)
+locals_small rs n small Rdi = small 7 (omega arith)
+locals_small rs n small R12 = small 12 (omega arith)
+locals_small rs n small R13 = small 13 (omega arith)
+locals_small rs n small R14 = small 14 (omega arith)
+locals_small rs n small R15 = small 15 (omega arith)
+locals_small rs n small Rax = omega arith
+locals_small rs n small Rcx = omega arith
+locals_small rs n small Rdx = omega arith
+locals_small rs n small Rsp = omega arith
+locals_small rs n small Rbp = omega arith
+locals_small rs n small R8 = omega arith
+locals_small rs n small R9 = omega arith
+locals_small rs n small R10 = omega arith
+locals_small rs n small R11 = omega arith
 
 -- a state is made of its registers
 pub is_machine : (s : State) → length s.cpu.registers ≡ 16
@@ -138,15 +160,19 @@ module _ (setting : Setting) where
       room_here = room_of s.memory (p.layout c.frame.body) (counts_of code) sp c.frame.activation
           b.body.acts placed count
 
-      pub holds_here : FrameHolds (frame_at program p c.frame.body code sp placed.base) s.memory
-          (state_of program p s c placed.base)
+      pub holds_here : FrameHolds (frame_at program p c.frame.body code sp placed.base)
+          (local_registers s.cpu.registers) s.memory (state_of program p s c placed.base)
       holds_here = holds_of program.globals s.memory c.store.memory (p.layout c.frame.body)
-          (counts_of code) sp c.frame.activation b.body.acts placed count b.memory.data_alone.bytes
+          (counts_of code) sp c.frame.activation b.body.acts (local_registers s.cpu.registers)
+          placed count (locals_small s.cpu.registers b.well_formed.count b.well_formed.small)
+          b.memory.data_alone.bytes
           b.memory.stack b.memory.agrees
 
       pub slots_here : HasSlotsOf program p c code (state_of program p s c placed.base)
       slots_here = record {
-        locals = λ i lt. local_is s.memory (p.layout c.frame.body) code.temporaries sp i b.body.acts
+        locals = λ i lt. ap (number_placed (p.layout c.frame.body) placed.base
+            (local_registers s.cpu.registers) s.memory i) (image.in_frames c.frame.body i)
+            ∙ local_is s.memory (p.layout c.frame.body) code.temporaries sp i b.body.acts
             c
             b.body.store placed (let n = count in omega arith);
         temporaries = λ i v e. temporary_is s.memory (p.layout c.frame.body) sp _ i v

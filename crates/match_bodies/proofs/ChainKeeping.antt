@@ -51,11 +51,11 @@ enters_keeps from to (suc n) s u r = keeps_then s r.0 u (step_keeps s r.0 r.1)
 
 -- ---- registers
 
-all_are : (rs : List ℕ) → AllSmall rs → AreSmall rs
+pub all_are : (rs : List ℕ) → AllSmall rs → AreSmall rs
 all_are [] h = tt
 all_are (r ∷ rs) h = (h 0 (omega arith), all_are rs (λ j lt. h (suc j) (omega arith)))
 
-are_all : (rs : List ℕ) → AreSmall rs → AllSmall rs
+pub are_all : (rs : List ℕ) → AreSmall rs → AllSmall rs
 are_all [] h j lt = absurd (omega arith)
 are_all (r ∷ rs) h zero lt = h.0
 are_all (r ∷ rs) h (suc j) lt = are_all rs h.1 j (omega arith)

@@ -2,7 +2,7 @@
 use Rattle.std.proofs.Common.{◌≡◌, ℕ, zero, ◌+◌, ◌≤◌, Bool, true, false, Option, Some, None, List, [], ◌∷◌, ◌++◌, length, take, refl, sym, ap, subst, ◌∙◌, arith, length-append, length-take-le}
 use Rattle.std.specs.Prelude.{nat_le, slice_get, slice_set, if◌then◌else◌}
 use Rattle.std.proofs.lemmas.Bool.{leb-true, le-leb}
-use Rattle.match_bodies.specs.Words.{Memory, State, Operation, Gives, performed, is_reserved, Slot, Local, Temporary, BodyState, with_slot, IsSlot, LinearBody, Configuration, Next, read, with_temporaries, forth, with_some, is_constant, operand, written, act, exec, sizes, Reg, Rax, Rcx, Layout, before, local_at, fetch_local, fetch, finish_code, compute_code, template_size, HasRule, Moves, HaveRoom, turns_left, counts_of, Setting, RepresentsAt, OperationResult, kept, computed, Computed}
+use Rattle.match_bodies.specs.Words.{Memory, State, Operation, Gives, performed, is_reserved, Slot, Local, Temporary, BodyState, with_slot, IsSlot, LinearBody, Configuration, Next, read, with_temporaries, forth, with_some, is_constant, operand, written, act, exec, sizes, Reg, Rax, Rcx, Layout, before, local_at, fetch_local, fetch, finish_code, compute_code, template_size, HasRule, Moves, HaveRoom, turns_left, counts_of, Setting, RepresentsAt, OperationResult, kept, computed, Computed, Place, InRegister, InFrame, place_of, fetch_placed}
 use Rattle.c_operations.specs.declared.operation.Operation.TheVariants as operations
 use Rattle.c_operations.specs.declared.operation.Pure.TheVariants.{Constant}
 use Rattle.linear_code.specs.declared.instruction.Instruction.TheVariants as instructions
@@ -25,11 +25,15 @@ compute_size y to o first second = refl
 
 some_fetch : (y : Layout) (r : Reg) (slot : Slot) → 1 ≤ length (fetch y r slot)
 some_fetch y r (Temporary i) = omega arith
-some_fetch y r (Local i) = by y.base
+some_fetch y r (Local i) = placed (place_of y i)
   where
     by : (o : Option ℕ) → 1 ≤ length (fetch_local o r (local_at y i))
     by None = omega arith
     by (Some k) = omega arith
+
+    placed : (q : Place) → 1 ≤ length (fetch_placed y r i q)
+    placed (InRegister s) = omega arith
+    placed InFrame = by y.base
 
 some_code : (y : Layout) (to : Slot) (o : Operation) (first second : Slot)
     → 1 ≤ length (compute_code y to o first second)

@@ -2,7 +2,7 @@
 -- stored.
 use Rattle.std.proofs.Common.{◌≡◌, ℕ, zero, suc, ◌+◌, ◌*◌, ◌^◌, ◌<◌, ◌≤◌, Bool, true, false, Option, Some, None, List, [], ◌∷◌, ◌++◌, length, refl, sym, ap, subst, ◌∙◌, arith, inl, inr, append_assoc}
 use Rattle.std.specs.Prelude.{◌⊎◌, nat_lt, if◌then◌else◌}
-use Rattle.match_bodies.specs.Words.{Reg, Rax, Rsp, Instr, State, register, AllSmall, Functions, Funclet, LinearProgram, LinearBody, BodyName, body_of, Layout, sizes, fetched, local_at, keep_register, HasCode, StackItem, ImagePlan, AllKeep, Sites, begin_of, making_size, HasProgram, IsProgramImage, FindsOwed, nothing_owed, owed_of, LARGEST_FRAME, setting_of, Rdx, temporary_at, parameter_register, stack_parameter, parameter_code, parameters_code, passing_code}
+use Rattle.match_bodies.specs.Words.{Reg, Rax, Rsp, Instr, State, register, AllSmall, Functions, Funclet, LinearProgram, LinearBody, BodyName, body_of, Layout, sizes, fetched, local_at, keep_register, HasCode, StackItem, ImagePlan, AllKeep, Sites, begin_of, making_size, HasProgram, IsProgramImage, FindsOwed, nothing_owed, owed_of, LARGEST_FRAME, setting_of, Rdx, temporary_at, parameter_register, stack_parameter, parameter_code, parameters_code, passing_code, place_of, InFrame, parameter_placed}
 use Rattle.template_code.specs.Calls.{arguments_code}
 use Rattle.match_bodies.proofs.Lemmas.{code_split, near}
 use Rattle.match_bodies.specs.CodeSites as sites
@@ -74,17 +74,19 @@ parameter_plain d whole e y i false lt lt' inside = (
   (kept_plain d whole e Rax (local_at y i) lt inside, tt),
 )
 
-pub parameters_plain : (d whole e : ℕ) (y : Layout) (i n : ℕ) → local_at y (i + n) < 2 ^ 31
+pub parameters_plain : (d whole e : ℕ) (y : Layout) (i n : ℕ)
+    → ((j : ℕ) → place_of y j ≡ InFrame) → local_at y (i + n) < 2 ^ 31
     → stack_parameter y (i + n) < 2 ^ 31
     → ((j : ℕ) → j < i + n → (local_at y j + 8 ≤ d)
     ⊎ ((whole + 8 ≤ local_at y j) × (local_at y j + 8 ≤ whole + e)))
     → AllPlain d whole e (parameters_code y i n)
-parameters_plain d whole e y i zero lt lt' inside = tt
-parameters_plain d whole e y i (suc n) lt lt' inside =
+parameters_plain d whole e y i zero framed lt lt' inside = tt
+parameters_plain d whole e y i (suc n) framed lt lt' inside =
     plain_both d whole e (parameter_code y i) (parameters_code y (i + 1) n)
+    (subst (λ k. AllPlain d whole e (parameter_placed y i k)) (sym (framed i))
     (parameter_plain d whole e y i (nat_lt i 4) (omega arith) (omega arith)
-    (inside i (omega arith)))
-    (parameters_plain d whole e y (i + 1) n (omega arith) (omega arith)
+    (inside i (omega arith))))
+    (parameters_plain d whole e y (i + 1) n framed (omega arith) (omega arith)
     (λ j l. inside j (omega arith)))
 
 -- where a funclet keeps its base

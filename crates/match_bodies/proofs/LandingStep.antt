@@ -2,7 +2,7 @@
 use Rattle.std.proofs.Common.{◌≡◌, ℕ, ◌+◌, ◌^◌, ◌<◌, ◌≤◌, Option, Some, None, [], ◌∷◌, ◌++◌, length, take, refl, sym, ap, subst, ◌∙◌, arith}
 use Rattle.std.specs.Prelude.{slice_get, slice_set, if◌then◌else◌}
 use Rattle.std.proofs.lemmas.Bool.{le-leb}
-use Rattle.match_bodies.specs.Words.{Rax, State, register, Slot, Local, Temporary, BodyState, with_slot, LinearBody, Configuration, Next, with_temporaries, forth, with_some, written, act, Layout, sizes, local_at, keep_local, keep, template_size, machine, ReachesBody, Moves, HaveRoom, turns_left, Setting, RepresentsAt, not_landed, IsNextSlot}
+use Rattle.match_bodies.specs.Words.{Rax, State, register, Slot, Local, Temporary, BodyState, with_slot, LinearBody, Configuration, Next, with_temporaries, forth, with_some, written, act, Layout, sizes, local_at, keep_local, keep, template_size, machine, ReachesBody, Moves, HaveRoom, turns_left, Setting, RepresentsAt, not_landed, IsNextSlot, Place, InRegister, InFrame, place_of, keep_placed}
 use Rattle.linear_code.specs.declared.instruction.Instruction.TheVariants as instructions
 use Rattle.linear_machine.specs.Frames as linear
 use Rattle.match_bodies.proofs.Lemmas.{keep_length}
@@ -21,11 +21,15 @@ landing_size y to = refl
 
 pub some_keep : (y : Layout) (to : Slot) → 1 ≤ length (keep y to)
 some_keep y (Temporary i) = omega arith
-some_keep y (Local i) = by y.base
+some_keep y (Local i) = placed (place_of y i)
   where
     by : (o : Option ℕ) → 1 ≤ length (keep_local o (local_at y i))
     by None = omega arith
     by (Some k) = omega arith
+
+    placed : (q : Place) → 1 ≤ length (keep_placed y i q)
+    placed (InRegister s) = omega arith
+    placed InFrame = by y.base
 
 module _ (setting : Setting) (roomy : HaveRoom setting.program) (s : State)
     (c : Configuration) (b : RepresentsAt setting s c) (counted : IsCounted setting c)

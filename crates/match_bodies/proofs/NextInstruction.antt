@@ -1,7 +1,7 @@
 -- The next instruction of a body begins, in the memory that a template leaves.
 use Rattle.std.proofs.Common.{◌≡◌, ℕ, ◌+◌, ◌*◌, ◌<◌, ◌≤◌, true, Option, Some, None, Ok, List, [], ◌∷◌, length, refl, sym, ap, subst, ◌∙◌, arith, inl, inr}
 use Rattle.std.specs.Prelude.{◌⊎◌, ◌-◌, slice_get, slice_index}
-use Rattle.match_bodies.specs.Words.{STACK_START, STACK_END, Event, Memory, Rax, Rsp, kept_of, HasFrame, frame_of, State, register, word, Local, Temporary, BodyState, LinearBody, BodyName, FunctionBody, FuncletBody, body_of, Item, Waits, Searches, Unwinds, Configuration, Context, Layout, FrameHolds, context_of, get, regions_of, InCode, context_below, Activation, locals_of, activations_below, HoldsWords, IsActivation, HasActivation, HasPointers, IsAbove, BodyWaits, HasSpace, below_end, home_end, IsLinkedStack, IsData, On, IsWellFormed, IsFunctionLayout, IsLayoutIf, slots_end, counts_of, frame_at, with_values, KeepsStackBut, OwnerHasFrame, InTemporaries, InLocals, last_temporary, Setting, RepresentsAt}
+use Rattle.match_bodies.specs.Words.{STACK_START, STACK_END, Event, Memory, Rax, Rsp, kept_of, HasFrame, frame_of, State, register, word, Local, Temporary, BodyState, LinearBody, BodyName, FunctionBody, FuncletBody, body_of, Item, Waits, Searches, Unwinds, Configuration, Context, Layout, FrameHolds, context_of, get, regions_of, InCode, context_below, Activation, locals_of, activations_below, HoldsWords, IsActivation, HasActivation, HasPointers, IsAbove, BodyWaits, HasSpace, below_end, home_end, IsLinkedStack, IsData, On, IsWellFormed, IsFunctionLayout, IsLayoutIf, slots_end, counts_of, frame_at, with_values, KeepsStackBut, OwnerHasFrame, InTemporaries, InLocals, last_temporary, Setting, RepresentsAt, local_registers, number_placed}
 use Rattle.virtual_unwind.specs.Undone.{Answer}
 use Rattle.match_bodies.proofs.Lemmas.{kept_by_other_memories}
 use Rattle.match_bodies.proofs.BodyResumption.{above_same}
@@ -56,7 +56,8 @@ module _ (setting : Setting) where
     -- a run of a template of this body
     pub record Ran (u : State) (d : BodyState) (values ts : List ℕ) : Type 0 where
       pub changed : Changed program.globals s u y (counts_of code) sp here.base
-      pub holds : FrameHolds (frame_at program p c.frame.body code sp here.base) u.memory d
+      pub holds : FrameHolds (frame_at program p c.frame.body code sp here.base)
+          (local_registers u.cpu.registers) u.memory d
       pub kept : kept_of u.cpu.registers ≡ kept_of s.cpu.registers
       pub leaves : Leaves code d values ts
 
@@ -92,7 +93,9 @@ module _ (setting : Setting) where
           (slot_word program.globals s u y (counts_of code) sp c.frame.activation b.body.acts here
           cnt r.changed b.memory.data_alone b.memory.stack (here.base + (y.locals + 8 * i)) v
           (omega arith) (let m = cnt in omega arith)
-          (r.holds.slot (Local i) (omega arith) ∙ r.leaves.locals i (omega arith) ∙ g.0))
+          (sym (ap (number_placed y here.base (local_registers u.cpu.registers) u.memory i)
+          (image.in_frames c.frame.body i)) ∙ r.holds.slot (Local i) (omega arith)
+          ∙ r.leaves.locals i (omega arith) ∙ g.0))
 
       new_locals : (end : ℕ) → here.base + y.locals + 8 * length values ≤ end
           → HoldsWords u.memory (here.base + y.locals) end values

@@ -4,7 +4,7 @@ use Rattle.std.proofs.Common.{◌≡◌, ℕ, suc, ◌+◌, ◌^◌, ◌<◌, �
 use Rattle.std.specs.Prelude.{slice_get}
 use Rattle.std.proofs.lemmas.Bool.{and_parts, eqb-true, eq-eqb, false≢true}
 use Rattle.std.proofs.lemmas.List.{append-nil}
-use Rattle.match_bodies.specs.Words.{Memory, Rax, Rsp, Instr, State, register, get, AllSmall, Functions, Funclet, Slot, Local, Temporary, LinearBody, BodyName, body_of, Layout, size, sizes, is_encodable, fetch, fetch_local, local_at, Steps, HasCode, StackItem, KeepsShadow, AllKeep, context_below, FindsReturn, FindsOwed, Owed, nothing_owed, owed_of, owed_by, Setting, return_code}
+use Rattle.match_bodies.specs.Words.{Memory, Rax, Rsp, Instr, State, register, get, AllSmall, Functions, Funclet, Slot, Local, Temporary, LinearBody, BodyName, body_of, Layout, size, sizes, is_encodable, fetch, fetch_local, local_at, Steps, HasCode, StackItem, KeepsShadow, AllKeep, context_below, FindsReturn, FindsOwed, Owed, nothing_owed, owed_of, owed_by, Setting, return_code, Place, InRegister, InFrame, place_of, fetch_placed}
 use Rattle.eh_tables.specs.declared.code.UnwindOperation.{UnwindOperation}
 use Rattle.x64_instr.specs.Registers as numbers
 use Rattle.x64_instr.specs.declared.instruction.Instr.TheVariants as instrs
@@ -48,10 +48,15 @@ fetch_local_plain : (d whole e : ℕ) (o : Option ℕ) (k : ℕ) → Fine (fetch
 fetch_local_plain d whole e None k f = ((f.0, inl refl), tt)
 fetch_local_plain d whole e (Some b) k f = ((f.0, inl refl), ((f.3.0, inl refl), tt))
 
+fetch_placed_plain : (d whole e : ℕ) (y : Layout) (i : ℕ) (p : Place)
+    → Fine (fetch_placed y Rax i p) → AllPlain d whole e (fetch_placed y Rax i p)
+fetch_placed_plain d whole e y i (InRegister r) f = ((f.0, inl refl), tt)
+fetch_placed_plain d whole e y i InFrame f = fetch_local_plain d whole e y.base (local_at y i) f
+
 pub fetch_plain : (d whole e : ℕ) (y : Layout) (x : Slot) → Fine (fetch y Rax x)
     → AllPlain d whole e (fetch y Rax x)
 fetch_plain d whole e y (Temporary i) f = ((f.0, inl refl), tt)
-fetch_plain d whole e y (Local i) f = fetch_local_plain d whole e y.base (local_at y i) f
+fetch_plain d whole e y (Local i) f = fetch_placed_plain d whole e y i (place_of y i) f
 
 -- so many turns lead out of a body: each keeps the shadow, and then its caller has these registers
 -- again

@@ -2,7 +2,8 @@
 use Rattle.std.proofs.Common.{◌≡◌, ℕ, zero, suc, ◌+◌, ◌*◌, ◌^◌, ◌<◌, ◌≤◌, true, Option, Some, None, Ok, List, [], ◌∷◌, ◌++◌, length, refl, sym, ap, subst, ◌∙◌, arith, inl, inr}
 use Rattle.std.specs.Prelude.{◌⊎◌, slice_get, slice_index, nat_le, nat_lt}
 use Rattle.std.proofs.lemmas.Bool.{le-leb, lt-ltb}
-use Rattle.match_bodies.specs.Words.{STACK_START, STACK_END, Memory, may_write, number_at, rsp, word, Functions, Funclet, is_reserved, Counts, LinearProgram, LinearBody, FunctionBody, FuncletBody, Configuration, local_of, Layout, InTemporaries, InLocals, Agrees, IsBytes, Context, Item, StackItem, IsLinkedStack, ImagePlan, Activation, locals_of, HoldsWords, HasActivation, home_end, IsFunctionLayout, IsLeafLayout, IsFuncletLayout, HasBase, SlotsHaveRoom, MemoryKeepsBase, KeepsReserved, HoldsBody}
+use Rattle.match_bodies.specs.Words.{STACK_START, STACK_END, Memory, may_write, number_at, rsp, word, Functions, Funclet, is_reserved, Counts, LinearProgram, LinearBody, FunctionBody, FuncletBody, Configuration, local_of, Layout, InTemporaries, InLocals, Agrees, IsBytes, Context, Item, StackItem, IsLinkedStack, ImagePlan, Activation, locals_of, HoldsWords, HasActivation, home_end, IsFunctionLayout, IsLeafLayout, IsFuncletLayout, HasBase, SlotsHaveRoom, MemoryKeepsBase, KeepsReserved, HoldsBody, LocalRegisters, local_in}
+use Rattle.x64_instr.specs.declared.register.Reg.{Reg}
 use Rattle.linear_machine.specs.Frames as linear
 use Rattle.x64_templates.specs.EntryStates.{body_in_memory}
 use Rattle.x64_templates.proofs.Entries.{holds_body_in_memory}
@@ -218,13 +219,13 @@ in_stack_slots m y n sp k acts a h count i =
     ]
 
 pub holds_of : (globals : List ℕ) (m source : Memory) (y : Layout) (n : Counts) (sp k : ℕ)
-    (acts : List Activation) → (h : SlotsPlaced m y n.temporaries sp k acts)
-    → length h.values ≡ n.locals → IsBytes m →
+    (acts : List Activation) (l : LocalRegisters) → (h : SlotsPlaced m y n.temporaries sp k acts)
+    → length h.values ≡ n.locals → ((r : Reg) → local_in l r < 2 ^ 64) → IsBytes m →
     ((a : ℕ) → STACK_START ≤ a → a < STACK_END → may_write m a ≡ true)
     → Agrees (is_reserved globals) m source
-    → HoldsBody y n (is_reserved globals) sp h.base m (body_in_memory y sp h.base m source)
-holds_of globals m source y n sp k acts h count bytes may agrees =
-    holds_body_in_memory y n (is_reserved globals) sp h.base m source bytes
+    → HoldsBody y n (is_reserved globals) sp h.base l m (body_in_memory y sp h.base l m source)
+holds_of globals m source y n sp k acts l h count small bytes may agrees =
+    holds_body_in_memory y n (is_reserved globals) sp h.base l m source small bytes
     (keeps_base m y y.base sp h.base may h.sp_low h.kept)
     (λ a i. let r = in_stack_slots m y n sp k acts a h count i in may a r.0 r.1)
     (λ a i. let r = in_stack_slots m y n sp k acts a h count i in

@@ -1,7 +1,7 @@
 -- Each turn of the run of an instruction's template keeps the shadow.
 use Rattle.std.proofs.Common.{◌≡◌, ℕ, ◌+◌, ◌^◌, ◌<◌, ◌≤◌, List, [], ◌++◌, Option, Some, None, length, refl, sym, ap, subst, ◌∙◌, arith, length-append, append_assoc}
 use Rattle.std.specs.Prelude.{slice_get}
-use Rattle.match_bodies.specs.Words.{Memory, Rsp, Instr, State, register, Operation, Gives, performed, is_reserved, Slot, Local, Temporary, Instruction, LinearBody, Configuration, Layout, size, sizes, local_at, keep_local, keep, operands_code, finish_code, compute_code, IsNear, template, template_size, local_registers, other_registers, MachineView, machine, Reaches, FrameHolds, HasCode, AllKeep, HaveRoom, links_of, counts_of, Setting, RepresentsAt, work, test_code, information_code}
+use Rattle.match_bodies.specs.Words.{Memory, Rsp, Instr, State, register, Operation, Gives, performed, is_reserved, Slot, Local, Temporary, Instruction, LinearBody, Configuration, Layout, size, sizes, local_at, keep_local, keep, operands_code, finish_code, compute_code, IsNear, template, template_size, local_registers, other_registers, MachineView, machine, Reaches, FrameHolds, HasCode, AllKeep, HaveRoom, links_of, counts_of, Setting, RepresentsAt, work, test_code, information_code, Place, InRegister, InFrame, place_of, keep_placed}
 use Rattle.c_operations.specs.declared.field.Field.{Field}
 use Rattle.linear_code.specs.declared.instruction.Instruction.TheVariants as instructions
 use Rattle.match_bodies.proofs.Lemmas.{sizes_append, template_sizes, jump_if_zero_size, rest_of, code_split, Begun, operands_run, Worked, work_run, work_flow, separator_flow, jump_flow, keep_flow, operands_flow, information_flow, jump_if_zero_flow}
@@ -19,11 +19,15 @@ jump_size y at label = refl
 
 keep_some : (y : Layout) (x : Slot) → 1 ≤ length (keep y x)
 keep_some y (Temporary i) = omega arith
-keep_some y (Local i) = by y.base
+keep_some y (Local i) = placed (place_of y i)
   where
     by : (o : Option ℕ) → 1 ≤ length (keep_local o (local_at y i))
     by None = omega arith
     by (Some b) = omega arith
+
+    placed : (q : Place) → 1 ≤ length (keep_placed y i q)
+    placed (InRegister s) = omega arith
+    placed InFrame = by y.base
 
 finish_some : (y : Layout) (o : Operation) (x : Slot) → 1 ≤ length (finish_code y o x)
 finish_some y o x = let k = keep_some y x in omega (arith, length-append (work o) (keep y x))
@@ -139,8 +143,11 @@ module _ (setting : Setting) (roomy : HaveRoom setting.program) (s : State)
       worked : Worked (frame setting roomy s c b counted) o view x.cpu.rip x.cpu.flags value source
       worked = work_run (frame setting roomy s c b counted) o view x.cpu.rip x.cpu.flags
           (slots setting roomy s c b counted) m n value source m_small n_small waits
-          (subst (λ (k : Memory). FrameHolds (frame setting roomy s c b counted) k
-          (slots setting roomy s c b counted)) (sym same) (holds_here setting s c b counted))
+          (subst (λ l. FrameHolds (frame setting roomy s c b counted) l view.memory
+          (slots setting roomy s c b counted)) (sym locals)
+          (subst (λ (k : Memory). FrameHolds (frame setting roomy s c b counted)
+          (local_registers s.cpu.registers) k
+          (slots setting roomy s c b counted)) (sym same) (holds_here setting s c b counted)))
           code_there gives
 
       abbrev mid : State

@@ -7,6 +7,7 @@ use Rattle.match_bodies.specs.Words.{Event, Rsp, State, register, distance, arri
 use Rattle.linear_code.specs.declared.instruction.Instruction.TheVariants as instructions
 use Rattle.match_bodies.proofs.Lemmas.{offset_next, code_split, body_instruction_run, template_placed}
 use Rattle.x64_templates.specs.CallStates.{sp_of}
+use Rattle.x64_templates.proofs.Locals.{locals_stay}
 use Rattle.match_bodies.proofs.SilentTurns.{reaches_silently}
 use Rattle.match_bodies.proofs.HomeSpace.{CallerHasFrame}
 use Rattle.match_bodies.proofs.TemplateShadows.{kept_by_view, is_after, ends_at, RunsKeep}
@@ -157,8 +158,8 @@ module _ (setting : Setting) (roomy : HaveRoom setting.program) where
     module _ (around : Surroundings) where
       -- a run of so many turns to an instruction of the body, with these slots
       pub to_label : (n label rip : ℕ) (d : BodyState) (values ts : List ℕ) (landed : Option ℕ)
-          (events : List Event) → ReachesBody frame n s rip v.rest v.locals d
-          → rip ≡ p.address name label
+          (events : List Event) → ReachesBody frame n s rip v.rest v.locals d → rip
+          ≡ p.address name label
           → label < length code.code → rip < 2 ^ 64 → Leaves code d values ts → landed ≡ None
           → RunsKeep setting s c b counted n s → (u : State) × (Comes t fs n s [] u) ×
           (RepresentsAt setting u (further setting c b.body.acts label values ts landed d.memory
@@ -166,7 +167,8 @@ module _ (setting : Setting) (roomy : HaveRoom setting.program) where
       to_label n label rip d values ts landed events r at lt small leaves free keep =
           let u : State = machine r.after rip r.flags in
           let keeps = reaches_keeps n s u r.comes in
-          let kept = kept_by_view r.after s.cpu.registers r.rest r.locals in
+          let kept = kept_by_view r.after s.cpu.registers r.rest
+          (locals_stay y v.locals r.after.locals (image.in_frames name) r.locals) in
           let ran : Ran setting s c b counted u d values
           ts = record {
             changed = record { changes = r.changes; keeps = keeps };

@@ -4,7 +4,7 @@ use Rattle.std.proofs.Common.{◌≡◌, ℕ, suc, ◌+◌, ◌^◌, ◌<◌, �
 use Rattle.std.specs.Prelude.{slice_get, slice_index}
 use Rattle.std.proofs.lemmas.List.{append-nil}
 use Rattle.std.proofs.lemmas.Option.{slice_get_within, get_or_from_slice_get}
-use Rattle.match_bodies.specs.Words.{Memory, Rsp, Instr, Context, context_of, kept_of, State, register, Instruction, BodyState, LinearBody, FuncletBody, Configuration, is_reserved, Layout, sizes, template, template_size, Agrees, IsBytes, Reaches, IsReturn, WalkGives, AllKeep, links_of, FindsOwed, Owed, owed_of, counts_of, state_of, OwnerHasFrame, Setting, RepresentsAt, MachineView, LocalRegisters, OtherRegisters, local_registers, other_registers, registers_of}
+use Rattle.match_bodies.specs.Words.{Memory, Rsp, Instr, Context, context_of, kept_of, State, register, Instruction, BodyState, LinearBody, FuncletBody, Configuration, is_reserved, Layout, sizes, template, template_size, Agrees, IsBytes, Reaches, IsReturn, WalkGives, AllKeep, links_of, FindsOwed, Owed, owed_of, counts_of, state_of, OwnerHasFrame, Setting, RepresentsAt, MachineView, LocalRegisters, OtherRegisters, local_registers, other_registers, registers_of, FrameHolds, frame_at}
 use Rattle.linear_code.specs.declared.instruction.Instruction.TheVariants as instructions
 use Rattle.match_bodies.proofs.Lemmas.{offset_next, IsFlow, LabelsNear, body_most, labels_near}
 use Rattle.x64_templates.proofs.Bodies.{holds_same, changes_same}
@@ -30,6 +30,22 @@ pub kept_alike : (v w : MachineView) → v.rest ≡ w.rest → v.locals ≡ w.lo
     → kept_of (registers_of v) ≡ kept_of (registers_of w)
 kept_alike v w e d = ap (λ (r : OtherRegisters). kept_of (registers_of (record v { rest = r }))) e
     ∙ ap (λ (l : LocalRegisters). kept_of (registers_of (record w { locals = l }))) d
+
+-- and those of locals are among them
+abbrev locals_kept : List ℕ → LocalRegisters
+locals_kept ks = record {
+  rbx = slice_index ks 1;
+  rsi = slice_index ks 3;
+  rdi = slice_index ks 4;
+  r12 = slice_index ks 5;
+  r13 = slice_index ks 6;
+  r14 = slice_index ks 7;
+  r15 = slice_index ks 8;
+}
+
+locals_by_kept : (xs zs : List ℕ) → kept_of zs ≡ kept_of xs
+    → local_registers xs ≡ local_registers zs
+locals_by_kept xs zs e = ap locals_kept (sym e)
 
 pub kept_by_view : (v : MachineView) (xs : List ℕ) → v.rest ≡ other_registers xs
     → v.locals ≡ local_registers xs → kept_of (registers_of v) ≡ kept_of xs
@@ -122,10 +138,15 @@ module _ (setting : Setting) (s : State) (c : Configuration)
               keeps.protection bytes;
           keeps = keeps;
         };
-        holds = holds_same layout_here (counts_of code_here) (is_reserved program.globals)
-            (register s.cpu Rsp) base room s.memory u.memory source (state_of program p s c base)
-            own
-            keeps.protection agrees (holds_here setting s c b counted);
+        holds = subst (λ l. FrameHolds (frame_at program p c.frame.body code_here
+            (register s.cpu Rsp) base) l u.memory (record {
+              slots = (state_of program p s c base).slots;
+              memory = source;
+            })) (locals_by_kept s.cpu.registers u.cpu.registers kept)
+            (holds_same layout_here (counts_of code_here) (is_reserved program.globals)
+            (register s.cpu Rsp) base room (local_registers s.cpu.registers) s.memory u.memory
+            source (state_of program p s c base) own keeps.protection agrees
+            (holds_here setting s c b counted));
         kept = kept;
         leaves = record {
           count = count setting s c b counted;

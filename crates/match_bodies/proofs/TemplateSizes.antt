@@ -1,6 +1,8 @@
 -- Where an instruction begins, RIP is in its code: each template has a byte at least.
 use Rattle.std.proofs.Common.{◌≡◌, ℕ, suc, ◌+◌, ◌*◌, ◌%◌, ◌<◌, ◌≤◌, List, ◌++◌, length, get_or, Option, Some, None, ap, ◌∙◌, arith, length-append}
-use Rattle.match_bodies.specs.Words.{Width, Reg, Rax, Rcx, Rsp, RegisterOrMemory, Functions, Funclet, Slot, Local, Temporary, Instruction, LinearProgram, LinearBody, BodyName, body_of, Layout, size, sizes, before, fetched, local_at, fetch_local, keep_local, fetch, keep, operands_code, finish_code, template_size, ImagePlan, InCode, Sites, IsProgramImage, prefixes, modrm_bits, opcode_bytes, place_bytes, modrm, put_back, finally_arguments}
+use Rattle.seh_num.specs.declared.width.Width.TheVariants.{W64}
+use Rattle.template_code.specs.Operations.{move}
+use Rattle.match_bodies.specs.Words.{Width, Reg, Rax, Rcx, Rsp, RegisterOrMemory, Functions, Funclet, Slot, Local, Temporary, Instruction, LinearProgram, LinearBody, BodyName, body_of, Layout, size, sizes, before, fetched, local_at, fetch_local, keep_local, fetch, keep, operands_code, finish_code, template_size, ImagePlan, InCode, Sites, IsProgramImage, prefixes, modrm_bits, opcode_bytes, place_bytes, modrm, put_back, finally_arguments, Place, InRegister, InFrame, place_of, fetch_placed, keep_placed}
 use Rattle.x64_encode.specs.declared.writing.Opcode.{Opcode}
 use Rattle.x64_encode.specs.declared.writing.Opcode.TheVariants as opcodes
 use Rattle.linear_code.specs.declared.instruction.Instruction.TheVariants as instructions
@@ -39,17 +41,29 @@ fetch_local_some : (o : Option ℕ) (r : Reg) (d : ℕ) → 1 ≤ sizes (fetch_l
 fetch_local_some None r d = let e = fetched_some r Rsp d in omega arith
 fetch_local_some (Some b) r d = let e = fetched_some r Rsp b in omega arith
 
+move_some : (to from : Reg) → 1 ≤ size (move W64 to from)
+unfolding size
+move_some to from = modrm_some _ _ _ _
+
+fetch_placed_some : (y : Layout) (r : Reg) (i : ℕ) (p : Place) → 1 ≤ sizes (fetch_placed y r i p)
+fetch_placed_some y r i (InRegister q) = let e = move_some r q in omega arith
+fetch_placed_some y r i InFrame = fetch_local_some y.base r (local_at y i)
+
 pub fetch_some : (y : Layout) (r : Reg) (x : Slot) → 1 ≤ sizes (fetch y r x)
 fetch_some y r (Temporary i) = let e = fetched_some r Rsp (y.temporaries + 8 * i) in omega arith
-fetch_some y r (Local i) = fetch_local_some y.base r (local_at y i)
+fetch_some y r (Local i) = fetch_placed_some y r i (place_of y i)
 
 keep_local_some : (o : Option ℕ) (d : ℕ) → 1 ≤ sizes (keep_local o d)
 keep_local_some None d = let e = put_some Rsp d in omega arith
 keep_local_some (Some b) d = let e = fetched_some Rcx Rsp b in omega arith
 
+keep_placed_some : (y : Layout) (i : ℕ) (p : Place) → 1 ≤ sizes (keep_placed y i p)
+keep_placed_some y i (InRegister q) = let e = move_some q Rax in omega arith
+keep_placed_some y i InFrame = keep_local_some y.base (local_at y i)
+
 keep_some : (y : Layout) (x : Slot) → 1 ≤ sizes (keep y x)
 keep_some y (Temporary i) = let e = put_some Rsp (y.temporaries + 8 * i) in omega arith
-keep_some y (Local i) = keep_local_some y.base (local_at y i)
+keep_some y (Local i) = keep_placed_some y i (place_of y i)
 
 -- ---- templates
 

@@ -43,7 +43,8 @@ module _ (program : LinearProgram) (p : ImagePlan) where
   -- its slots, as they are in memory, and the source's memory
   abbrev pub state_of : State → Configuration → (base : ℕ) → BodyState
   state_of s c base =
-      body_in_memory (p.layout c.frame.body) (register s.cpu Rsp) base s.memory c.store.memory
+      body_in_memory (p.layout c.frame.body) (register s.cpu Rsp) base
+      (local_registers s.cpu.registers) s.memory c.store.memory
 
   -- the slots hold the numbers that linear code has in them
   pub record HasSlotsOf (c : Configuration) (b : LinearBody) (slots : BodyState) : Type 0 where
@@ -60,6 +61,7 @@ module _ (program : LinearProgram) (p : ImagePlan) where
     pub there : body_of program c.frame.body ≡ Some body
     pub base : ℕ
     pub room : Roomy (frame_at c.frame.body body (register s.cpu Rsp) base)
-    pub holds : FrameHolds (frame_at c.frame.body body (register s.cpu Rsp) base) s.memory
+    pub holds : FrameHolds (frame_at c.frame.body body (register s.cpu Rsp) base)
+        (local_registers s.cpu.registers) s.memory
         (state_of s c base)
     pub slots : HasSlotsOf c body (state_of s c base)

@@ -37,6 +37,8 @@ use Rattle.template_code.specs.Slots.{fetch, operands_code}
 use Rattle.template_code.specs.Calls.{return_at}
 use Rattle.template_code.specs.Probing.{check_stack}
 use Rattle.template_code.specs.Template.{template, HasLabels, body_size}
+use Rattle.template_code.specs.declared.layout.Place.TheVariants.{InFrame}
+use Rattle.template_code.specs.Places.{place_of}
 use Rattle.x64_templates.specs.Straight.{local_registers, other_registers, MachineView}
 use Rattle.x64_templates.specs.Frames.{Agrees}
 use Rattle.x64_templates.specs.Implements.{IsReady}
@@ -307,6 +309,7 @@ module _ (t : Functions) (fs : List Funclet) (program : LinearProgram) (p : Imag
     pub check_stack : IsInImage q.check_stack (q.check_stack + sizes check_stack)
     -- all locals are in frames
     pub no_registers : (name : BodyName) (local : ℕ) → p.register name local ≡ None
+    pub in_frames : (name : BodyName) (local : ℕ) → place_of (p.layout name) local ≡ InFrame
     pub lands : (name : BodyName) (b : LinearBody) (label : ℕ) → body_of program name ≡ Some b
         → label < length b.code → p.lands name label ≡ true
     pub landings : (name : BodyName) (b : LinearBody) (label : ℕ) → body_of program name ≡ Some b

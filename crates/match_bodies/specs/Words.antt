@@ -84,3 +84,10 @@ pub use Rattle.match_bodies.specs.Layouts.{IsFunctionLayout, IsLayoutIf, IsLaidO
 pub use Rattle.match_bodies.specs.ProgramImages.{HasProgram, IsProgramImage, frame_of, service_of, HasService, IsMachineMemory, IsInImage, IsFramed}
 pub use Rattle.match_bodies.specs.Setting.{setting_of, Setting, RepresentsAt, IsResumed}
 pub use Rattle.match_bodies.specs.SlotStores.{with_values, KeepsStackBut, OwnerHasFrame, with_values_if, IsInFrame, FrameWords, IsLeft, LeavesRegisters, ActivationIsAt, ActivationsAreAt, ActivationsAreStored}
+pub use Rattle.template_code.specs.declared.layout.Place.{Place}
+pub use Rattle.template_code.specs.declared.layout.Place.TheVariants.{InRegister, InFrame}
+pub use Rattle.template_code.specs.Places.{place_of}
+pub use Rattle.template_code.specs.Slots.{fetch_placed, keep_placed}
+pub use Rattle.x64_templates.specs.Locals.{local_in}
+pub use Rattle.x64_templates.specs.Frames.{number_placed, KeepsUnused}
+pub use Rattle.template_code.specs.Calls.{parameter_placed}

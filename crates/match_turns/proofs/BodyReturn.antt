@@ -1,7 +1,7 @@
 -- A body returns: RAX has the number of its slot, and RIP and RSP are those of its return address.
 use Rattle.std.proofs.Common.{◌≡◌, ℕ, ◌+◌, ◌^◌, ◌<◌, ◌≤◌, ◌==◌, Bool, true, false, Option, Some, None, ◌∷◌, length, refl, sym, ap, subst, ◌∙◌, arith, length-append}
 use Rattle.std.specs.Prelude.{slice_get}
-use Rattle.match_turns.specs.Words.{kept_of, context_of, Rax, Rsp, State, register, Slot, Local, Temporary, IsSlot, Configuration, read, Layout, return_code, fetch, local_at, fetch_local, MachineView, machine, HasBack, Returned, HaveRoom, IsWellFormed, AllKeep, counts_of, owed_of, Setting, RepresentsAt, moved}
+use Rattle.match_turns.specs.Words.{kept_of, context_of, Rax, Rsp, State, register, Slot, Local, Temporary, IsSlot, Configuration, read, Layout, return_code, fetch, local_at, fetch_local, MachineView, machine, HasBack, Returned, HaveRoom, IsWellFormed, AllKeep, counts_of, owed_of, Setting, RepresentsAt, moved, Place, InRegister, InFrame, fetch_placed}
 use Rattle.match_bodies.specs.Callers.{owed_by}
 use Rattle.match_bodies.specs.CodeSites.{body_plan}
 use Rattle.virtual_unwind.specs.Undone.{operations}
@@ -11,6 +11,7 @@ use Rattle.frame_rules.specs.Plan.{FramePlan, IsPlan, epilogue, operations_of}
 use Rattle.frame_rules.specs.States.{registers}
 use Rattle.frame_rules.proofs.Planning.{codes_plan}
 use Rattle.template_code.specs.Frames.{frame_plan, plan_of_layout}
+use Rattle.template_code.specs.Places.{place_of}
 use Rattle.x64_templates.specs.Runs.{Reaches}
 use Rattle.linear_code.specs.declared.instruction.Instruction.TheVariants as instructions
 use Rattle.match_turns.proofs.Lemmas.{body_owed, owed_return, number_small, fetch_fine, return_run, reaches_steps, may_read_written, word_is, reaches_keeps, stays_well_formed, IsCounted, sp_low, frame_top, room_here, holds_here, slots_here, v, frame, slots, same_state, template_here, has_slots, sp_is}
@@ -28,9 +29,13 @@ fetched_by : (o : Option ℕ) (d : ℕ) → length (fetch_local o Rax d) ≤ 2
 fetched_by None d = omega arith
 fetched_by (Some b) d = omega arith
 
+placed_soon : (y : Layout) (i : ℕ) (p : Place) → length (fetch_placed y Rax i p) ≤ 2
+placed_soon y i (InRegister r) = omega arith
+placed_soon y i InFrame = fetched_by y.base (local_at y i)
+
 fetched_soon : (y : Layout) (x : Slot) → length (fetch y Rax x) ≤ 2
 fetched_soon y (Temporary i) = omega arith
-fetched_soon y (Local i) = fetched_by y.base (local_at y i)
+fetched_soon y (Local i) = placed_soon y i (place_of y i)
 
 -- a return takes so many turns at most where its epilogue has so many instructions
 pub returns_within : (y : Layout) (x : Slot) (n : ℕ) → length (epilogue (plan_of_layout y 0)) ≤ n
@@ -207,7 +212,8 @@ module _ (setting : Setting) (roomy : HaveRoom setting.program) where
         let low = sp_low setting s c b counted in
         let f = frame setting roomy s c b counted in
         returns_leave setting c.frame.body b.body.slots.code b.body.slots.body c.frame.next from at
-        s after (top_of setting s c b counted) b.body.back b.body.others b.body.is b.rip
+        s
+        after (top_of setting s c b counted) b.body.back b.body.others b.body.is b.rip
         (begins_beneath setting s c b counted) refl b.memory.code
         (fetch_plain layout.slots layout.frame 8 layout from
         (fetch_fine f.layout f.counts f.sp f.base true from

@@ -29,7 +29,7 @@ pub record ServiceReached (p : FramePlace) (first : ℕ) (v : MachineView) (rip 
 
 pub service_reached : (p : FramePlace) (first : ℕ) (v : MachineView) (rip to service : ℕ)
     (f : Flags) (b : BodyState) → Roomy p → first + 4 ≤ p.counts.temporaries → sp_of v ≡ p.sp
-    → FrameHolds p v.memory b → HasBelow v.memory p.sp 8
+    → FrameHolds p v.locals v.memory b → HasBelow v.memory p.sp 8
     → IsNear (return_at p.layout first (rip + 5)) to
     → HasCode v.memory rip (call_built_in_code p.layout first rip to) → HasThunk v.memory to service
     → ServiceReached p first v rip service f b

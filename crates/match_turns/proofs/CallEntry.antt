@@ -222,7 +222,8 @@ module _ {setting : Setting} (at_call : AtCall setting) where
       let e = l.frame in
       let a = l.locals in
       let n = l.few in (
-        parameters_plain layout.slots layout.frame 40 layout 0 count (omega arith) (omega arith)
+        parameters_plain layout.slots layout.frame 40 layout 0 count
+            (image.in_frames (FunctionBody f)) (omega arith) (omega arith)
             (λ j lt. inr (omega arith, omega arith)),
         omega arith,
       )
@@ -231,7 +232,8 @@ module _ {setting : Setting} (at_call : AtCall setting) where
       let a = l.locals in
       let w = l.within in
       let z = l.small in (
-        parameters_plain layout.slots layout.frame 40 layout 0 count (omega arith) (omega arith)
+        parameters_plain layout.slots layout.frame 40 layout 0 count
+            (image.in_frames (FunctionBody f)) (omega arith) (omega arith)
             (λ j lt. inl (omega arith)),
         l.small,
       )

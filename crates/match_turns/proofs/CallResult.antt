@@ -6,6 +6,7 @@ use Rattle.std.proofs.lemmas.Bool.{eq-eqb, ne_eqb}
 use Rattle.std.proofs.lemmas.Option.{slice_get_within}
 use Rattle.match_turns.specs.Words.{kept_of, Event, Memory, Rax, Rsp, Instr, Context, State, register, Functions, distance, Funclet, arrivals, Temporary, Instruction, BodyState, with_slot, LinearProgram, LinearBody, BodyName, FuncletBody, body_of, Frame, Item, Waits, Configuration, Layout, sizes, keep, template, body_size, offset_of, machine, HasCode, ReachesBody, StackItem, ImagePlan, Activation, locals_of, On, on_top, IsWellFormed, AllKeep, HaveRoom, Sites, links_of, seen_by_templates, counts_of, OwnerHasFrame, with_values, Setting, IsMachineMemory}
 use Rattle.x64_templates.specs.Runs.{Reaches}
+use Rattle.x64_templates.proofs.Locals.{locals_stay}
 use Rattle.match_turns.proofs.Lemmas.{sizes_append, template_sizes, code_split, call_ends, keep_flow, first_in_code, waits_in_body, locals_count, same_activations, Keeps, reaches_keeps, stays_well_formed, IsCounted, is_machine, room_here, holds_here, slots_here, locals_here, Leaves, Ran, represents_next, is_here, is_after, ends_at, RunsKeep, one_piece, code, y, v, frame, slots, template_here, next_address, sp_is, silent_at, Surroundings, kept_by_view}
 use Rattle.x64_templates.specs.Epilogues.{IsReturn}
 use Rattle.match_bodies.specs.Bodies.{RepresentsAt}
@@ -121,8 +122,7 @@ module _ (setting : Setting) (roomy : HaveRoom setting.program) where
           well_formed = record {
             rip_small = small_address;
             count = well_formed.count;
-            small =
-                well_formed.small;
+            small = well_formed.small;
           };
           memory = memory;
           body = waits_in_body t fs program p q image earlier above is w items acts w.next
@@ -299,7 +299,9 @@ module _ (setting : Setting) (roomy : HaveRoom setting.program) where
             count = k.count;
             small = k.small;
           } in
-          let same = kept_by_view r.after u.cpu.registers r.rest r.locals in
+          let same = kept_by_view r.after u.cpu.registers r.rest
+          (locals_stay layout (seen_by_templates u).locals r.after.locals (image.in_frames w.body)
+          r.locals) in
           let d : BodyState = record {
             slots = with_slot
                 (slots setting roomy earlier caller waits counted).slots (Temporary first) result;

@@ -3,7 +3,8 @@
 use Rattle.std.proofs.Common.{◌≡◌, ℕ, zero, suc, ◌+◌, ◌*◌, ◌%◌, ◌^◌, ◌<◌, ◌≤◌, true, false, Option, Some, None, [], ◌∷◌, refl, sym, ap, subst, ◌∙◌, arith, inl, inr}
 use Rattle.std.specs.Prelude.{◌⊎◌}
 use Rattle.std.proofs.lemmas.Bool.{cases_eq, cases_lt}
-use Rattle.match_turns.specs.Words.{Memory, may_write, number_at, with_number, with_bytes, Protection, is_writable, Rax, Rsp, Slot, Temporary, BodyState, temporary_at, fetched, keep_register, passing_code, MachineView, Executes, sp_of, slot_at, IsBytes, MemoryKeepsBase, FramePlace, Roomy, FrameHolds, IsThere}
+use Rattle.match_turns.specs.Words.{Memory, may_write, number_at, with_number, with_bytes, Protection, is_writable, Rax, Rsp, Slot, Temporary, BodyState, temporary_at, fetched, keep_register, passing_code, MachineView, Executes, sp_of, slot_at, IsBytes, MemoryKeepsBase, FramePlace, Roomy, FrameHolds, IsThere, LocalRegisters}
+use Rattle.x64_templates.proofs.Bodies.{slot_by_words}
 use Rattle.match_turns.proofs.Lemmas.{untouched, stored_is_loaded, all_may, same_number, executes_then, executes_nothing, put, slot_high, fetch_does, Fine, near, kept_at, keeps_register}
 use Rattle.x64_templates.proofs.Accesses.{digits}
 
@@ -48,17 +49,19 @@ module _ (p : FramePlace) (roomy : Roomy p) (room : ℕ) where
         h.1,
       )
 
-  pub holds_beside : (m : Memory) (at x : ℕ) (b : BodyState) → HasOutgoing p m room → p.sp ≤ at
+  pub holds_beside : (l : LocalRegisters) (m : Memory) (at x : ℕ) (b : BodyState)
+      → HasOutgoing p m room → p.sp ≤ at
       → at + 8 ≤ p.sp + room → ((k : ℕ) → p.layout.base ≡ Some k → p.sp + k + 8 < 2 ^ 64)
-      → FrameHolds p m b → FrameHolds p (stored m at x) b
-  holds_beside m at x b out low le base_high h =
+      → FrameHolds p l m b → FrameHolds p l (stored m at x) b
+  holds_beside l m at x b out low le base_high h =
       let hi = roomy.high in
       let n = out.near in
       record {
-        slot = λ z iz. (let up = out.slots z iz in
+        slot = slot_by_words p.layout p.counts p.reserved p.sp p.base roomy l m (stored m at x) b
+            (λ z iz. (let up = out.slots z iz in
             same_number (stored m at x).byte m.byte 8 (slot_at p.layout p.sp p.base z)
             (slot_high p.layout p.counts p.reserved p.sp p.base roomy z iz)
-            (λ a g l. beside_at m at x a (omega arith) (inr (omega arith)))) ∙ h.slot z iz;
+            (λ a g k. beside_at m at x a (omega arith) (inr (omega arith))))) h;
         small = h.small;
         kept_base = base_beside m at x p.layout.base le (omega arith)
             (λ k e. (out.base k e, base_high k e)) h.kept_base;
@@ -90,7 +93,7 @@ module _ (p : FramePlace) (roomy : Roomy p) (room : ℕ) where
     pub memory : Memory
     pub does : Executes (passing_code p.layout first i n) v
         (record v { rax = rax; memory = memory })
-    pub holds : FrameHolds p memory b
+    pub holds : FrameHolds p v.locals memory b
     pub number : (j : ℕ) → i ≤ j → j < i + n → number_at memory.byte 8 (p.sp + 8 * j)
         ≡ b.slots (Temporary (first + j))
     pub same : (a : ℕ) → (a < p.sp + 8 * i) ⊎ (p.sp + 8 * (i + n) ≤ a)
@@ -101,7 +104,7 @@ module _ (p : FramePlace) (roomy : Roomy p) (room : ℕ) where
   pub passes : (first i n : ℕ) (v : MachineView) (b : BodyState)
       → ((k : ℕ) → p.layout.base ≡ Some k → p.sp + k + 8 < 2 ^ 64)
       → first + i + n ≤ p.counts.temporaries → 8 * (i + n) ≤ room → HasOutgoing p v.memory room
-      → sp_of v ≡ p.sp → FrameHolds p v.memory b → AllPassed first i n v b
+      → sp_of v ≡ p.sp → FrameHolds p v.locals v.memory b → AllPassed first i n v b
   passes first i zero v b base_high le fits out at h = record {
     rax = v.rax;
     memory = v.memory;
@@ -130,7 +133,7 @@ module _ (p : FramePlace) (roomy : Roomy p) (room : ℕ) where
       let u = kept_at w to x in
       let r = passes first (i + 1) n u b base_high (omega arith) (omega arith)
       (still_outgoing v.memory u.memory refl out) at
-      (holds_beside v.memory to x b out (omega arith) (omega arith) base_high h) in
+      (holds_beside v.locals v.memory to x b out (omega arith) (omega arith) base_high h) in
       let last : MachineView = record v { rax = r.rax; memory = r.memory } in
       let here : number_at r.memory.byte 8 to ≡ x =
       same_number r.memory.byte u.memory.byte 8 to (omega arith)

@@ -3,12 +3,13 @@ use Rattle.std.proofs.Common.{◌≡◌, ℕ, ◌+◌, ◌*◌, ◌^◌, ◌<◌
 use Rattle.std.specs.Prelude.{slice_get, slice_index, slice_set}
 use Rattle.std.proofs.lemmas.Option.{slice_get_within, slice_get_cases}
 use Rattle.std.proofs.lemmas.List.{append-nil}
-use Rattle.match_turns.specs.Words.{STACK_START, STACK_END, W32, low, Event, Memory, number_at, Rax, Rcx, Rdx, Rsp, Instr, State, register, of_test, no_exception, Local, BodyState, with_slot, LinearBody, LinearFunclet, BodyName, FuncletBody, funclet_body, Item, Store, Configuration, flag_of, Layout, sizes, move, put_back, keep, local_at, keep_local, fetched, machine, HasCode, Enters, FramePlace, ReachesBody, Steps, StackItem, is_encodable, IsFinallyKind, parent_of, function_of, owner_of, IsFuncletOf, owners_of, by_parent, Activation, locals_of, IsActivation, HasSpace, below_end, record_room, HasPointers, FuncletIsAbove, IsWellFormed, KeepsShadow, AllKeep, is_call, LeadsTo, parent_base, keep_argument, begin_of, making_size, context_of, FindsOwed, Owed, owed_of, with_values, OwnerHasFrame, IsKnown, entry_turns, FlagsFit, LARGEST_FRAME, Setting, HasProgram, IsMachineMemory, RepresentsAt, frame_at, state_of, OtherRegisters}
+use Rattle.match_turns.specs.Words.{STACK_START, STACK_END, W32, low, Event, Memory, number_at, Rax, Rcx, Rdx, Rsp, Instr, State, register, of_test, no_exception, Local, BodyState, with_slot, LinearBody, LinearFunclet, BodyName, FuncletBody, funclet_body, Item, Store, Configuration, flag_of, Layout, sizes, move, put_back, keep, local_at, keep_local, fetched, machine, HasCode, Enters, FramePlace, ReachesBody, Steps, StackItem, is_encodable, IsFinallyKind, parent_of, function_of, owner_of, IsFuncletOf, owners_of, by_parent, Activation, locals_of, IsActivation, HasSpace, below_end, record_room, HasPointers, FuncletIsAbove, IsWellFormed, KeepsShadow, AllKeep, is_call, LeadsTo, parent_base, keep_argument, begin_of, making_size, context_of, FindsOwed, Owed, owed_of, with_values, OwnerHasFrame, IsKnown, entry_turns, FlagsFit, LARGEST_FRAME, Setting, HasProgram, IsMachineMemory, RepresentsAt, frame_at, state_of, OtherRegisters, keep_placed}
 use Rattle.match_bodies.specs.CodeSites.{arguments_code}
 use Rattle.linear_code.specs.declared.program.FuncletKind.TheVariants as funclets
 use Rattle.linear_machine.specs.Frames as linear
 use Rattle.match_bodies.specs.ProgramImages.{frame_of}
-use Rattle.match_turns.proofs.Lemmas.{frame_from, frame_with, sizes_append, code_split, near, enters_then, flag_run, Within, straight, keep_first, others_of, program_kept, enters_silently, none_inside, read_here, StepsTo, reaches_steps, enters_steps, keeps_split, Beneath, beneath_by, callers_above, Finds, ran, label_found, argument_found, frame_there, EntryRan, locals_count, activated, reaches_keeps, enters_keeps, stays_well_formed, SlotsPlaced, IsCounted, frame_top, room_here, holds_here, slots_here, locals_here, Leaves, Ran, frame_after, new_on, represents_next, set_length, local_after, gives_above, owed_with, frame_owed, kept_alike}
+use Rattle.match_turns.proofs.Lemmas.{frame_from, frame_with, sizes_append, code_split, near, enters_then, flag_run, Within, straight, keep_first, others_of, program_kept, enters_silently, none_inside, read_here, StepsTo, reaches_steps, enters_steps, keeps_split, Beneath, beneath_by, callers_above, Finds, ran, label_found, argument_found, frame_there, EntryRan, locals_count, activated, reaches_keeps, enters_keeps, stays_well_formed, SlotsPlaced, IsCounted, frame_top, room_here, holds_here, slots_here, locals_here, Leaves, Ran, frame_after, new_on, represents_next, set_length, local_after, gives_above, owed_with, frame_owed, kept_alike, keep_length}
+use Rattle.x64_templates.proofs.Locals.{locals_stay}
 use Rattle.match_bodies.proofs.RoutineWalks.{Ran as MidRan}
 use Rattle.match_bodies.proofs.BodyFrames.{codes_above}
 use Rattle.match_bodies.proofs.BodyViews.{placed, count}
@@ -274,8 +275,7 @@ module _ (setting : Setting) where
           changed = record {
             changes = record {
               protection = r.changes.protection;
-              byte =
-                  r.changes.byte;
+              byte = r.changes.byte;
               bytes = r.changes.bytes;
             };
             keeps =
@@ -283,12 +283,13 @@ module _ (setting : Setting) where
                   protection = z.protection;
                   fixed = z.fixed;
                   count = z.count;
-                  small =
-                      z.small;
+                  small = z.small;
                 };
           };
           holds = r.holds;
-          kept = kept_alike r.after e.after r.rest r.locals;
+          kept = kept_alike r.after e.after r.rest
+              (locals_stay y e.after.locals r.after.locals (image.in_frames (FuncletBody k))
+              r.locals);
           leaves = leaves;
         }
 
@@ -323,8 +324,7 @@ module _ (setting : Setting) where
             body = FuncletBody k;
             next = 0;
             activation = activation;
-            exception =
-                no_exception;
+            exception = no_exception;
             held = held + 2;
             temporaries = [];
             landed = None;
@@ -338,8 +338,7 @@ module _ (setting : Setting) where
         (λ z. let w : true ≡ false = sym z ∙ l.plan.framed in absurd cc) (λ j z. framed_owner))
 
     last_few : length last ≤ 3
-    last_few = subst (λ o. length (move W32 Rax Rcx ∷ keep_local o (local_at y flag)) ≤ 3)
-        (sym l.plan.layout.base) (omega arith)
+    last_few = let few = keep_length y (Local flag) in omega arith
 
     -- ---- each turn keeps the shadow
 
@@ -354,7 +353,9 @@ module _ (setting : Setting) where
     storing = put_back Rcx (local_at y flag)
 
     last_is : last ≡ mid ++ (storing ∷ [])
-    last_is = ap (λ o. move W32 Rax Rcx ∷ keep_local o (local_at y flag)) l.plan.layout.base
+    last_is = ap (λ q. move W32 Rax Rcx ∷ keep_placed y flag q)
+        (image.in_frames (FuncletBody k) flag)
+        ∙ ap (λ o. move W32 Rax Rcx ∷ keep_local o (local_at y flag)) l.plan.layout.base
 
     all_parts : arguments_code program p (FuncletBody k) ≡ (base ++ mid) ++ (storing ∷ [])
     all_parts = parts ∙ ap (λ z. base ++ keep_argument y z) kind_is

@@ -86,7 +86,8 @@ module _ {setting : Setting} (at_call : AtCall setting) where
       let made = no_frame (entering.called at_call) target
       (entering.flags at_call) (caller - 8) (entering.arguments at_call) (calling.called_sp at_call)
       (calling.in_registers at_call) in
-      entering.entered at_call (caller - 8) target 0 made (with_home layout) (record {
+      entering.entered at_call (caller - 8) target 0 made (with_home layout)
+      (image.in_frames (FunctionBody f)) (record {
         none = l.none;
         low = omega arith;
         temporaries = omega arith;
@@ -181,7 +182,8 @@ module _ {setting : Setting} (at_call : AtCall setting) where
         let j = l.within in
         let k = l.small in
         entering.entered at_call sp (target + sizes (making_frame p q f false))
-        (prologue_turns plan) made layout (record {
+        (prologue_turns plan) made layout
+        (image.in_frames (FunctionBody f)) (record {
           none = l.none;
           low = omega arith;
           temporaries = omega arith;

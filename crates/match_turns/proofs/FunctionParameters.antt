@@ -2,10 +2,15 @@
 use Rattle.std.proofs.Common.{◌≡◌, ℕ, zero, suc, ◌+◌, ◌-◌, ◌*◌, ◌^◌, ◌<◌, ◌≤◌, true, false, Some, None, List, ◌++◌, length, refl, sym, ap, subst, ◌∙◌, arith, inl, inr, length-append}
 use Rattle.std.specs.Prelude.{◌⊎◌, nat_lt}
 use Rattle.std.proofs.lemmas.Bool.{cases_lt, lt-ltb, le-ltb}
-use Rattle.match_turns.specs.Words.{STACK_START, STACK_END, Memory, may_write, number_at, Protection, is_writable, Rsp, Flags, State, register, is_reserved, Local, Temporary, LinearBody, FunctionBody, body_of, function_body, Layout, sizes, spelled, IsNear, return_at, passing_code, parameters_code, stack_parameter, parameter_code, MachineView, machine, with_arguments, OnStack, IsFunctionFrame, body_in_memory, FreshFrame, HasBase, MemoryKeepsBase, IsBytes, Agrees, InTemporaries, InLocals, KeepsReserved, HasCode, Enters, FramePlace, Roomy, ReachesBody, counts_of, LARGEST_FRAME, Setting, OtherRegisters}
+use Rattle.match_turns.specs.Words.{STACK_START, STACK_END, Memory, may_write, number_at, Protection, is_writable, Rsp, Flags, State, register, is_reserved, Local, Temporary, LinearBody, FunctionBody, body_of, function_body, Layout, sizes, spelled, IsNear, return_at, passing_code, parameters_code, stack_parameter, parameter_code, MachineView, machine, with_arguments, OnStack, IsFunctionFrame, body_in_memory, FreshFrame, HasBase, MemoryKeepsBase, IsBytes, Agrees, InTemporaries, InLocals, KeepsReserved, HasCode, Enters, FramePlace, Roomy, ReachesBody, counts_of, LARGEST_FRAME, Setting, OtherRegisters, LocalRegisters, local_in, registers_of, Place, InRegister, InFrame, parameter_placed}
 use Rattle.match_bodies.specs.CodeSites.{arguments_code, body_plan, making_size}
+use Rattle.template_code.specs.Places.{place_of}
 use Rattle.x64_templates.specs.Runs.{Reaches}
 use Rattle.match_turns.proofs.Lemmas.{bytes_kept, same_number, enters_then, within_agrees, making_steps, stack_is_reserved, may_read_written, holds_here, Keeps, keeps_then, reaches_keeps, enters_keeps}
+use Rattle.x64_instr.specs.declared.register.Reg.{Reg}
+use Rattle.x64_templates.specs.Frames.{number_placed}
+use Rattle.match_bodies.proofs.BodyViews.{locals_small}
+use Rattle.match_bodies.proofs.ChainKeeping.{all_are, are_all}
 use Rattle.x64_templates.proofs.Entering.{fresh_holds, parameters_run}
 use Rattle.match_turns.proofs.CallArguments as calling
 use Rattle.match_turns.proofs.CallWaitingCaller.{back_near}
@@ -61,10 +66,12 @@ module _ (globals : List ℕ) (y : Layout) (o : LinearBody) (sp : ℕ) where
             x ↦ (let g = x.0 in let k = x.1 in (omega arith, omega arith))
       ]
 
-  pub fresh_own : (m source : Memory) → IsOwn → IsBytes m
+  pub fresh_own : (l : LocalRegisters) (m source : Memory) → IsOwn
+      → ((r : Reg) → local_in l r < 2 ^ 64) → IsBytes m
       → ((a : ℕ) → STACK_START ≤ a → a < STACK_END → may_write m a ≡ true)
-      → Agrees (is_reserved globals) m source → FreshFrame own_frame m source
-  fresh_own m source h bytes may agrees = record {
+      → Agrees (is_reserved globals) m source → FreshFrame own_frame l m source
+  fresh_own l m source h small bytes may agrees = record {
+    small = small;
     bytes = bytes;
     writable = λ a i. (let r = own_slots a h i in may a r.0 r.1);
     own = λ a i. (let r = own_slots a h i in stack_is_reserved globals a r.0 r.1);
@@ -77,14 +84,7 @@ module _ (globals : List ℕ) (y : Layout) (o : LinearBody) (sp : ℕ) where
 
 -- the layout with a frame that ends above the home space: no parameter is above it
 abbrev pub with_home : Layout → Layout
-with_home y = record {
-  base = y.base;
-  pointers = y.pointers;
-  temporaries = y.temporaries;
-  locals = y.locals;
-  slots = 40;
-  frame = 40;
-}
+with_home y = record y { slots = 40; frame = 40 }
 
 pub home_parameters : (y : Layout) (i n : ℕ) → i + n ≤ 4
     → parameters_code (with_home y) i n ≡ parameters_code y i n
@@ -96,22 +96,36 @@ home_parameters y i (suc n) le =
   where
     same_code : (y : Layout) (i : ℕ) → nat_lt i 4 ≡ true
         → parameter_code (with_home y) i ≡ parameter_code y i
-    same_code y i e = rw e refl
+    same_code y i e = placed (place_of y i)
+      where
+        placed : (q : Place) → parameter_placed (with_home y) i q ≡ parameter_placed y i q
+        placed (InRegister r) = rw e refl
+        placed InFrame = rw e refl
 
 -- ---- how many turns parameters take
 
+one_placed : (y : Layout) (i : ℕ) (q : Place) → (i < 4 → length (parameter_placed y i q) ≤ 1)
+    × (length (parameter_placed y i q) ≤ 2)
+one_placed y i (InRegister r) = elim (cases_lt i 4) [
+  | inl l ↦ (let e : nat_lt i 4 ≡ true = lt-ltb i 4 l in
+      let z : length (parameter_placed y i (InRegister r)) ≡ 1 = rw e refl in
+      (λ h. omega arith, omega arith))
+  | inr g ↦ (let e : nat_lt i 4 ≡ false = le-ltb i 4 g in
+      let z : length (parameter_placed y i (InRegister r)) ≡ 1 = rw e refl in
+      (λ h. omega arith, omega arith))
+]
+one_placed y i InFrame = elim (cases_lt i 4) [
+  | inl l ↦ (let e : nat_lt i 4 ≡ true = lt-ltb i 4 l in
+      let z : length (parameter_placed y i InFrame) ≡ 1 = rw e refl in
+      (λ h. omega arith, omega arith))
+  | inr g ↦ (let e : nat_lt i 4 ≡ false = le-ltb i 4 g in
+      let z : length (parameter_placed y i InFrame) ≡ 2 = rw e refl in
+      (λ h. absurd (omega arith), omega arith))
+]
+
 one_parameter : (y : Layout) (i : ℕ) → (i < 4 → length (parameter_code y i) ≤ 1)
     × (length (parameter_code y i) ≤ 2)
-one_parameter y i = elim (cases_lt i 4) [
-  | inl l ↦ (let e : nat_lt i 4 ≡ true = lt-ltb i 4 l in
-      let z : length (parameter_code y i) ≡ 1 = rw e refl in (λ h. omega arith, omega arith))
-  | inr g ↦ (let e : nat_lt i 4 ≡ false = le-ltb i 4 g in
-      let z : length (parameter_code y i) ≡ 2 = rw e refl in (
-        λ h. absurd (omega arith),
-        omega
-            arith,
-      ))
-]
+one_parameter y i = one_placed y i (place_of y i)
 
 two_each : (y : Layout) (i n : ℕ) → length (parameters_code y i n) ≤ 2 * n
 two_each y i zero = omega arith
@@ -232,7 +246,7 @@ module _ {setting : Setting} (at_call : AtCall setting) where
   -- ---- once the frame is made, the parameters
 
   module _ (sp to n : ℕ) (made : Made called target to flags (caller - 8) sp arguments n)
-      (y : Layout) (own : IsOwn program.globals y o sp)
+      (y : Layout) (framed : (i : ℕ) → place_of y i ≡ InFrame) (own : IsOwn program.globals y o sp)
       (whole : IsFunctionFrame (own_frame program.globals y o sp))
       (same_locals : y.locals ≡ layout.locals) (short : y.frame + 8 ≤ LARGEST_FRAME)
       (up : (i : ℕ) → 4 ≤ i → i < count → sp + y.frame + 8 ≡ caller)
@@ -252,6 +266,10 @@ module _ {setting : Setting} (at_call : AtCall setting) where
 
     made_bytes : IsBytes made.after.memory
     made_bytes = made.within.bytes (calling.called_bytes at_call)
+
+    made_small : (r : Reg) → local_in made.after.locals r < 2 ^ 64
+    made_small = locals_small (registers_of made.after) refl (are_all (registers_of made.after)
+        (made_keeps.small (all_are s.cpu.registers b.well_formed.small)))
 
     made_agrees : Agrees (is_reserved program.globals) made.after.memory c.store.memory
     made_agrees =
@@ -288,16 +306,19 @@ module _ {setting : Setting} (at_call : AtCall setting) where
 
     run : ReachesBody (own_frame program.globals y o sp) (length (parameters_code y 0 count)) k
         (to + sizes (parameters_code y 0 count)) made.after.rest made.after.locals (record {
-          slots = with_arguments (body_in_memory y sp sp made.after.memory c.store.memory).slots
+          slots = with_arguments (body_in_memory y sp sp made.after.locals made.after.memory
+              c.store.memory).slots
               arguments 0 count;
           memory = c.store.memory;
         })
     run =
         parameters_run (own_frame program.globals y o sp) count arguments made.after to made.flags
-        (body_in_memory y sp sp made.after.memory c.store.memory)
+        (body_in_memory y sp sp made.after.locals made.after.memory c.store.memory)
         (roomy_own program.globals y o sp own) whole fits made.stack
-        (fresh_holds (own_frame program.globals y o sp) made.after.memory c.store.memory
-        (fresh_own program.globals y o sp made.after.memory c.store.memory own made_bytes made_may
+        (fresh_holds (own_frame program.globals y o sp) made.after.locals made.after.memory
+        c.store.memory
+        (fresh_own program.globals y o sp made.after.locals made.after.memory c.store.memory own
+        made_small made_bytes made_may
         made_agrees)) made.registers stack_arguments (record {
           is_there = bytes_kept s.memory made.after.memory to (spelled (parameters_code y 0 count))
               made_keeps.fixed made_keeps.protection code.is_there;
@@ -325,8 +346,11 @@ module _ {setting : Setting} (at_call : AtCall setting) where
           locals = λ i lt. (let w : sp + (layout.locals + 8 * i)
               ≡ sp + (y.locals + 8 * i) = omega arith in
               ap (number_at run.after.memory.byte 8) w
-              ∙ run.holds.slot (Local i) (let z : i < o.locals = omega (arith, fits) in z)
-              ∙ argument_is (body_in_memory y sp sp made.after.memory c.store.memory).slots
+              ∙ sym (ap (number_placed y sp run.after.locals run.after.memory i)
+              (framed i)) ∙ run.holds.slot (Local i)
+              (let z : i < o.locals = omega (arith, fits) in z)
+              ∙ argument_is (body_in_memory y sp sp made.after.locals made.after.memory
+              c.store.memory).slots
               arguments 0 count i (omega arith) (omega arith));
           bytes = run.changes.bytes made_bytes;
           agrees = run.holds.source;

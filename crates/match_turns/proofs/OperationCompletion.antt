@@ -6,6 +6,7 @@ use Rattle.std.proofs.lemmas.Option.{slice_get_within}
 use Rattle.match_turns.specs.Words.{Memory, Rax, Rcx, Instr, State, register, Gives, Operation, Slot, Temporary, Layout, Instruction, BodyState, with_slot, HasSlots, LinearBody, Configuration, Next, act, written, exec, sizes, operands_code, finish_code, machine, ReachesBody, FramePlace, locals_of, AllKeep, Comes, HasRule, Moves, turns_left, IsWellMade, IsKnown, seen_by_templates, counts_of, with_values, ComesTo, Setting, RepresentsAt, WorksOn}
 use Rattle.linear_code.specs.declared.instruction.Instruction.TheVariants as instructions
 use Rattle.linear_machine.specs.Frames as linear
+use Rattle.x64_templates.proofs.Locals.{locals_stay}
 use Rattle.match_turns.proofs.Lemmas.{compute_length, reaches_silently, locals_count, activated, IsCounted, is_machine, Keeps, reaches_keeps, stays_well_formed, Leaves, further, Ran, represents_next, is_here, is_after, ends_at, RunsKeep, finish_keeps, Surroundings, has_slots, next_address, silent_at, locals_after, temporaries_after, FitsAfter, one_more, at_other, label_small, stored, writes, fits_when_read, leaves_stored, held_here, goes_inside, kept_by_view}
 use Rattle.x64_templates.specs.Runs.{Finished}
 use Rattle.match_bodies.proofs.BodyViews.{placed}
@@ -96,7 +97,9 @@ module _ (setting : Setting) (made : IsWellMade setting.program setting.plan)
           };
         };
         holds = r.holds;
-        kept = kept_by_view r.after s.cpu.registers r.rest r.locals;
+        kept = kept_by_view r.after s.cpu.registers r.rest
+            (locals_stay y (seen_by_templates s).locals r.after.locals
+            (image.in_frames c.frame.body) r.locals);
         leaves = leaves;
       }
 
@@ -104,7 +107,9 @@ module _ (setting : Setting) (made : IsWellMade setting.program setting.plan)
       keeps_shadow : AllKeep t fs n s
       keeps_shadow =
           keep u r.comes (ends_at setting old c begins counted u label at lt
-          (kept_by_view r.after s.cpu.registers r.rest r.locals)
+          (kept_by_view r.after s.cpu.registers r.rest
+          (locals_stay y (seen_by_templates s).locals r.after.locals (image.in_frames c.frame.body)
+          r.locals))
           (is_after setting old c begins counted u d values ts ran around.caller around.owner))
 
       silently : Comes t fs n s [] u

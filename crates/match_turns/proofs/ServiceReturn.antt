@@ -7,6 +7,7 @@ use Rattle.std.proofs.lemmas.Option.{slice_get_within}
 use Rattle.match_turns.specs.Words.{Event, Memory, Rsp, Instr, Context, kept_of, State, register, distance, arrivals, Continues, turn, BuiltIn, Temporary, BodyState, with_slot, LinearBody, Configuration, Next, act, sizes, keep, call, return_at, begin_call, clear_result, MachineView, machine, AreSmall, sp_of, with_sp, ReachesBody, locals_of, KeepsAbove, KeepsStack, WalkGives, KeepsShadow, AllKeep, Comes, Moves, HaveRoom, turns_left, counts_of, with_values, OwnerHasFrame, Setting, HasProgram, IsMachineMemory, RepresentsAt, arguments_code}
 use Rattle.linear_code.specs.declared.instruction.Instruction.TheVariants as instructions
 use Rattle.linear_machine.specs.Frames as linear
+use Rattle.x64_templates.proofs.Locals.{locals_stay}
 use Rattle.match_turns.proofs.Lemmas.{sizes_append, call_size, call_ends, keep_flow, comes_then, silent_here, reaches_silently, program_reaches, locals_count, same_activations, IsCounted, room_here, holds_here, locals_here, Keeps, keeps_then, reaches_keeps, stays_well_formed, Ran, represents_next, kept_alike, others_of, caller_here, beyond_here, is_here, is_after, ends_at, ends_gives, IsPast, one_piece, past_ends, frame, slots, has_slots, silent_at, Surroundings, one_more, label_small, leaves_stored}
 use Rattle.match_bodies.proofs.BodyViews.{placed}
 use Rattle.match_turns.proofs.BuiltInRequest.{clear_size}
@@ -57,8 +58,11 @@ module _ (setting : Setting) (roomy : HaveRoom setting.program) where
 
     -- the state after the service, by its result and the memory that it leaves
     abbrev pub view_after : ℕ → Memory → MachineView
-    view_after x m =
-        record with_given { rax = x; rest = with_sp with_given.rest sp_after; memory = m }
+    view_after x m = record with_given {
+      rax = x;
+      rest = with_sp with_given.rest sp_after;
+      memory = m;
+    }
 
     abbrev pub returned_to : ℕ → Memory → State
     returned_to x m = machine (view_after x m) to (flags_there setting roomy s c b counted f first
@@ -195,7 +199,9 @@ module _ (setting : Setting) (roomy : HaveRoom setting.program) where
       kept_back = ap (λ r. r ∷ others_of s.cpu.registers) (sp_is x m)
 
       kept_after : kept_of after.cpu.registers ≡ kept_of s.cpu.registers
-      kept_after = kept_alike run.after (view_after x m) run.rest run.locals ∙ kept_back
+      kept_after = kept_alike run.after (view_after x m) run.rest
+          (locals_stay (p.layout c.frame.body) (view_after x m).locals run.after.locals
+          (image.in_frames c.frame.body) run.locals) ∙ kept_back
 
       abbrev values : List ℕ
       values = linear.locals_of c.store c.frame.activation

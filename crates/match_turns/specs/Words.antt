@@ -126,3 +126,9 @@ pub use Rattle.match_turns.specs.OperationOutcome.{ComesTo}
 pub use Rattle.match_turns.specs.RaiseLaws.{BodiesContinue, LocalUnwindsAreMatched, RaisesAreMatched, ContinuationsAfterCalls}
 pub use Rattle.match_turns.specs.SettingOutcome.{CallBegins, Continuations, Outcome, Shows, Represents, WalkContinues, WorksOn, EntersFunclet, ContinuesAs}
 pub use Rattle.match_turns.specs.TurnLaws.{waiting_below}
+pub use Rattle.template_code.specs.declared.layout.Place.{Place}
+pub use Rattle.template_code.specs.declared.layout.Place.TheVariants.{InRegister, InFrame}
+pub use Rattle.template_code.specs.Slots.{fetch_placed, keep_placed}
+pub use Rattle.template_code.specs.Calls.{parameter_placed}
+pub use Rattle.x64_templates.specs.Locals.{local_in}
+pub use Rattle.x64_templates.specs.Straight.{LocalRegisters}

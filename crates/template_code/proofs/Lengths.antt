@@ -22,9 +22,12 @@ use Rattle.linear_code.specs.declared.slot.Slot.TheVariants.{Local, Temporary}
 use Rattle.linear_code.specs.declared.instruction.Instruction.{Instruction}
 use Rattle.linear_code.specs.declared.instruction.Instruction.TheVariants as instructions
 use Rattle.template_code.specs.declared.layout.Layout.{Layout}
+use Rattle.template_code.specs.declared.layout.Place.{Place}
+use Rattle.template_code.specs.declared.layout.Place.TheVariants.{InRegister, InFrame}
+use Rattle.template_code.specs.Places.{place_of}
 use Rattle.template_code.specs.Bytes.{size, sizes}
 use Rattle.template_code.specs.Operations.{compare, extended, pure_code, before, work}
-use Rattle.template_code.specs.Slots.{local_at, fetch_local, keep_local, fetch, keep, operands_code, finish_code, compute_code}
+use Rattle.template_code.specs.Slots.{local_at, fetch_local, keep_local, fetch_placed, keep_placed, fetch, keep, operands_code, finish_code, compute_code}
 
 fetch_local_length : (o : Option ℕ) (r : Reg) (d : ℕ) → length (fetch_local o r d) ≤ 2
 fetch_local_length None r d = omega arith
@@ -34,13 +37,22 @@ keep_local_length : (o : Option ℕ) (d : ℕ) → length (keep_local o d) ≤ 2
 keep_local_length None d = omega arith
 keep_local_length (Some b) d = omega arith
 
+fetch_placed_length : (y : Layout) (r : Reg) (i : ℕ) (p : Place)
+    → length (fetch_placed y r i p) ≤ 2
+fetch_placed_length y r i (InRegister q) = omega arith
+fetch_placed_length y r i InFrame = fetch_local_length y.base r (local_at y i)
+
+keep_placed_length : (y : Layout) (i : ℕ) (p : Place) → length (keep_placed y i p) ≤ 2
+keep_placed_length y i (InRegister q) = omega arith
+keep_placed_length y i InFrame = keep_local_length y.base (local_at y i)
+
 pub fetch_length : (y : Layout) (r : Reg) (x : Slot) → length (fetch y r x) ≤ 2
 fetch_length y r (Temporary i) = omega arith
-fetch_length y r (Local i) = fetch_local_length y.base r (local_at y i)
+fetch_length y r (Local i) = fetch_placed_length y r i (place_of y i)
 
 pub keep_length : (y : Layout) (x : Slot) → length (keep y x) ≤ 2
 keep_length y (Temporary i) = omega arith
-keep_length y (Local i) = keep_local_length y.base (local_at y i)
+keep_length y (Local i) = keep_placed_length y i (place_of y i)
 
 pub before_length : (o : Operation) → length (before o) ≤ 1
 before_length (operations.Pure p) = omega arith

@@ -14,6 +14,9 @@ use Rattle.c_operations.specs.declared.field.Field.{Field}
 use Rattle.c_operations.specs.declared.field.Field.TheVariants.{ExceptionCode, ExceptionFlags, NumberParameters, ExceptionInformation}
 use Rattle.frame_rules.specs.Plan.{epilogue}
 use Rattle.template_code.specs.declared.layout.Layout.{Layout}
+use Rattle.template_code.specs.declared.layout.Place.{Place}
+use Rattle.template_code.specs.declared.layout.Place.TheVariants.{InRegister, InFrame}
+use Rattle.template_code.specs.Places.{place_of}
 use Rattle.template_code.specs.Bytes.{sizes}
 use Rattle.template_code.specs.Operations.{above, move}
 use Rattle.template_code.specs.Slots.{fetched, temporary_at, local_at, fetch, keep}
@@ -115,7 +118,7 @@ information_code y to f = fetched Rax Rsp y.pointers ∷ fetched Rax Rax 0 ∷ f
 -- ---- parameters
 
 -- the first four come in registers, each further one above the return address and the home space,
--- and go to the locals of their numbers
+-- and go to the locals of their numbers: to a register in one move
 
 abbrev pub parameter_register : ℕ → Reg
 parameter_register i = if i == 0 then Rcx else (if i == 1 then Rdx else (if i == 2 then R8 else R9))
@@ -124,11 +127,18 @@ parameter_register i = if i == 0 then Rcx else (if i == 1 then Rdx else (if i ==
 abbrev pub stack_parameter : Layout → ℕ → ℕ
 stack_parameter y i = y.frame + (8 + 8 * i)
 
-abbrev pub parameter_code : Layout → ℕ → List Instr
-parameter_code y i =
+abbrev pub parameter_placed : Layout → ℕ → Place → List Instr
+parameter_placed y i (InRegister r) =
+    if nat_lt i 4
+    then move W64 r (parameter_register i) ∷ []
+    else fetched r Rsp (stack_parameter y i) ∷ []
+parameter_placed y i InFrame =
     if nat_lt i 4
     then keep_register (parameter_register i) (local_at y i) ∷ []
     else fetched Rax Rsp (stack_parameter y i) ∷ keep_register Rax (local_at y i) ∷ []
+
+abbrev pub parameter_code : Layout → ℕ → List Instr
+parameter_code y i = parameter_placed y i (place_of y i)
 
 -- so many parameters from one on
 abbrev pub parameters_code : Layout → ℕ → ℕ → List Instr

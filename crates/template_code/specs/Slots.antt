@@ -11,7 +11,10 @@ use Rattle.linear_code.specs.declared.slot.Slot.{Slot}
 use Rattle.linear_code.specs.declared.slot.Slot.TheVariants.{Local, Temporary}
 use Rattle.c_operations.specs.declared.operation.Operation.{Operation}
 use Rattle.template_code.specs.declared.layout.Layout.{Layout}
-use Rattle.template_code.specs.Operations.{above, before, work}
+use Rattle.template_code.specs.declared.layout.Place.{Place}
+use Rattle.template_code.specs.declared.layout.Place.TheVariants.{InRegister, InFrame}
+use Rattle.template_code.specs.Places.{place_of}
+use Rattle.template_code.specs.Operations.{above, move, before, work}
 
 -- a number of 64 bits to a register, and RAX to its place
 abbrev pub fetched : Reg → Reg → ℕ → Instr
@@ -26,8 +29,8 @@ temporary_at y i = y.temporaries + 8 * i
 abbrev pub local_at : Layout → ℕ → ℕ
 local_at y i = y.locals + 8 * i
 
--- a function's locals are above its RSP; those of a filter or a `__finally` block above the base
--- that it keeps
+-- a function's locals in the frame are above its RSP; those of a filter or a `__finally` block above
+-- the base that it keeps
 abbrev pub fetch_local : Option ℕ → Reg → ℕ → List Instr
 fetch_local None to d = fetched to Rsp d ∷ []
 fetch_local (Some b) to d = fetched to Rsp b ∷ fetched to to d ∷ []
@@ -36,13 +39,22 @@ abbrev pub keep_local : Option ℕ → ℕ → List Instr
 keep_local None d = put_back Rsp d ∷ []
 keep_local (Some b) d = fetched Rcx Rsp b ∷ put_back Rcx d ∷ []
 
+-- a local by its place: between registers it is moved
+abbrev pub fetch_placed : Layout → Reg → ℕ → Place → List Instr
+fetch_placed y to i (InRegister r) = move W64 to r ∷ []
+fetch_placed y to i InFrame = fetch_local y.base to (local_at y i)
+
+abbrev pub keep_placed : Layout → ℕ → Place → List Instr
+keep_placed y i (InRegister r) = move W64 r Rax ∷ []
+keep_placed y i InFrame = keep_local y.base (local_at y i)
+
 abbrev pub fetch : Layout → Reg → Slot → List Instr
 fetch y to (Temporary i) = fetched to Rsp (temporary_at y i) ∷ []
-fetch y to (Local i) = fetch_local y.base to (local_at y i)
+fetch y to (Local i) = fetch_placed y to i (place_of y i)
 
 abbrev pub keep : Layout → Slot → List Instr
 keep y (Temporary i) = put_back Rsp (temporary_at y i) ∷ []
-keep y (Local i) = keep_local y.base (local_at y i)
+keep y (Local i) = keep_placed y i (place_of y i)
 
 -- an operation: both operands to their registers, the operation, and the result to its slot; up to
 -- the instruction that can fault, and from it on

@@ -1,8 +1,9 @@
 -- Templates take no more bytes than their room.
-use Rattle.std.proofs.Common.{ℕ, zero, suc, ◌+◌, ◌-◌, ◌*◌, ◌≤◌, Bool, true, false, cond, List, [], ◌∷◌, ◌++◌, length, Option, Some, None, arith, length-append}
-use Rattle.std.specs.Prelude.{◌==◌, ◌%◌}
+use Rattle.std.proofs.Common.{◌≡◌, ℕ, zero, suc, ◌+◌, ◌-◌, ◌*◌, ◌≤◌, Bool, true, false, cond, List, [], ◌∷◌, ◌++◌, length, Option, Some, None, arith, length-append, ap}
+use Rattle.std.specs.Prelude.{◌==◌, ◌%◌, not}
+use Rattle.std.proofs.lemmas.Bool.{ne_eqb}
 use Rattle.seh_num.specs.declared.width.Width.{Width}
-use Rattle.x64_emit.specs.Words.{W8, W16, W32, W64, Rax, Rcx, Rdx, Rsp, R8, R9, little, is_signed, has_rex, prefixes, mode, displacement, sib, at_register, place_bytes, modrm_bits, modrm, opcode_register, Slot, Local, Temporary, Instruction, Layout, size, sizes, local_at, temporary_at, fetched, fetch_local, keep_local, fetch, keep, operands_code, finish_code, compute_code, compare_zero, field_load, passing_code, arguments_code, call_code, clear_result, call_finally_code, local_unwind_code, template_size, slot_room, instruction_room}
+use Rattle.x64_emit.specs.Words.{W8, W16, W32, W64, Rax, Rcx, Rdx, Rsp, R8, R9, little, is_signed, has_rex, prefixes, mode, displacement, sib, at_register, place_bytes, modrm_bits, modrm, opcode_register, Slot, Local, Temporary, Instruction, Layout, size, sizes, local_at, temporary_at, fetched, fetch_local, keep_local, fetch_placed, keep_placed, place_of, Place, InRegister, InFrame, fetch, keep, operands_code, finish_code, compute_code, compare_zero, field_load, passing_code, arguments_code, call_code, clear_result, call_finally_code, local_unwind_code, template_size, slot_room, instruction_room}
 use Rattle.seh_num.specs.Widths.{low}
 use Rattle.frame_rules.specs.Plan.{epilogue}
 use Rattle.template_code.specs.Frames.{plan_of_layout}
@@ -27,7 +28,7 @@ use Rattle.c_operations.specs.declared.field.Field.{Field}
 use Rattle.c_operations.specs.declared.field.Field.TheVariants as fields
 use Rattle.c_operations.specs.Numbers.{width}
 use Rattle.linear_code.specs.declared.instruction.Instruction.TheVariants as instructions
-use Rattle.template_code.specs.Operations.{above, compare, extended, pure_code, before, work}
+use Rattle.template_code.specs.Operations.{above, move, compare, extended, pure_code, before, work}
 use Rattle.x64_emit.proofs.Lemmas.{sizes_append, passing_call_size, jump_size, jump_if_zero_size, call_code_size, PassesFew}
 
 -- ---- a word in memory
@@ -83,13 +84,30 @@ keep_local_size None d = let a = kept_size Rax Rsp d in omega arith
 keep_local_size (Some b) d = let a = fetched_size Rcx Rsp b in let c = kept_size Rax Rcx d in
     omega arith
 
+-- a move between registers of 64 bits has a REX prefix, an opcode and ModRM
+pub copied_size : (to from : Reg) → size (move W64 to from) ≡ 3
+unfolding size modrm
+copied_size to from =
+    let bits = modrm_bits W64 (number from) (places.Register to) in
+    let some : (bits == 0) ≡ false = ne_eqb bits 0 (λ e. absurd (omega arith)) in
+    ap (λ (t : Bool). length ((cond (not t) ((0x40 + bits) ∷ []) [] ++ (0x89 ∷ []))
+    ++ ((64 * 3 + 8 * (number from % 8) + number to % 8) ∷ []))) some
+
+fetch_placed_size : (y : Layout) (r : Reg) (i : ℕ) (p : Place) → sizes (fetch_placed y r i p) ≤ 16
+fetch_placed_size y r i (InRegister q) = let a = copied_size r q in omega arith
+fetch_placed_size y r i InFrame = fetch_local_size y.base r (local_at y i)
+
+keep_placed_size : (y : Layout) (i : ℕ) (p : Place) → sizes (keep_placed y i p) ≤ 16
+keep_placed_size y i (InRegister q) = let a = copied_size q Rax in omega arith
+keep_placed_size y i InFrame = keep_local_size y.base (local_at y i)
+
 pub fetch_size : (y : Layout) (r : Reg) (x : Slot) → sizes (fetch y r x) ≤ slot_room x
 fetch_size y r (Temporary i) = let a = fetched_size r Rsp (temporary_at y i) in omega arith
-fetch_size y r (Local i) = fetch_local_size y.base r (local_at y i)
+fetch_size y r (Local i) = fetch_placed_size y r i (place_of y i)
 
 pub keep_size : (y : Layout) (x : Slot) → sizes (keep y x) ≤ slot_room x
 keep_size y (Temporary i) = let a = kept_size Rax Rsp (temporary_at y i) in omega arith
-keep_size y (Local i) = keep_local_size y.base (local_at y i)
+keep_size y (Local i) = keep_placed_size y i (place_of y i)
 
 -- ---- operations
 

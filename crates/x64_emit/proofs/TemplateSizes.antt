@@ -10,7 +10,8 @@ use Rattle.c_operations.specs.declared.built_in.BuiltIn.{BuiltIn}
 use Rattle.c_operations.specs.declared.operation.Operation.{Operation}
 use Rattle.linear_code.specs.declared.instruction.Instruction.TheVariants as instructions
 use Rattle.template_code.specs.Operations.{before, work}
-use Rattle.x64_emit.specs.Words.{W64, Rax, Rcx, Rdx, R8, R9, little, opcode_register, modrm, size, sizes, spelled, Layout, Slot, Local, Temporary, local_at, temporary_at, fetch, keep, operands_code, finish_code, compute_code, arguments_code, compare_zero, clear_result, template_size}
+use Rattle.x64_emit.proofs.Rooms.{copied_size}
+use Rattle.x64_emit.specs.Words.{W64, Rax, Rcx, Rdx, R8, R9, little, opcode_register, modrm, size, sizes, spelled, Layout, Slot, Local, Temporary, local_at, temporary_at, fetch, keep, operands_code, finish_code, compute_code, arguments_code, compare_zero, clear_result, template_size, place_of, Place, InRegister, InFrame, fetch_placed, keep_placed, fetch_local, keep_local}
 use Rattle.x64_emit.specs.StackWords.{stack_word}
 use Rattle.x64_emit.proofs.StackWords.{near_bytes, far_bytes}
 use Rattle.x64_emit.proofs.Lemmas.{sizes_append, jump_size, jump_if_zero_size, call_code_size}
@@ -47,31 +48,31 @@ pub temporary_kept : (y : Layout) (i n : ℕ) → HasWords (temporary_at y i) n
 unfolding size
 temporary_kept y i n h = let e = h 0x89 Rax in omega arith
 
-pub local_fetched : (y : Layout) (i n : ℕ) (b : Option ℕ) → y.base ≡ b → b ≡ None
-    → HasWords (local_at y i) n → (to : Reg) → sizes (fetch y to (Local i)) ≡ n
+pub local_fetched : (y : Layout) (i n : ℕ) (b : Option ℕ) → place_of y i ≡ InFrame → y.base ≡ b
+    → b ≡ None → HasWords (local_at y i) n → (to : Reg) → sizes (fetch y to (Local i)) ≡ n
 unfolding size
-local_fetched y i n b is none h to =
-    ap (λ (o : Option ℕ). sizes (fetch (record {
-      base = o;
-      pointers = y.pointers;
-      locals = y.locals;
-      temporaries = y.temporaries;
-      slots = y.slots;
-      frame = y.frame;
-    }) to (Local i))) (is ∙ none) ∙ (let e = h 0x8B to in omega arith)
+local_fetched y i n b framed is none h to =
+    ap (λ (p : Place). sizes (fetch_placed y to i p)) framed
+    ∙ ap (λ (o : Option ℕ). sizes (fetch_local o to (local_at y i))) (is ∙ none)
+    ∙ (let e = h 0x8B to in omega arith)
 
-pub local_kept : (y : Layout) (i n : ℕ) (b : Option ℕ) → y.base ≡ b → b ≡ None
-    → HasWords (local_at y i) n → sizes (keep y (Local i)) ≡ n
+pub local_kept : (y : Layout) (i n : ℕ) (b : Option ℕ) → place_of y i ≡ InFrame → y.base ≡ b
+    → b ≡ None → HasWords (local_at y i) n → sizes (keep y (Local i)) ≡ n
 unfolding size
-local_kept y i n b is none h =
-    ap (λ (o : Option ℕ). sizes (keep (record {
-      base = o;
-      pointers = y.pointers;
-      locals = y.locals;
-      temporaries = y.temporaries;
-      slots = y.slots;
-      frame = y.frame;
-    }) (Local i))) (is ∙ none) ∙ (let e = h 0x89 Rax in omega arith)
+local_kept y i n b framed is none h = ap (λ (p : Place). sizes (keep_placed y i p)) framed
+    ∙ ap (λ (o : Option ℕ). sizes (keep_local o (local_at y i))) (is ∙ none)
+    ∙ (let e = h 0x89 Rax in omega arith)
+
+-- a local in a register is fetched and kept by a move of three bytes
+pub register_fetched : (y : Layout) (i : ℕ) (r : Reg) → place_of y i ≡ InRegister r → (to : Reg)
+    → sizes (fetch y to (Local i)) ≡ 3
+register_fetched y i r e to = ap (λ (p : Place). sizes (fetch_placed y to i p)) e
+    ∙ (let c = copied_size to r in omega arith)
+
+pub register_kept : (y : Layout) (i : ℕ) (r : Reg) → place_of y i ≡ InRegister r
+    → sizes (keep y (Local i)) ≡ 3
+register_kept y i r e = ap (λ (p : Place). sizes (keep_placed y i p)) e
+    ∙ (let c = copied_size r Rax in omega arith)
 
 -- ---- operations
 

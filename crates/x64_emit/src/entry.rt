@@ -16,10 +16,11 @@ ghost use Rattle.x64_emit.specs.declared.entry.TheConstants.{CHECK_STACK};
 use crate::calls::distance;
 use crate::put::{copy, load, put, store};
 use crate::slots::put_keep;
+use crate::stack_words::put_load;
 use linear_code::slot::Slot;
 use seh_num::width::Width;
 use std::alloc::AllocError;
-use template_code::layout::Layout;
+use template_code::layout::{Layout, Place};
 use x64_instr::instruction::{Instr, Target};
 use x64_instr::operand::{Base, MemRef, RegisterOrMemory};
 use x64_instr::register::Reg;
@@ -82,10 +83,11 @@ fn parameter_register(index: u64) -> Reg
     }
 }
 
-/// Adds what brings a parameter to the local of its number.
-fn put_parameter(code: &mut Vec<u8>, layout: &Layout, index: u64) -> Result<(), AllocError>
+/// Adds what brings a parameter to its local, which stands in the frame.
+fn put_framed_parameter(code: &mut Vec<u8>, layout: &Layout, index: u64) -> Result<(), AllocError>
     requires { AreParametersNear layout.now (index + 1) }
-    ensures { OnOk result (Appended code.old (spec.parameter_code layout.now index) code.new) }
+    ensures { OnOk result
+        (Appended code.old (spec.parameter_placed layout.now index Place.InFrame) code.new) }
 {
     let local = layout.locals + 8 * index;
     if index < 4 {
@@ -96,6 +98,23 @@ fn put_parameter(code: &mut Vec<u8>, layout: &Layout, index: u64) -> Result<(), 
             &load(Reg::Rax, Reg::Rsp, layout.frame + (8 + 8 * index)),
         )?;
         put(code, &store(Reg::Rsp, local, Reg::Rax))
+    }
+}
+
+/// Adds what brings a parameter to the local of its number.
+fn put_parameter(code: &mut Vec<u8>, layout: &Layout, index: u64) -> Result<(), AllocError>
+    requires { AreParametersNear layout.now (index + 1) }
+    ensures { OnOk result (Appended code.old (spec.parameter_code layout.now index) code.new) }
+{
+    match layout.place(index) {
+        Place::InRegister(register) => {
+            if index < 4 {
+                put(code, &copy(Width::W64, register, parameter_register(index)))
+            } else {
+                put_load(code, register, layout.frame + (8 + 8 * index))
+            }
+        }
+        Place::InFrame => put_framed_parameter(code, layout, index),
     }
 }
 

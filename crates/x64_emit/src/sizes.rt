@@ -15,10 +15,13 @@ use crate::operation_bytes::operation_bytes;
 use c_operations::operation::{Operation, Pure};
 use linear_code::instruction::Instruction;
 use linear_code::slot::Slot;
-use template_code::layout::Layout;
+use template_code::layout::{Layout, Place};
 
 /// The bytes of a move of a number of 64 bits to RAX.
 const CONSTANT_SIZE: u32 = 10;
+
+/// The bytes of a copy of a register of 64 bits to another.
+const COPY_SIZE: u32 = 3;
 
 /// The bytes of a comparison of RAX with 0.
 const COMPARE_SIZE: u32 = 4;
@@ -41,9 +44,12 @@ fn slot_size(layout: &Layout, slot: Slot) -> Option<u32>
 {
     match slot {
         Slot::Temporary(i) => Some(word_size(layout.temporaries + 8 * i)),
-        Slot::Local(i) => match layout.base {
-            None => Some(word_size(layout.locals + 8 * i)),
-            Some(_) => None,
+        Slot::Local(i) => match layout.place(i) {
+            Place::InRegister(_) => Some(COPY_SIZE),
+            Place::InFrame => match layout.base {
+                None => Some(word_size(layout.locals + 8 * i)),
+                Some(_) => None,
+            },
         },
     }
 }

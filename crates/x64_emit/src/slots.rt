@@ -8,13 +8,36 @@ ghost use Rattle.template_code.specs.Slots as spec;
 
 use crate::operation_bytes::operation_bytes;
 use crate::operations::{put_before, put_work};
-use crate::put::{load, put, store};
+use crate::put::{copy, load, put, store};
 use crate::stack_words::{put_load, put_store};
 use c_operations::operation::Operation;
 use linear_code::slot::Slot;
+use seh_num::width::Width;
 use std::alloc::AllocError;
-use template_code::layout::Layout;
+use template_code::layout::{Layout, Place};
 use x64_instr::register::Reg;
+
+/// Adds what brings a local that stands in the frame to a register.
+fn put_fetch_local(
+    code: &mut Vec<u8>,
+    layout: &Layout,
+    to: Reg,
+    local: u64,
+) -> Result<(), AllocError>
+    requires { IsSlotNear layout.now (Slot.Local local) }
+    ensures { OnOk result
+        (Appended code.old
+        (spec.fetch_local layout.now.base to (spec.local_at layout.now local)) code.new) }
+{
+    let displacement = layout.locals + 8 * local;
+    match layout.base {
+        None => put_load(code, to, displacement),
+        Some(base) => {
+            put_load(code, to, base)?;
+            put(code, &load(to, to, displacement))
+        }
+    }
+}
 
 /// Adds what brings a slot to a register.
 pub fn put_fetch(code: &mut Vec<u8>, layout: &Layout, to: Reg, slot: Slot) -> Result<(), AllocError>
@@ -23,37 +46,42 @@ pub fn put_fetch(code: &mut Vec<u8>, layout: &Layout, to: Reg, slot: Slot) -> Re
 {
     match slot {
         Slot::Temporary(i) => put_load(code, to, layout.temporaries + 8 * i),
-        Slot::Local(i) => {
-            let displacement = layout.locals + 8 * i;
-            match layout.base {
-                None => put_load(code, to, displacement),
-                Some(base) => {
-                    put_load(code, to, base)?;
-                    put(code, &load(to, to, displacement))
-                }
-            }
+        Slot::Local(i) => match layout.place(i) {
+            Place::InRegister(register) => put(code, &copy(Width::W64, to, register)),
+            Place::InFrame => put_fetch_local(code, layout, to, i),
+        },
+    }
+}
+
+/// Adds what brings RAX to a local that stands in the frame. RCX is used on the way to the locals
+/// of a function from a filter or a `__finally` block.
+fn put_keep_local(code: &mut Vec<u8>, layout: &Layout, local: u64) -> Result<(), AllocError>
+    requires { IsSlotNear layout.now (Slot.Local local) }
+    ensures { OnOk result
+        (Appended code.old
+        (spec.keep_local layout.now.base (spec.local_at layout.now local)) code.new) }
+{
+    let displacement = layout.locals + 8 * local;
+    match layout.base {
+        None => put_store(code, displacement, Reg::Rax),
+        Some(base) => {
+            put_load(code, Reg::Rcx, base)?;
+            put(code, &store(Reg::Rcx, displacement, Reg::Rax))
         }
     }
 }
 
-/// Adds what brings RAX to a slot. RCX is used on the way to the locals of a function from a filter
-/// or a `__finally` block.
+/// Adds what brings RAX to a slot.
 pub fn put_keep(code: &mut Vec<u8>, layout: &Layout, slot: Slot) -> Result<(), AllocError>
     requires { IsSlotNear layout.now slot }
     ensures { OnOk result (Appended code.old (spec.keep layout.now slot) code.new) }
 {
     match slot {
         Slot::Temporary(i) => put_store(code, layout.temporaries + 8 * i, Reg::Rax),
-        Slot::Local(i) => {
-            let displacement = layout.locals + 8 * i;
-            match layout.base {
-                None => put_store(code, displacement, Reg::Rax),
-                Some(base) => {
-                    put_load(code, Reg::Rcx, base)?;
-                    put(code, &store(Reg::Rcx, displacement, Reg::Rax))
-                }
-            }
-        }
+        Slot::Local(i) => match layout.place(i) {
+            Place::InRegister(register) => put(code, &copy(Width::W64, register, Reg::Rax)),
+            Place::InFrame => put_keep_local(code, layout, i),
+        },
     }
 }
 

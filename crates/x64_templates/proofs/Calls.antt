@@ -39,7 +39,7 @@ abbrev three : MachineView → ℕ → ℕ → ℕ → MachineView
 three v a b c = record v { rcx = a; rdx = b; rest = record v.rest { r8 = c } }
 
 arguments_do : (p : FramePlace) (first : ℕ) (v : MachineView) (b : BodyState) → Roomy p
-    → first + 4 ≤ p.counts.temporaries → sp_of v ≡ p.sp → FrameHolds p v.memory b
+    → first + 4 ≤ p.counts.temporaries → sp_of v ≡ p.sp → FrameHolds p v.locals v.memory b
     → Executes (arguments_code p.layout first) v
     (with_four v (b.slots (Temporary first)) (b.slots (Temporary (first + 1)))
     (b.slots (Temporary (first + 2))) (b.slots (Temporary (first + 3))))
@@ -53,7 +53,7 @@ arguments_do p first v b room le at h =
     (λ (s : ℕ). (s + 0 + temporary_at y i) % 2 ^ 64) is
     ∙ sp_address y p.counts p.reserved p.sp p.base room i lt in
     let may = λ (i : ℕ) (lt : i < p.counts.temporaries). may_read_slot y p.counts p.reserved p.sp
-    p.base room v.memory b (Temporary i) h lt in
+    p.base room v.locals v.memory b (Temporary i) h lt in
     let l0 : first < p.counts.temporaries = omega arith in
     let l1 : first + 1 < p.counts.temporaries = omega arith in
     let l2 : first + 2 < p.counts.temporaries = omega arith in
@@ -137,7 +137,8 @@ call_reaches v sp rip to f at below n code =
 
 pub call_begins : (p : FramePlace) (first : ℕ) (v : MachineView) (rip to : ℕ) (f : Flags)
     (b : BodyState) → Roomy p → first + 4 ≤ p.counts.temporaries → sp_of v ≡ p.sp
-    → FrameHolds p v.memory b → HasBelow v.memory p.sp 8 → IsNear (return_at p.layout first rip) to
+    → FrameHolds p v.locals v.memory b → HasBelow v.memory p.sp 8
+    → IsNear (return_at p.layout first rip) to
     → HasCode v.memory rip (begin_call p.layout first rip to) → CallBegun p first v rip to f b
 call_begins p first v rip to f b room le at h below n code =
     let args = arguments_code p.layout first in

@@ -1,9 +1,10 @@
 -- Slots are brought to registers, and RAX is put into a slot.
 use Rattle.std.proofs.Common.{◌≡◌, ℕ, ◌+◌, ◌%◌, ◌^◌, ◌<◌, ◌≤◌, Bool, true, false, [], ◌∷◌, Option, Some, None, Ok, refl, sym, ap, ◌∙◌, arith, inl, inr}
 use Rattle.std.specs.Prelude.{◌⊎◌}
-use Rattle.x64_templates.specs.Words.{W64, low, Memory, first_refused, may_read, may_write, number_at, with_number, with_bytes, Reg, Rax, Rcx, Rsp, Flags, ◌>>=◌, Answer, load, store, Slot, Local, Temporary, BodyState, Counts, IsSlot, Layout, MachineView, machine, Executes, fetched, put_back, temporary_at, local_at, fetch_local, fetch, slot_at, InTemporaries, InLocals, HasBase, SlotsHaveRoom, MemoryKeepsBase, HoldsBody}
+use Rattle.x64_templates.specs.Words.{move, LocalRegisters, is_of_local, local_in, Place, InRegister, InFrame, place_of, number_placed, fetch_placed, W64, low, Memory, first_refused, may_read, may_write, number_at, with_number, with_bytes, Reg, Rax, Rcx, Rsp, Flags, ◌>>=◌, Answer, load, store, Slot, Local, Temporary, BodyState, Counts, IsSlot, Layout, MachineView, machine, Executes, fetched, put_back, temporary_at, local_at, fetch_local, fetch, slot_at, InTemporaries, InLocals, HasBase, SlotsHaveRoom, MemoryKeepsBase, HoldsBody}
 use Rattle.x64_templates.proofs.Lemmas.{writable_is_readable}
 use Rattle.x64_templates.proofs.PlacedCode.{all_may, store_at, load_at}
+use Rattle.x64_templates.proofs.Locals.{locals_are_fetched, place_is_local}
 use Rattle.x64_templates.proofs.Straight.{executes_one, executes_then}
 
 -- RAX or RCX
@@ -43,6 +44,20 @@ from_sp false v d at x e may is lt = executes_one (fetched Rcx Rsp d) v (put fal
       (load_at v.memory at may)
       ∙ ap (λ (y : ℕ). Ok (machine (put false v y) rip f))
       (word_is (number_at v.memory.byte 8 at) x is lt),
+))
+
+-- a local in a register
+local_moved : (r : Bool) (q : Reg) (v : MachineView) (x : ℕ) → is_of_local q ≡ true
+    → local_in v.locals q ≡ x → x < 2 ^ 64 → Executes (move W64 (reg r) q ∷ []) v (put r v x)
+local_moved true q v x l is lt = executes_one (move W64 Rax q) v (put true v x) (λ rip f. (
+  f,
+  (locals_are_fetched q v rip f l (let e = is in omega arith)).0
+      ∙ ap (λ (y : ℕ). Ok (machine (put true v y) rip f)) is,
+))
+local_moved false q v x l is lt = executes_one (move W64 Rcx q) v (put false v x) (λ rip f. (
+  f,
+  (locals_are_fetched q v rip f l (let e = is in omega arith)).1
+      ∙ ap (λ (y : ℕ). Ok (machine (put false v y) rip f)) is,
 ))
 
 -- a load from a place above the base in the same register
@@ -111,15 +126,17 @@ module _ (y : Layout) (n : Counts) (reserved : ℕ → Bool) (sp base : ℕ)
   slot_bytes (Temporary i) a lt p q = inl (omega arith, omega arith)
   slot_bytes (Local i) a lt p q = inr (omega arith, omega arith)
 
-  pub may_write_slot : (m : Memory) (b : BodyState) (x : Slot) → HoldsBody y n reserved sp base m b
+  pub may_write_slot : (locals : LocalRegisters) (m : Memory) (b : BodyState) (x : Slot)
+      → HoldsBody y n reserved sp base locals m b
       → IsSlot n x → first_refused (may_write m) 8 (slot_at y sp base x) ≡ None
-  may_write_slot m b x h is = all_may (may_write m) 8 (slot_at y sp base x) (slot_high x is)
+  may_write_slot locals m b x h is = all_may (may_write m) 8 (slot_at y sp base x) (slot_high x is)
       (λ a p q. h.writable a (slot_bytes x a is p q))
 
-  pub may_read_slot : (m : Memory) (b : BodyState) (x : Slot) → HoldsBody y n reserved sp base m b
+  pub may_read_slot : (locals : LocalRegisters) (m : Memory) (b : BodyState) (x : Slot)
+      → HoldsBody y n reserved sp base locals m b
       → IsSlot n x → first_refused (may_read m) 8 (slot_at y sp base x) ≡ None
-  may_read_slot m b x h is = writable_is_readable m 8 (slot_at y sp base x)
-      (may_write_slot m b x h is)
+  may_read_slot locals m b x h is = writable_is_readable m 8 (slot_at y sp base x)
+      (may_write_slot locals m b x h is)
 
   pub sp_address : (i : ℕ) → i < n.temporaries
       → (sp + 0 + temporary_at y i) % 2 ^ 64 ≡ sp + temporary_at y i
@@ -145,31 +162,43 @@ module _ (y : Layout) (n : Counts) (reserved : ℕ → Bool) (sp base : ℕ)
 
   local_fetched : (r : Bool) (o : Option ℕ) (i : ℕ) (v : MachineView) (b : BodyState) → i < n.locals
       → sp_of v ≡ sp → HasBase y o sp base → MemoryKeepsBase o sp base v.memory
-      → HoldsBody y n reserved sp base v.memory b
+      → HoldsBody y n reserved sp base v.locals v.memory b
+      → number_at v.memory.byte 8 (base + local_at y i) ≡ b.slots (Local i)
       → Executes (fetch_local o (reg r) (local_at y i)) v (put r v (b.slots (Local i)))
-  local_fetched r None i v b lt at has keeps h =
+  local_fetched r None i v b lt at has keeps h is =
       let e : (sp_of v + 0 + local_at y i) % 2 ^ 64
       ≡ base + local_at y i = ap (λ (s : ℕ). (s + 0 + local_at y i) % 2 ^ 64) (at ∙ sym has)
       ∙ base_address i lt in
       from_sp r v (local_at y i) (base + local_at y i) (b.slots (Local i)) e
-      (may_read_slot v.memory b (Local i) h lt) (h.slot (Local i) lt) (h.small (Local i) lt)
-  local_fetched r (Some k) i v b lt at has keeps h =
+      (may_read_slot v.locals v.memory b (Local i) h lt) is (h.small (Local i) lt)
+  local_fetched r (Some k) i v b lt at has keeps h is =
       executes_then (fetched (reg r) Rsp k ∷ []) (fetched (reg r) (reg r) (local_at y i) ∷ []) v
       (put r v base) (put r v (b.slots (Local i)))
       (fetch_base r k v at has keeps)
       (from_base r v base (local_at y i) (base + local_at y i) (b.slots (Local i))
-      (base_address i lt) (may_read_slot v.memory b (Local i) h lt) (h.slot (Local i) lt)
+      (base_address i lt) (may_read_slot v.locals v.memory b (Local i) h lt) is
       (h.small (Local i) lt))
 
+  placed_fetched : (r : Bool) (i : ℕ) (p : Place) → place_of y i ≡ p → (v : MachineView)
+      (b : BodyState) → i < n.locals → sp_of v ≡ sp
+      → HoldsBody y n reserved sp base v.locals v.memory b
+      → Executes (fetch_placed y (reg r) i p) v (put r v (b.slots (Local i)))
+  placed_fetched r i (InRegister q) e v b lt at h =
+      let is : local_in v.locals q
+      ≡ b.slots (Local i) = sym (ap (number_placed y base v.locals v.memory i) e)
+      ∙ h.slot (Local i) lt in
+      local_moved r q v (b.slots (Local i)) (place_is_local y i q e) is (h.small (Local i) lt)
+  placed_fetched r i InFrame e v b lt at h = local_fetched r y.base i v b lt at room.kept_base
+      h.kept_base h (sym (ap (number_placed y base v.locals v.memory i) e) ∙ h.slot (Local i) lt)
+
   pub fetch_does : (r : Bool) (x : Slot) (v : MachineView) (b : BodyState) → IsSlot n x
-      → sp_of v ≡ sp → HoldsBody y n reserved sp base v.memory b
+      → sp_of v ≡ sp → HoldsBody y n reserved sp base v.locals v.memory b
       → Executes (fetch y (reg r) x) v (put r v (b.slots x))
   fetch_does r (Temporary i) v b lt at h =
       let e : (sp_of v + 0 + temporary_at y i) % 2 ^ 64
       ≡ sp + temporary_at y i = ap (λ (s : ℕ). (s + 0 + temporary_at y i) % 2 ^ 64) at
       ∙ sp_address i lt in
       from_sp r v (temporary_at y i) (sp + temporary_at y i) (b.slots (Temporary i)) e
-      (may_read_slot v.memory b (Temporary i) h lt) (h.slot (Temporary i) lt)
+      (may_read_slot v.locals v.memory b (Temporary i) h lt) (h.slot (Temporary i) lt)
       (h.small (Temporary i) lt)
-  fetch_does r (Local i) v b lt at h = local_fetched r y.base i v b lt at room.kept_base h.kept_base
-      h
+  fetch_does r (Local i) v b lt at h = placed_fetched r i (place_of y i) refl v b lt at h

@@ -1,7 +1,7 @@
 -- The code of an operation does what the operation means.
 use Rattle.std.proofs.Common.{◌≡◌, ℕ, ◌+◌, ◌%◌, ◌^◌, ◌<◌, ◌≤◌, Bool, true, false, List, [], ◌∷◌, ◌++◌, length, Option, Some, Err, refl, sym, ap, subst, ◌∙◌, arith, length-append}
 use Rattle.std.proofs.lemmas.Grind.{flat_map-append}
-use Rattle.x64_templates.specs.Words.{Code, Memory, executable, with_number, with_bytes, Rax, Rcx, Instr, IsEncoding, leading, chosen, Flags, State, with_rip, effect, IsCodeAt, IsPlaced, spelled, Slot, Operation, BodyState, with_slot, OperationResult, Gives, Raises, Undefined, performed, step, kept, LocalRegisters, OtherRegisters, MachineView, machine, Executes, size, sizes, before, work, fetch, keep, operands_code, finish_code, compute_code, slot_at, IsBytes, IsReady, HasOperands, LeavesResult, Implements, Reaches, HasCode, FramePlace, Roomy, FrameHolds, IsThere, ReachesBody, Finished, Computed, HeadFaults}
+use Rattle.x64_templates.specs.Words.{Code, Memory, executable, Rax, Rcx, Instr, IsEncoding, leading, chosen, Flags, State, with_rip, effect, IsCodeAt, IsPlaced, spelled, Slot, Operation, BodyState, with_slot, OperationResult, Gives, Raises, Undefined, performed, step, kept, LocalRegisters, OtherRegisters, MachineView, machine, Executes, size, sizes, before, work, fetch, keep, operands_code, finish_code, compute_code, IsBytes, IsReady, HasOperands, LeavesResult, Implements, Reaches, HasCode, FramePlace, Roomy, FrameHolds, IsThere, ReachesBody, Finished, Computed, HeadFaults, KeepsUnused}
 use Rattle.x64_templates.proofs.Lemmas.{longest, sizes_spelled, sizes_append}
 use Rattle.x64_machine.specs.declared.outcome.Stop.TheVariants as stops
 use Rattle.x64_machine.specs.Effect as machines
@@ -12,7 +12,7 @@ use Rattle.x64_templates.proofs.Straight.{straight_runs, executes_nothing, execu
 use Rattle.x64_templates.proofs.Divisions.{half_set}
 use Rattle.x64_templates.proofs.Implements.{works}
 use Rattle.x64_templates.proofs.Cells.{put, sp_of, fetch_does}
-use Rattle.x64_templates.proofs.Bodies.{changes_then, keep_does, holds_after, changes_slot, holds_same, changes_same}
+use Rattle.x64_templates.proofs.Bodies.{kept_in, unused_slot, changes_then, keep_does, holds_after, changes_slot, holds_same, changes_same}
 use Rattle.x64_templates.proofs.Encoded.{Fine, fine_both, encodable_of, straight_of, none_taking, keep_fine, work_fine, operands_fine, finish_fine}
 
 -- ---- code and its parts
@@ -127,7 +127,7 @@ record Fetched (p : FramePlace) (o : Operation) (first second : Slot) (v : Machi
 
 operands_do : (p : FramePlace) (o : Operation) (first second : Slot) (v : MachineView)
     (b : BodyState) → Roomy p → IsThere p first → IsThere p second → sp_of v ≡ p.sp
-    → FrameHolds p v.memory b → Fetched p o first second v (b.slots first) (b.slots second)
+    → FrameHolds p v.locals v.memory b → Fetched p o first second v (b.slots first) (b.slots second)
 operands_do p o first second v b room f s at h =
     let y = p.layout in
     let v1 = put true v (b.slots first) in
@@ -159,7 +159,7 @@ pub record Begun (p : FramePlace) (o : Operation) (first second : Slot) (v : Mac
 
 pub operands_run : (p : FramePlace) (o : Operation) (first second : Slot) (v : MachineView)
     (rip : ℕ) (f : Flags) (b : BodyState) → Roomy p → IsThere p first → IsThere p second
-    → sp_of v ≡ p.sp → FrameHolds p v.memory b
+    → sp_of v ≡ p.sp → FrameHolds p v.locals v.memory b
     → HasCode v.memory rip (operands_code p.layout o first second)
     → Begun p o first second v rip f b
 operands_run p o first second v rip f b room i j at h code =
@@ -182,7 +182,8 @@ operands_run p o first second v rip f b room i j at h code =
 -- code that leads to a number in RAX, and the slot to which the number goes
 pub leads_kept : (p : FramePlace) (code : List Instr) (to : Slot) (v : MachineView) (at : ℕ)
     (f : Flags) (b : BodyState) (x : ℕ) (source : Memory) → Fine code → Roomy p → IsThere p to
-    → sp_of v ≡ p.sp → FrameHolds p v.memory b → HasCode v.memory at (code ++ keep p.layout to)
+    → sp_of v ≡ p.sp → FrameHolds p v.locals v.memory b
+    → HasCode v.memory at (code ++ keep p.layout to)
     → LeavesResult p.reserved code v x source
     → ReachesBody p (length (code ++ keep p.layout to)) (machine v at f)
     (at + sizes (code ++ keep p.layout to)) v.rest v.locals
@@ -196,15 +197,10 @@ leads_kept p code to v at f b x source fine room is sp h is_there l =
       memory = l.after;
     } in
     let body : BodyState = record { slots = b.slots; memory = source } in
-    let held = holds_same y p.counts p.reserved p.sp p.base room v.memory l.after source b l.own
-    l.protection l.agrees h in
+    let held = holds_same y p.counts p.reserved p.sp p.base room v.locals v.memory l.after source b
+    l.own l.protection l.agrees h in
     let k = keep_does y p.counts p.reserved p.sp p.base room to mid body is sp held l.small in
-    let last : MachineView = record v {
-      rax = x;
-      rcx = k.rcx;
-      rdx = l.yields.rdx;
-      memory = with_bytes l.after (with_number l.after.byte 8 (slot_at y p.sp p.base to) x);
-    } in
+    let last : MachineView = record (kept_in y p.sp p.base mid x to) { rcx = k.rcx } in
     let r = runs_view (code ++ keep y to) v last at f
     (fine_both code (keep y to) fine (keep_fine y p.counts p.sp p.base to room is)) is_there
     (executes_then code (keep y to) v mid last l.yields.does k.does) in
@@ -213,8 +209,9 @@ leads_kept p code to v at f b x source fine room is sp h is_there l =
       flags = r.left;
       comes = r.comes;
       rest = refl;
-      locals = refl;
-      holds = holds_after y p.counts p.reserved p.sp p.base room l.after body to x held is l.small;
+      locals = unused_slot y p.counts p.reserved p.sp p.base room v.locals to x;
+      holds = holds_after y p.counts p.reserved p.sp p.base room v.locals l.after body to x held is
+          l.small;
       changes = changes_then y p.counts p.reserved p.sp p.base v.memory l.after last.memory
           (changes_same y p.counts p.reserved p.sp p.base room v.memory l.after l.own l.protection
           l.bytes) (changes_slot y p.counts p.reserved p.sp p.base room l.after to x is);
@@ -222,7 +219,7 @@ leads_kept p code to v at f b x source fine room is sp h is_there l =
 
 finish_by : (p : FramePlace) (o : Operation) (to : Slot) (v : MachineView) (at : ℕ) (f : Flags)
     (b : BodyState) (outcome : OperationResult) → Roomy p → IsThere p to → sp_of v ≡ p.sp
-    → FrameHolds p v.memory b → HasCode v.memory at (finish_code p.layout o to)
+    → FrameHolds p v.locals v.memory b → HasCode v.memory at (finish_code p.layout o to)
     → Implements p.reserved (work o) v outcome → Finished p o to v at f b outcome
 finish_by p o to v at f b (Gives x source) room is sp h code w = leads_kept p (work o) to v at f b x
     source (work_fine o) room is sp h code w
@@ -235,7 +232,7 @@ finish_by p o to v at f b (Undefined a) room is sp h code w = tt
 -- from where its operands wait, an operation is made or refused as it means on the memory there
 pub finish_run : (p : FramePlace) (o : Operation) (to : Slot) (v : MachineView) (at : ℕ) (f : Flags)
     (b : BodyState) (x y : ℕ) → Roomy p → IsThere p to → x < 2 ^ 64 → y < 2 ^ 64
-    → HasOperands o x y v → sp_of v ≡ p.sp → FrameHolds p v.memory b
+    → HasOperands o x y v → sp_of v ≡ p.sp → FrameHolds p v.locals v.memory b
     → HasCode v.memory at (finish_code p.layout o to)
     → Finished p o to v at f b (performed p.reserved o x y b.memory)
 finish_run p o to v at f b x y room is lx ly waits sp h code =
@@ -262,7 +259,7 @@ pub record Worked (p : FramePlace) (o : Operation) (v : MachineView) (at : ℕ) 
 
 pub work_run : (p : FramePlace) (o : Operation) (v : MachineView) (at : ℕ) (f : Flags)
     (b : BodyState) (x y value : ℕ) (source : Memory) → x < 2 ^ 64 → y < 2 ^ 64
-    → HasOperands o x y v → FrameHolds p v.memory b → HasCode v.memory at (work o)
+    → HasOperands o x y v → FrameHolds p v.locals v.memory b → HasCode v.memory at (work o)
     → performed p.reserved o x y b.memory ≡ Gives value source → Worked p o v at f value source
 work_run p o v at f b x y value source lx ly waits h code gives =
     let ex = waits.first in
@@ -309,7 +306,7 @@ named_alike p n s to rest others locals same b e d g = record {
   flags = g.flags;
   comes = g.comes;
   rest = g.rest ∙ e;
-  locals = g.locals ∙ d;
+  locals = subst (λ l. KeepsUnused p.layout l g.after.locals) d g.locals;
   holds = g.holds;
   changes = g.changes;
 }
@@ -325,7 +322,8 @@ compute_by p to o first second v rip f b (Gives x m) g fin =
     let c : BodyState = record { slots = with_slot b.slots to x; memory = m } in
     let whole = follows_after p (length ops) (length rest) (machine v rip f)
     (machine g.stopped (rip + sizes ops) g.left) (rip + sizes ops + sizes rest) g.stopped.rest
-    g.stopped.locals c g.comes g.memory fin in
+    g.stopped.locals c
+    g.comes g.memory fin in
     let turns : length ops + length rest ≡ length (ops ++ rest) = sym (length-append ops rest) in
     let place : rip + sizes ops + sizes rest ≡ rip
     + sizes (ops ++ rest) = omega (arith, sizes_append ops rest) in
@@ -349,7 +347,7 @@ compute_by p to o first second v rip f b (Undefined a) g fin = tt
 
 pub compute_run : (p : FramePlace) (to : Slot) (o : Operation) (first second : Slot)
     (v : MachineView) (rip : ℕ) (f : Flags) (b : BodyState) → Roomy p → IsThere p to
-    → IsThere p first → IsThere p second → sp_of v ≡ p.sp → FrameHolds p v.memory b
+    → IsThere p first → IsThere p second → sp_of v ≡ p.sp → FrameHolds p v.locals v.memory b
     → HasCode v.memory rip (compute_code p.layout to o first second)
     → Computed p to o first second v rip f b (step p.reserved
     (instructions.Compute to o first second) b)
@@ -362,6 +360,7 @@ compute_run p to o first second v rip f b room it ifst isnd at h code =
     (finish_run p o to g.stopped (rip + sizes ops) g.left b (b.slots first) (b.slots second) room it
     (h.small first ifst) (h.small second isnd) g.waits
     (ap (λ (r : OtherRegisters). r.rsp) g.rest ∙ at)
-    (subst (λ (m : Memory). FrameHolds p m b) (sym g.memory) h)
+    (subst (λ l. FrameHolds p l g.stopped.memory b) (sym g.locals)
+    (subst (λ (m : Memory). FrameHolds p v.locals m b) (sym g.memory) h))
     (subst (λ (m : Memory). HasCode m (rip + sizes ops) (finish_code p.layout o to)) (sym g.memory)
     parts.1))

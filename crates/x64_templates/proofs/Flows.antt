@@ -2,13 +2,13 @@
 -- registers, and at most one of them stores, but for a store of the source before its result is
 -- kept.
 use Rattle.std.proofs.Common.{ℕ, ◌+◌, ◌<◌, ◌^◌, Bool, true, false, List, [], ◌∷◌, ◌++◌, Option, Some, None, refl, inl, inr}
-use Rattle.x64_templates.specs.Words.{Width, W8, W16, W32, W64, Rax, Rcx, Rsp, Instr, Slot, Local, Temporary, Counts, IsSlot, Field, ExceptionCode, ExceptionFlags, NumberParameters, ExceptionInformation, Size, Int, Long, Signedness, Unsigned, Signed, Relation, Pure, Operation, Layout, sizes, compare, extended, pure_code, before, work, fetched, local_at, fetch_local, keep_local, fetch, keep, operands_code, jump_equal, jump_code, compare_zero, test_code, jump_if_zero_code, separator_code, IsNear, field_load, information_code, KeepsRegisters, StoresNothing, Flows, StoresOnce, SlotsHaveRoom, IsField}
+use Rattle.x64_templates.specs.Words.{Width, W8, W16, W32, W64, Rax, Rcx, Rsp, Instr, Slot, Local, Temporary, Counts, IsSlot, Field, ExceptionCode, ExceptionFlags, NumberParameters, ExceptionInformation, Size, Int, Long, Signedness, Unsigned, Signed, Relation, Pure, Operation, Layout, sizes, compare, extended, pure_code, before, work, fetched, local_at, fetch_local, keep_local, fetch, keep, operands_code, jump_equal, jump_code, compare_zero, test_code, jump_if_zero_code, separator_code, IsNear, field_load, information_code, KeepsRegisters, StoresNothing, Flows, StoresOnce, SlotsHaveRoom, IsField, Place, InRegister, InFrame, place_of, fetch_placed, keep_placed}
 use Rattle.c_operations.specs.declared.operation.Relation.TheVariants as relations
 use Rattle.c_operations.specs.declared.operation.Pure.TheVariants as pures
 use Rattle.c_operations.specs.declared.operation.Operation.TheVariants as operations
 use Rattle.x64_templates.proofs.Lemmas.{short}
 use Rattle.x64_templates.proofs.PlacedCode.{Encodable}
-use Rattle.x64_templates.proofs.Keeping.{keeps_both, nothing_both, nothing_keeps, flows, flows_to, once_after, nothing_once}
+use Rattle.x64_templates.proofs.Keeping.{flows_on, nothing_both, nothing_keeps, flows, flows_to, once_after, nothing_once}
 use Rattle.x64_templates.proofs.Cells.{reg}
 use Rattle.x64_templates.proofs.Encoded.{Fine, fine_both, encodable_of, near, fetch_fine, keep_fine, work_fine, operands_fine}
 use Rattle.x64_templates.proofs.Information.{field_fine}
@@ -27,10 +27,16 @@ local_nothing false None d = (refl, refl, tt)
 local_nothing true (Some b) d = (refl, refl, (refl, refl, tt))
 local_nothing false (Some b) d = (refl, refl, (refl, refl, tt))
 
+placed_nothing : (y : Layout) (r : Bool) (i : ℕ) (p : Place)
+    → StoresNothing (fetch_placed y (reg r) i p)
+placed_nothing y true i (InRegister q) = (refl, refl, tt)
+placed_nothing y false i (InRegister q) = (refl, refl, tt)
+placed_nothing y r i InFrame = local_nothing r y.base (local_at y i)
+
 pub fetch_nothing : (y : Layout) (r : Bool) (x : Slot) → StoresNothing (fetch y (reg r) x)
 fetch_nothing y true (Temporary i) = (refl, refl, tt)
 fetch_nothing y false (Temporary i) = (refl, refl, tt)
-fetch_nothing y r (Local i) = local_nothing r y.base (local_at y i)
+fetch_nothing y r (Local i) = placed_nothing y r i (place_of y i)
 
 keep_local_keeps : (o : Option ℕ) (d : ℕ) → KeepsRegisters (keep_local o d)
 keep_local_keeps None d = (refl, tt)
@@ -40,13 +46,23 @@ keep_local_once : (o : Option ℕ) (d : ℕ) → StoresOnce (keep_local o d)
 keep_local_once None d = inr tt
 keep_local_once (Some b) d = inl (refl, inr tt)
 
-keep_keeps : (y : Layout) (x : Slot) → KeepsRegisters (keep y x)
-keep_keeps y (Temporary i) = (refl, tt)
-keep_keeps y (Local i) = keep_local_keeps y.base (local_at y i)
+-- a local in a register is written by the last instruction alone
+keep_placed_flows : (y : Layout) (i : ℕ) (p : Place) → Flows (keep_placed y i p)
+keep_placed_flows y i (InRegister q) = refl
+keep_placed_flows y i InFrame = flows (keep_local y.base (local_at y i))
+    (keep_local_keeps y.base (local_at y i))
+
+keep_flows : (y : Layout) (x : Slot) → Flows (keep y x)
+keep_flows y (Temporary i) = refl
+keep_flows y (Local i) = keep_placed_flows y i (place_of y i)
+
+keep_placed_once : (y : Layout) (i : ℕ) (p : Place) → StoresOnce (keep_placed y i p)
+keep_placed_once y i (InRegister q) = inr tt
+keep_placed_once y i InFrame = keep_local_once y.base (local_at y i)
 
 keep_once : (y : Layout) (x : Slot) → StoresOnce (keep y x)
 keep_once y (Temporary i) = inr tt
-keep_once y (Local i) = keep_local_once y.base (local_at y i)
+keep_once y (Local i) = keep_placed_once y i (place_of y i)
 
 -- ---- operations
 
@@ -156,7 +172,7 @@ module _ (y : Layout) (n : Counts) (sp base : ℕ) (room : SlotsHaveRoom y n sp 
   pub keep_flow : (to : Slot) → IsSlot n to → IsFlow (keep y to)
   keep_flow to is = record {
     spelling = encodable_of (keep y to) (keep_fine y n sp base to room is);
-    flow = flows (keep y to) (keep_keeps y to);
+    flow = keep_flows y to;
     once = keep_once y to;
   }
 
@@ -179,8 +195,7 @@ module _ (y : Layout) (n : Counts) (sp base : ℕ) (room : SlotsHaveRoom y n sp 
       record {
         spelling = encodable_of (loads ++ keep y to)
             (fine_both loads (keep y to) fine (keep_fine y n sp base to room is));
-        flow = flows (loads ++ keep y to) (keeps_both loads (keep y to)
-            (nothing_keeps loads nothing) (keep_keeps y to));
+        flow = flows_on loads (keep y to) (nothing_keeps loads nothing) (keep_flows y to);
         once = once_after loads (keep y to) nothing (keep_once y to);
       }
 

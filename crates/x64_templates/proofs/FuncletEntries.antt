@@ -25,7 +25,7 @@ pointers_kept v sp d x rip f at is small near_d cell code =
 
 -- a `__finally` block keeps ECX, its flag, in a local of the activation
 pub flag_run : (p : FramePlace) (flag : Slot) (v : MachineView) (rip : ℕ) (f : Flags)
-    (b : BodyState) → Roomy p → IsThere p flag → sp_of v ≡ p.sp → FrameHolds p v.memory b
+    (b : BodyState) → Roomy p → IsThere p flag → sp_of v ≡ p.sp → FrameHolds p v.locals v.memory b
     → HasCode v.memory rip ((move W32 Rax Rcx ∷ []) ++ keep p.layout flag)
     → ReachesBody p (length ((move W32 Rax Rcx ∷ []) ++ keep p.layout flag)) (machine v rip f)
     (rip + sizes ((move W32 Rax Rcx ∷ []) ++ keep p.layout flag)) v.rest v.locals

@@ -82,7 +82,7 @@ small_field (ExceptionInformation k) x = omega arith
 
 pub information_run : (p : FramePlace) (to : Slot) (field : Field) (v : MachineView) (at : ℕ)
     (f : Flags) (b : BodyState) (x : ℕ) → Roomy p → IsThere p to → IsField field
-    → p.layout.pointers < 2 ^ 31 → sp_of v ≡ p.sp → FrameHolds p v.memory b → x < 2 ^ 64
+    → p.layout.pointers < 2 ^ 31 → sp_of v ≡ p.sp → FrameHolds p v.locals v.memory b → x < 2 ^ 64
     → HasException v.memory (p.sp + p.layout.pointers) field x
     → HasCode v.memory at (information_code p.layout to field)
     → ReachesBody p (length (information_code p.layout to field)) (machine v at f)

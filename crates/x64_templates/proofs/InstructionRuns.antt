@@ -1,6 +1,6 @@
 -- Every instruction that needs no dispatcher does what it means, wherever its template is placed.
 use Rattle.std.proofs.Common.{◌≡◌, ℕ, zero, suc, ◌+◌, ◌^◌, ◌<◌, ◌≤◌, Bool, true, false, cond, eqb, List, [], ◌∷◌, length, get_or, Option, Some, None, refl, sym, subst, ◌∙◌, arith, length-append}
-use Rattle.x64_templates.specs.Words.{Rax, Flags, Slot, Local, Temporary, Operation, Instruction, BodyState, with_slot, OperationResult, Gives, Raises, Undefined, performed, Next, JumpsTo, kept, step, HasSlots, Layout, MachineView, machine, size, sizes, work, fetch, keep, keep_local, local_at, operands_code, finish_code, compute_code, compare_zero, jump_equal, jump_if_zero_code, test_code, IsNear, Links, template, template_size, offset_of, code_from, HasCode, FramePlace, Roomy, FrameHolds, ReachesBody, Computed, InstructionDone, nowhere, body_size, HasLabels}
+use Rattle.x64_templates.specs.Words.{Place, InRegister, InFrame, place_of, keep_placed, Rax, Flags, Slot, Local, Temporary, Operation, Instruction, BodyState, with_slot, OperationResult, Gives, Raises, Undefined, performed, Next, JumpsTo, kept, step, HasSlots, Layout, MachineView, machine, size, sizes, work, fetch, keep, keep_local, local_at, operands_code, finish_code, compute_code, compare_zero, jump_equal, jump_if_zero_code, test_code, IsNear, Links, template, template_size, offset_of, code_from, HasCode, FramePlace, Roomy, FrameHolds, ReachesBody, Computed, InstructionDone, nowhere, body_size, HasLabels}
 use Rattle.linear_code.specs.declared.instruction.Instruction.TheVariants as instructions
 use Rattle.x64_templates.proofs.Cells.{sp_of}
 use Rattle.x64_templates.proofs.Lemmas.{fetch_length, compute_length, jump_if_zero_size, template_sizes, offset_next}
@@ -14,9 +14,13 @@ keep_local_some : (o : Option ℕ) (d : ℕ) → 1 ≤ length (keep_local o d)
 keep_local_some None d = omega arith
 keep_local_some (Some b) d = omega arith
 
+keep_placed_some : (y : Layout) (i : ℕ) (p : Place) → 1 ≤ length (keep_placed y i p)
+keep_placed_some y i (InRegister r) = omega arith
+keep_placed_some y i InFrame = keep_local_some y.base (local_at y i)
+
 keep_some : (y : Layout) (x : Slot) → 1 ≤ length (keep y x)
 keep_some y (Temporary i) = omega arith
-keep_some y (Local i) = keep_local_some y.base (local_at y i)
+keep_some y (Local i) = keep_placed_some y i (place_of y i)
 
 compute_some : (y : Layout) (to : Slot) (o : Operation) (first second : Slot)
     → 1 ≤ length (compute_code y to o first second)
@@ -92,7 +96,8 @@ branch_done p k slot label v here f b false g =
       );
       follows = subst (λ a. ReachesBody p (length
           (jump_if_zero_code p.layout slot here (k.label label))) (machine v here f) a v.rest
-          v.locals b) z g;
+          v.locals b) z
+          g;
     }
 
 -- the labels that an instruction goes to are near to the end of its template
@@ -110,7 +115,7 @@ jump_template y here label = refl
 
 pub instruction_run : (p : FramePlace) (k : Links) (instruction : Instruction) (v : MachineView)
     (here : ℕ) (f : Flags) (b : BodyState) → Roomy p → HasSlots p.counts instruction
-    → LabelsNear k p.layout here instruction → sp_of v ≡ p.sp → FrameHolds p v.memory b
+    → LabelsNear k p.layout here instruction → sp_of v ≡ p.sp → FrameHolds p v.locals v.memory b
     → HasCode v.memory here (template k p.layout here instruction)
     → InstructionDone p k v here f b instruction (step p.reserved instruction b)
 instruction_run p k (instructions.Compute to o first second) v here f b room has near at h code =
@@ -198,7 +203,7 @@ pub body_instruction_run : (p : FramePlace) (k : Links) (start : ℕ) (body : Li
     → HasLabels k p.layout start body → body_size p.layout body < 2 ^ 31
     → start + body_size p.layout body < 2 ^ 48 → number < length body
     → HasSlots p.counts (get_or body number instructions.Separator) → sp_of v ≡ p.sp
-    → FrameHolds p v.memory b → HasCode v.memory start (code_from k p.layout start body)
+    → FrameHolds p v.locals v.memory b → HasCode v.memory start (code_from k p.layout start body)
     → InstructionDone p k v (start + offset_of p.layout body number) f b
     (get_or body number instructions.Separator)
     (step p.reserved (get_or body number instructions.Separator) b)

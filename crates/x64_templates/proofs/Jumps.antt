@@ -1,7 +1,7 @@
 -- Jumps come to their labels.
 use Rattle.x64_templates.proofs.Lemmas.{arrives, short, jump_if_size, sizes_append}
 use Rattle.std.proofs.Common.{◌≡◌, ℕ, ◌+◌, ◌-◌, ◌%◌, ◌^◌, ◌<◌, Bool, true, false, cond, eqb, [], ◌∷◌, ◌++◌, length, Ok, refl, sym, ap, subst, ◌∙◌, arith, length-append}
-use Rattle.x64_templates.specs.Words.{W64, low, Memory, Rax, Relative, Instr, chosen, is_encodable, Flags, subtracted, State, effect, Slot, BodyState, takes_frame, MachineView, machine, size, sizes, fetch, distance, jump_equal, jump_code, compare_zero, test_code, jump_if_zero_code, separator_code, IsNear, IsBytes, Reaches, HasCode, FramePlace, Roomy, FrameHolds, IsThere, ReachesBody, jump}
+use Rattle.x64_templates.specs.Words.{W64, low, Memory, Rax, Relative, Instr, chosen, is_encodable, Flags, subtracted, State, effect, Slot, BodyState, takes_frame, MachineView, machine, size, sizes, fetch, distance, jump_equal, jump_code, compare_zero, test_code, jump_if_zero_code, separator_code, IsNear, IsBytes, Reaches, HasCode, FramePlace, Roomy, FrameHolds, IsThere, ReachesBody, jump, local_in}
 use Rattle.x64_instr.specs.declared.instruction.Condition.TheVariants as conditions
 use Rattle.x64_instr.specs.declared.instruction.Instr.TheVariants as instrs
 use Rattle.x64_templates.proofs.PlacedCode.{bytes_split, reaches_then}
@@ -26,14 +26,15 @@ one_reaches i v w rip at f g enc inside code e =
 stays : (p : FramePlace) (turns : ℕ) (v w : MachineView) (rip at : ℕ) (f g : Flags) (b : BodyState)
     → Reaches turns (machine v rip f) (machine w at g) → w.rest ≡ v.rest → w.locals ≡ v.locals
     → w.memory ≡ v.memory
-    → FrameHolds p v.memory b → ReachesBody p turns (machine v rip f) at v.rest v.locals b
+    → FrameHolds p v.locals v.memory b → ReachesBody p turns (machine v rip f) at v.rest v.locals b
 stays p turns v w rip at f g b comes rest locals same h = record {
   after = w;
   flags = g;
   comes = comes;
   rest = rest;
-  locals = locals;
-  holds = subst (λ (m : Memory). FrameHolds p m b) (sym same) h;
+  locals = λ r is free. ap (λ l. local_in l r) locals;
+  holds = subst (λ l. FrameHolds p l w.memory b) (sym locals)
+      (subst (λ (m : Memory). FrameHolds p v.locals m b) (sym same) h);
   changes = record {
     protection = ap (λ (m : Memory). m.protection) same;
     byte = λ a own out. ap (λ (m : Memory). m.byte a) same;
@@ -48,7 +49,8 @@ jump_size d = refl
 -- ---- a jump, and nothing
 
 pub jump_run : (p : FramePlace) (v : MachineView) (rip to : ℕ) (f : Flags) (b : BodyState)
-    → IsNear (rip + 5) to → FrameHolds p v.memory b → HasCode v.memory rip (jump_code rip to)
+    → IsNear (rip + 5) to → FrameHolds p v.locals v.memory b
+    → HasCode v.memory rip (jump_code rip to)
     → ReachesBody p 1 (machine v rip f) to v.rest v.locals b
 jump_run p v rip to f b near h code =
     let i = jump (rip + 5) to in
@@ -59,7 +61,7 @@ jump_run p v rip to f b near h code =
     (ap (λ (a : ℕ). Ok (machine v a f)) e)) refl refl refl h
 
 pub separator_run : (p : FramePlace) (v : MachineView) (rip : ℕ) (f : Flags) (b : BodyState)
-    → FrameHolds p v.memory b → HasCode v.memory rip separator_code
+    → FrameHolds p v.locals v.memory b → HasCode v.memory rip separator_code
     → ReachesBody p 1 (machine v rip f) (rip + sizes separator_code) v.rest v.locals b
 separator_run p v rip f b h code =
     let i = instrs.NoOperation in
@@ -120,7 +122,8 @@ three_then l m n s t u w a b c = reaches_then l (m + n) s t w a (reaches_then m 
 pub jump_if_zero_comes : (p : FramePlace) (slot : Slot) (v : MachineView) (rip to : ℕ) (f : Flags)
     (b : BodyState) (z : Bool) → eqb (b.slots slot) 0 ≡ z → Roomy p → IsThere p slot
     → sp_of v ≡ p.sp → IsNear (rip + sizes (test_code p.layout slot) + 6) to
-    → FrameHolds p v.memory b → HasCode v.memory rip (jump_if_zero_code p.layout slot rip to)
+    → FrameHolds p v.locals v.memory b → HasCode v.memory rip
+    (jump_if_zero_code p.layout slot rip to)
     → ReachesBody p (length (jump_if_zero_code p.layout slot rip to)) (machine v rip f)
     (cond z to (rip + sizes (test_code p.layout slot) + 6)) v.rest v.locals b
 jump_if_zero_comes p slot v rip to f b z e room is at near h code =

@@ -1,6 +1,7 @@
 -- What instructions leave of RSP, the nonvolatile registers and memory.
-use Rattle.std.proofs.Common.{◌≡◌, ℕ, zero, suc, ◌<◌, ◌≤◌, Bool, true, false, cond, Result, Ok, Err, List, [], ◌∷◌, ◌++◌, refl, ap, subst, ◌∙◌, arith, inl, inr}
+use Rattle.std.proofs.Common.{◌≡◌, ℕ, zero, suc, ◌<◌, ◌≤◌, Bool, true, false, cond, Result, Ok, Err, List, [], ◌∷◌, ◌++◌, refl, sym, ap, subst, ◌∙◌, arith, inl, inr}
 use Rattle.std.specs.Prelude.{◌⊎◌, slice_index, slice_set}
+use Rattle.std.proofs.lemmas.List.{append-nil}
 use Rattle.x64_templates.specs.Words.{Width, W8, DivFault, low, Reg, Rax, Rcx, Rdx, R8, R9, R11, RegisterOrMemory, Operand, Unary, Direction, Instr, number, Cpu, kept_of, merged, multiplied, count_of, shifted, shift_flags, divided, joined, ◌>>=◌, State, Answer, granted, register, with_register, with_flags, address_of, store, read, operand, write, may_change, computed, change, is_compare, unary, unary_of, amount, shift_by, multiply, multiply_by, with_quotient, sign_of_rax, widened, condition_byte, effect, keeps_registers, stores_nothing, KeepsRegisters, StoresNothing, Flows, StoresOnce, stored, after_store, R10, is_volatile, is_volatile_or_memory, is_register, is_call}
 use Rattle.x64_instr.specs.declared.operand.RegisterOrMemory.TheVariants as places
 use Rattle.x64_instr.specs.declared.instruction.Operation.{Operation}
@@ -11,7 +12,7 @@ use Rattle.x64_machine.specs.Effect.{compare}
 -- ---- registers
 
 -- a register is as it was where another one is set
-index_other : (xs : List ℕ) (i j v : ℕ) → (i ≡ j → ⊥)
+pub index_other : (xs : List ℕ) (i j v : ℕ) → (i ≡ j → ⊥)
     → slice_index (slice_set xs i v) j ≡ slice_index xs j
 index_other [] i j v n = refl
 index_other (x ∷ xs) zero zero v n = absurd (n refl)
@@ -207,10 +208,6 @@ calls_nothing i q = refl
 
 -- ---- lists
 
-pub keeps_both : (a b : List Instr) → KeepsRegisters a → KeepsRegisters b → KeepsRegisters (a ++ b)
-keeps_both [] b p q = q
-keeps_both (i ∷ a) b p q = (p.0, keeps_both a b p.1 q)
-
 pub nothing_both : (a b : List Instr) → StoresNothing a → StoresNothing b → StoresNothing (a ++ b)
 nothing_both [] b p q = q
 nothing_both (i ∷ a) b p q = (p.0, p.1, nothing_both a b p.2 q)
@@ -230,6 +227,10 @@ pub flows_to : (a : List Instr) (j : Instr) (b : List Instr) → KeepsRegisters 
 flows_to [] j b p q = q
 flows_to (i ∷ []) j b p q = (p.0, q)
 flows_to (i ∷ k ∷ a) j b p q = (p.0, flows_to (k ∷ a) j b p.1 q)
+
+pub flows_on : (a b : List Instr) → KeepsRegisters a → Flows b → Flows (a ++ b)
+flows_on a [] p q = subst Flows (sym (append-nil a)) (flows a p)
+flows_on a (j ∷ b) p q = flows_to a j b p q
 
 -- what stores nothing may come before what stores once
 pub once_after : (a b : List Instr) → StoresNothing a → StoresOnce b → StoresOnce (a ++ b)

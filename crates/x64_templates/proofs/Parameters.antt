@@ -2,11 +2,12 @@
 use Rattle.std.proofs.Common.{◌≡◌, ℕ, zero, suc, ◌+◌, ◌%◌, ◌^◌, ◌<◌, ◌≤◌, true, cond, [], ◌∷◌, None, refl, sym, ap, subst, ◌∙◌, arith, inl, inr}
 use Rattle.std.specs.Prelude.{◌⊎◌, slice_index}
 use Rattle.std.proofs.lemmas.Bool.{cases_lt, lt-ltb, le-ltb}
-use Rattle.x64_templates.specs.Words.{W64, low, Protection, is_readable, Memory, first_refused, may_read, may_write, with_number, with_bytes, Reg, Rax, Rsp, number, store, Local, BodyState, with_slot, registers_of, MachineView, machine, Executes, fetched, local_at, parameter_register, keep_register, stack_parameter, parameter_code, parameters_code, sp_of, slot_at, InTemporaries, InLocals, with_arguments, InRegisters, OnStack, IsFunctionFrame, FramePlace, Roomy, FrameHolds, ChangesOwn}
+use Rattle.x64_templates.specs.Words.{W64, low, Protection, is_readable, Memory, first_refused, may_read, may_write, with_number, with_bytes, Reg, Rax, Rsp, number, store, Local, BodyState, with_slot, registers_of, MachineView, machine, Executes, fetched, local_at, parameter_register, keep_register, stack_parameter, parameter_code, parameters_code, sp_of, slot_at, InTemporaries, InLocals, with_arguments, InRegisters, OnStack, IsFunctionFrame, FramePlace, Roomy, FrameHolds, ChangesOwn, move, LocalRegisters, is_of_local, with_local, Place, InRegister, InFrame, place_of, parameter_placed, KeepsUnused}
 use Rattle.x64_templates.proofs.PlacedCode.{all_may, same_number, store_at}
 use Rattle.x64_templates.proofs.Straight.{executes_one, executes_then, executes_nothing}
 use Rattle.x64_templates.proofs.Cells.{put, from_sp, may_write_slot}
-use Rattle.x64_templates.proofs.Bodies.{holds_after, changes_slot, changes_then}
+use Rattle.x64_templates.proofs.Locals.{moved_to_local, loaded_to_local, place_is_local, unused_same, unused_then}
+use Rattle.x64_templates.proofs.Bodies.{kept_in, locals_placed, memory_placed, unused_slot, holds_after, changes_slot, changes_then}
 use Rattle.x64_templates.proofs.Calls.{word_is}
 
 -- ---- a register is kept in memory
@@ -41,25 +42,31 @@ register_holds v arguments (suc (suc (suc (suc i)))) lt h = absurd (omega arith)
 pub record Kept (p : FramePlace) (i : ℕ) (v : MachineView) (x : ℕ) : Type 0 where
   pub rax : ℕ
   pub does : Executes (parameter_code p.layout i) v
-      (record v {
-        rax = rax;
-        memory = with_bytes v.memory
-            (with_number v.memory.byte 8 (slot_at p.layout p.sp p.base (Local i)) x);
-      })
+      (record (kept_in p.layout p.sp p.base v x (Local i)) { rax = rax })
+
+-- by its place
+record KeptPlaced (p : FramePlace) (i : ℕ) (q : Place) (v : MachineView) (x : ℕ) : Type 0 where
+  rax : ℕ
+  does : Executes (parameter_placed p.layout i q) v (record v {
+    rax = rax;
+    locals = locals_placed v.locals x q;
+    memory = memory_placed p.layout p.base v.memory x i q;
+  })
 
 local_address : (p : FramePlace) (i sp : ℕ) → Roomy p → IsFunctionFrame p → i < p.counts.locals
     → sp ≡ p.sp → (sp + 0 + local_at p.layout i) % 2 ^ 64 ≡ slot_at p.layout p.sp p.base (Local i)
 local_address p i sp room fn lt e = let a = room.locals in let h = room.high in let b = fn.base in
     omega arith
 
-parameter_does : (p : FramePlace) (i count : ℕ) (v : MachineView) (b : BodyState)
+framed_does : (p : FramePlace) (i count : ℕ) (v : MachineView) (b : BodyState)
     (arguments : ℕ → ℕ) → Roomy p → IsFunctionFrame p → i < count → i < p.counts.locals
-    → sp_of v ≡ p.sp → FrameHolds p v.memory b → InRegisters v arguments
-    → OnStack p v.memory count arguments → Kept p i v (arguments i)
-parameter_does p i count v b arguments room fn lc ll at h regs stack =
+    → sp_of v ≡ p.sp → FrameHolds p v.locals v.memory b → InRegisters v arguments
+    → OnStack p v.memory count arguments → KeptPlaced p i InFrame v (arguments i)
+framed_does p i count v b arguments room fn lc ll at h regs stack =
     let y = p.layout in
     let to = slot_at y p.sp p.base (Local i) in
-    let may = may_write_slot y p.counts p.reserved p.sp p.base room v.memory b (Local i) h ll in
+    let may = may_write_slot y p.counts p.reserved p.sp p.base room v.locals v.memory b (Local i) h
+    ll in
     let e = local_address p i (sp_of v) room fn ll at in
     let in_register = keep_register (parameter_register i) (local_at y i) ∷ [] in
     let on_stack = fetched Rax Rsp (stack_parameter y i) ∷ keep_register Rax (local_at y i) ∷ [] in
@@ -91,15 +98,60 @@ parameter_does p i count v b arguments room fn lc ll at h regs stack =
           }
     ]
 
+-- a parameter that stands in a register
+register_does : (p : FramePlace) (i count : ℕ) (r : Reg) (v : MachineView) (arguments : ℕ → ℕ)
+    → Roomy p → is_of_local r ≡ true → i < count → sp_of v ≡ p.sp → InRegisters v arguments
+    → OnStack p v.memory count arguments → KeptPlaced p i (InRegister r) v (arguments i)
+register_does p i count r v arguments room l lc at regs stack =
+    let y = p.layout in
+    let in_register = move W64 r (parameter_register i) ∷ [] in
+    let on_stack = fetched r Rsp (stack_parameter y i) ∷ [] in
+    let after = record v { locals = with_local v.locals r (arguments i) } in
+    elim (cases_lt i 4) [
+      | inl lt ↦ record {
+        rax = v.rax;
+        does = subst (λ c. Executes (cond c in_register on_stack) v after) (sym (lt-ltb i 4 lt))
+            (moved_to_local r (parameter_register i) v (arguments i) l
+            (register_holds v arguments i lt regs) (stack.small i lc));
+      }
+      | inr ge ↦
+          let hi = room.high in
+          let near = stack.near i lc in
+          let spot : (sp_of v + 0 + stack_parameter y i) % 2 ^ 64
+          ≡ p.sp + stack_parameter y i = omega arith in
+          let read = all_may (may_read v.memory) 8 (p.sp + stack_parameter y i) (omega arith)
+          (λ a x z. stack.readable i a ge lc x z) in
+          record {
+            rax = v.rax;
+            does = subst (λ c. Executes (cond c in_register on_stack) v after) (sym (le-ltb i 4 ge))
+                (loaded_to_local r v (stack_parameter y i) (p.sp + stack_parameter y i)
+                (arguments i) l spot read (stack.number i ge lc) (stack.small i lc));
+          }
+    ]
+
+parameter_does : (p : FramePlace) (i count : ℕ) (v : MachineView) (b : BodyState)
+    (arguments : ℕ → ℕ) → Roomy p → IsFunctionFrame p → i < count → i < p.counts.locals
+    → sp_of v ≡ p.sp → FrameHolds p v.locals v.memory b → InRegisters v arguments
+    → OnStack p v.memory count arguments → Kept p i v (arguments i)
+parameter_does p i count v b arguments room fn lc ll at h regs stack =
+    let k = by (place_of p.layout i) refl in record { rax = k.rax; does = k.does }
+  where
+    by : (q : Place) → place_of p.layout i ≡ q → KeptPlaced p i q v (arguments i)
+    by (InRegister r) e = register_does p i count r v arguments room (place_is_local p.layout i r e)
+        lc at regs stack
+    by InFrame e = framed_does p i count v b arguments room fn lc ll at h regs stack
+
 -- ---- all of them
 
 pub record AllKept (p : FramePlace) (i n : ℕ) (v : MachineView) (b : BodyState)
     (arguments : ℕ → ℕ) : Type 0 where
   pub rax : ℕ
+  pub locals : LocalRegisters
   pub memory : Memory
   pub does : Executes (parameters_code p.layout i n) v
-      (record v { rax = rax; memory = memory })
-  pub holds : FrameHolds p memory (record {
+      (record v { rax = rax; locals = locals; memory = memory })
+  pub unused : KeepsUnused p.layout v.locals locals
+  pub holds : FrameHolds p locals memory (record {
     slots = with_arguments b.slots arguments i n;
     memory = b.memory;
   })
@@ -131,13 +183,15 @@ still_on_stack p m m' count arguments room fn c s = record {
 
 pub parameters_do : (p : FramePlace) (i n count : ℕ) (v : MachineView) (b : BodyState)
     (arguments : ℕ → ℕ) → Roomy p → IsFunctionFrame p → i + n ≤ count → i + n ≤ p.counts.locals
-    → sp_of v ≡ p.sp → FrameHolds p v.memory b → InRegisters v arguments
+    → sp_of v ≡ p.sp → FrameHolds p v.locals v.memory b → InRegisters v arguments
     → OnStack p v.memory count arguments → AllKept p i n v b arguments
 parameters_do p i zero count v b arguments room fn lc ll at h regs stack =
     record {
       rax = v.rax;
+      locals = v.locals;
       memory = v.memory;
       does = executes_nothing v;
+      unused = unused_same p.layout v.locals;
       holds = h;
       changes = record { protection = refl; byte = λ a own out. refl; bytes = λ x. x };
     }
@@ -147,11 +201,12 @@ parameters_do p i (suc n) count v b arguments room fn lc ll at h regs stack =
     let k = parameter_does p i count v b arguments room fn (omega arith) il at h regs stack in
     let x = arguments i in
     let lt = stack.small i (let q : i < count = omega arith in q) in
-    let m = with_bytes v.memory (with_number v.memory.byte 8 (slot_at y p.sp p.base (Local i)) x) in
-    let w : MachineView = record v { rax = k.rax; memory = m } in
+    let w : MachineView = record (kept_in y p.sp p.base v x (Local i)) { rax = k.rax } in
+    let m = w.memory in
     let c : BodyState = record { slots = with_slot b.slots (Local i) x; memory = b.memory } in
     let ch = changes_slot y p.counts p.reserved p.sp p.base room v.memory (Local i) x il in
-    let hold = holds_after y p.counts p.reserved p.sp p.base room v.memory b (Local i) x h il lt in
+    let hold = holds_after y p.counts p.reserved p.sp p.base room v.locals v.memory b (Local i) x h
+    il lt in
     let r = parameters_do p (i + 1) n count w c arguments room fn (omega arith) (omega arith) at
     hold (record {
       first = regs.first;
@@ -161,11 +216,14 @@ parameters_do p i (suc n) count v b arguments room fn lc ll at h regs stack =
     }) (still_on_stack p v.memory m count arguments room fn ch stack) in
     record {
       rax = r.rax;
+      locals = r.locals;
       memory = r.memory;
       does = executes_then (parameter_code y i) (parameters_code y (i + 1) n) v w
-          (record v { rax = r.rax; memory = r.memory })
+          (record v { rax = r.rax; locals = r.locals; memory = r.memory })
           k.does
           r.does;
+      unused = unused_then y v.locals w.locals r.locals
+          (unused_slot y p.counts p.reserved p.sp p.base room v.locals (Local i) x) r.unused;
       holds = r.holds;
       changes = changes_then y p.counts p.reserved p.sp p.base v.memory m r.memory ch r.changes;
     }

@@ -1,6 +1,6 @@
 -- A fault in a body, and the operation made again.
 use Rattle.std.proofs.Common.{◌≡◌, ℕ, suc, ◌+◌, ◌^◌, ◌<◌, ◌≤◌, Bool, List, ◌++◌, length, get_or, Option, Some, sym, ap, subst, ◌∙◌, arith, length-append}
-use Rattle.x64_templates.specs.Words.{OtherRegisters, Code, Flags, Slot, Instruction, Operation, BodyState, with_slot, OperationResult, Gives, Raises, Undefined, performed, InstructionEffect, Faults, step, run, HasSlots, Layout, MachineView, machine, sizes, operands_code, finish_code, Links, template, template_size, offset_of, HasOperands, HasCode, FramePlace, Roomy, FrameHolds, ChangesOwn, ReachesBody, Finished, InstructionDone, IsLinked, ReachesFault}
+use Rattle.x64_templates.specs.Words.{OtherRegisters, Code, Flags, Slot, Instruction, Operation, BodyState, with_slot, OperationResult, Gives, Raises, Undefined, performed, InstructionEffect, Faults, step, run, HasSlots, Layout, MachineView, machine, sizes, operands_code, finish_code, Links, template, template_size, offset_of, HasOperands, HasCode, FramePlace, Roomy, FrameHolds, ChangesOwn, ReachesBody, Finished, InstructionDone, IsLinked, ReachesFault, KeepsUnused}
 use Rattle.x64_templates.proofs.PlacedCode.{reaches_then}
 use Rattle.linear_code.specs.declared.instruction.Instruction.TheVariants as instructions
 use Rattle.x64_templates.proofs.Lemmas.{sizes_append, compute_length, template_sizes, offset_next}
@@ -31,7 +31,7 @@ few_operands y to o first second = let l = compute_length y to o first second in
 pub body_faults : (p : FramePlace) (k : Links) (start : ℕ) (body : List Instruction) (n number : ℕ)
     (v : MachineView) (f : Flags) (b : BodyState) (last : ℕ) (c : BodyState)
     (to first second : Slot) (o : Operation) (code : Code) (access : Option (Bool × ℕ)) → Roomy p
-    → IsLinked p k v.memory start body → sp_of v ≡ p.sp → FrameHolds p v.memory b
+    → IsLinked p k v.memory start body → sp_of v ≡ p.sp → FrameHolds p v.locals v.memory b
     → run p.reserved body n number b ≡ Some (last, c) → last < length body
     → get_or body last instructions.Separator ≡ instructions.Compute to o first second
     → step p.reserved (instructions.Compute to o first second) c ≡ Faults code access
@@ -43,7 +43,7 @@ body_faults p k start body n number v f b last c to first second o code access r
     let g = body_runs p k start body n room number v f b last c l at h runs in
     let w = g.follows.after in
     let here = start + offset_of p.layout body last in
-    let l' = linked_stays p k v.memory w.memory start body b g.follows.changes h l in
+    let l' = linked_stays p k v.locals v.memory w.memory start body b g.follows.changes h l in
     let at' = ap (λ (r : OtherRegisters). r.rsp) g.follows.rest ∙ at in
     let done = body_instruction_run p k start body last w g.follows.flags c room l'.labels l'.small
     l'.high lt (l'.slots last lt) at' g.follows.holds l'.code in
@@ -66,8 +66,9 @@ body_faults p k start body n number v f b last c to first second o code access r
           g.follows.comes r.comes;
       waits = r.waits;
       rest = r.rest ∙ g.follows.rest;
-      locals = r.locals ∙ g.follows.locals;
-      holds = subst (λ m. FrameHolds p m c) (sym r.memory) g.follows.holds;
+      locals = subst (KeepsUnused p.layout v.locals) (sym r.locals) g.follows.locals;
+      holds = subst (λ l. FrameHolds p l r.stopped.memory c) (sym r.locals)
+          (subst (λ m. FrameHolds p w.locals m c) (sym r.memory) g.follows.holds);
       changes = subst (λ m. ChangesOwn p v.memory m) (sym r.memory) g.follows.changes;
       fault = r.fault;
     }
@@ -86,7 +87,8 @@ pub body_retries : (p : FramePlace) (k : Links) (start : ℕ) (body : List Instr
     (v : MachineView) (f : Flags) (b : BodyState) (to first second : Slot) (o : Operation) (x y : ℕ)
     → Roomy p → IsLinked p k v.memory start body → number < length body
     → get_or body number instructions.Separator ≡ instructions.Compute to o first second
-    → x < 2 ^ 64 → y < 2 ^ 64 → HasOperands o x y v → sp_of v ≡ p.sp → FrameHolds p v.memory b
+    → x < 2 ^ 64 → y < 2 ^ 64 → HasOperands o x y v → sp_of v ≡ p.sp
+    → FrameHolds p v.locals v.memory b
     → Retried p (start + offset_of p.layout body (suc number)) to o v
     (start + offset_of p.layout body number + sizes (operands_code p.layout o first second)) f b
     (performed p.reserved o x y b.memory)

@@ -28,7 +28,7 @@ pub record Outlasts (reserved : ℕ → Bool) (sp : ℕ) (m m' : Memory) : Type 
 -- ---- after a call: RAX goes to its slot
 
 pub call_ends : (p : FramePlace) (to : Slot) (v : MachineView) (at : ℕ) (f : Flags) (b : BodyState)
-    → Roomy p → IsThere p to → v.rax < 2 ^ 64 → sp_of v ≡ p.sp → FrameHolds p v.memory b
+    → Roomy p → IsThere p to → v.rax < 2 ^ 64 → sp_of v ≡ p.sp → FrameHolds p v.locals v.memory b
     → HasCode v.memory at (keep p.layout to) → ReachesBody p (length (keep p.layout to))
     (machine v at f) (at + sizes (keep p.layout to)) v.rest v.locals
     (record { slots = with_slot b.slots to v.rax; memory = b.memory })
@@ -68,7 +68,7 @@ return_effect v sp back next f e high b =
 -- RAX is fetched, and the epilogue is run
 pub return_run : (p : FramePlace) (from : Slot) (v : MachineView) (old : ℕ → ℕ) (back rip : ℕ)
     (f : Flags) (b : BodyState) → let plan = plan_of_layout p.layout 0 in
-    Roomy p → IsThere p from → sp_of v ≡ p.sp → FrameHolds p v.memory b
+    Roomy p → IsThere p from → sp_of v ≡ p.sp → FrameHolds p v.locals v.memory b
     → IsPlan plan → old 4 < 2 ^ 47 → ((r : ℕ) → old r < 2 ^ 64)
     → HoldsFrame plan.frame plan.distance v.memory old back (registers (machine v rip f))
     (operations_of plan) (operations_of plan)

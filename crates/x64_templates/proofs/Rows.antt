@@ -1,6 +1,7 @@
 -- Worked templates, computed down to bytes.
 use Rattle.std.proofs.Common.{◌≡◌, List, [], ◌∷◌, length, None, Some, refl}
 use Rattle.x64_templates.specs.Words.{modrm, spelled, Int, Signed, Local, Temporary, Instruction, Layout, size, compute_code, jump_code, template_size, offset_of}
+use Rattle.template_code.specs.declared.layout.TheConstants.{NO_REGISTERS}
 use Rattle.c_operations.specs.declared.operation.Pure.TheVariants as pures
 use Rattle.c_operations.specs.declared.operation.Operation.TheVariants as operations
 use Rattle.linear_code.specs.declared.instruction.Instruction.TheVariants as instructions
@@ -15,6 +16,7 @@ function_layout = record {
   temporaries = 128;
   slots = 312;
   frame = 312;
+  registers = NO_REGISTERS;
 }
 
 block_layout : Layout
@@ -25,7 +27,28 @@ block_layout = record {
   temporaries = 128;
   slots = 152;
   frame = 152;
+  registers = NO_REGISTERS;
 }
+
+-- a function with two locals in registers, the first in RBX and the fourth in RSI
+register_layout : Layout
+register_layout = record {
+  base = None;
+  pointers = 0;
+  locals = 256;
+  temporaries = 128;
+  slots = 312;
+  frame = 312;
+  registers = Some 0 ∷ Some 3 ∷ None ∷ None ∷ None ∷ None ∷ None ∷ [];
+}
+
+-- mov rax,rbx ; mov rcx,[rsp+264] ; add eax,ecx ; mov rsi,rax
+sum_of_registers : spelled (compute_code register_layout (Local 3) (operations.Pure (pures.Add Int))
+    (Local 0) (Local 1)) ≡ 0x48 ∷ 0x89 ∷ 0xD8 ∷ 0x48 ∷ 0x8B ∷ 0x8C ∷ 0x24 ∷ 0x08 ∷ 0x01 ∷ 0x00
+    ∷ 0x00
+    ∷ 0x01 ∷ 0xC8 ∷ 0x48 ∷ 0x89 ∷ 0xC6 ∷ []
+unfolding register_layout modrm
+sum_of_registers = refl
 
 -- mov rax,[rsp+256] ; mov rcx,[rsp+128] ; add eax,ecx ; mov [rsp+264],rax
 sum_of_slots : spelled (compute_code function_layout (Local 1) (operations.Pure (pures.Add Int))

@@ -8,16 +8,18 @@ use Rattle.linear_code.specs.declared.instruction.Instruction.TheVariants as ins
 use Rattle.x64_templates.proofs.Lemmas.{sizes_spelled, body_sizes, offset_next}
 use Rattle.x64_templates.proofs.Cells.{sp_of}
 use Rattle.x64_templates.proofs.Bodies.{changes_then}
+use Rattle.x64_templates.proofs.Locals.{unused_same, unused_then}
 use Rattle.x64_templates.proofs.Computes.{named_alike}
 use Rattle.x64_templates.proofs.InstructionRuns.{body_instruction_run}
 
 -- ---- code stays where it is
 
-bytes_stay : (p : FramePlace) (m m' : Memory) (b : BodyState) (at : ℕ) (bytes : List ℕ)
-    → ChangesOwn p m m' → FrameHolds p m b → ((a : ℕ) → at ≤ a → a < at + length bytes
+bytes_stay : (p : FramePlace) (l : LocalRegisters) (m m' : Memory) (b : BodyState) (at : ℕ)
+    (bytes : List ℕ)
+    → ChangesOwn p m m' → FrameHolds p l m b → ((a : ℕ) → at ≤ a → a < at + length bytes
     → p.reserved a ≡ true) → IsCodeAt m at bytes → IsCodeAt m' at bytes
-bytes_stay p m m' b at [] c h own s = tt
-bytes_stay p m m' b at (x ∷ bytes) c h own s =
+bytes_stay p l m m' b at [] c h own s = tt
+bytes_stay p l m m' b at (x ∷ bytes) c h own s =
     let off = λ (is : InTemporaries p.layout p.counts p.sp at
     ⊎ InLocals p.layout p.counts p.base at). let q : true ≡ false = sym (h.writable at is)
     ∙ s.0.fixed in let z : ⊥ = absurd cc in z in (
@@ -26,27 +28,28 @@ bytes_stay p m m' b at (x ∷ bytes) c h own s =
         executes = ap (λ (f : ℕ → Protection). (f at).execute) c.protection ∙ s.0.executes;
         fixed = ap (λ (f : ℕ → Protection). is_writable (f at).rights) c.protection ∙ s.0.fixed;
       },
-      bytes_stay p m m' b (at + 1) bytes c h (λ a l u. own a (omega arith) (omega arith)) s.1,
+      bytes_stay p l m m' b (at + 1) bytes c h (λ a lo hi. own a (omega arith) (omega arith)) s.1,
     )
 
-pub code_stays : (p : FramePlace) (m m' : Memory) (b : BodyState) (at : ℕ) (code : List Instr)
-    → ChangesOwn p m m' → FrameHolds p m b → ((a : ℕ) → at ≤ a → a < at + sizes code
+pub code_stays : (p : FramePlace) (l : LocalRegisters) (m m' : Memory) (b : BodyState) (at : ℕ)
+    (code : List Instr)
+    → ChangesOwn p m m' → FrameHolds p l m b → ((a : ℕ) → at ≤ a → a < at + sizes code
     → p.reserved a ≡ true) → HasCode m at code → HasCode m' at code
-code_stays p m m' b at code c h own s =
+code_stays p l m m' b at code c h own s =
     let e = sizes_spelled code in
     record {
-      is_there = bytes_stay p m m' b at (spelled code) c h (λ a l u. own a l (omega arith))
+      is_there = bytes_stay p l m m' b at (spelled code) c h (λ a lo hi. own a lo (omega arith))
           s.is_there;
       placed = s.placed;
     }
 
-pub linked_stays : (p : FramePlace) (k : Links) (m m' : Memory) (start : ℕ)
-    (body : List Instruction) (b : BodyState) → ChangesOwn p m m' → FrameHolds p m b
+pub linked_stays : (p : FramePlace) (k : Links) (l : LocalRegisters) (m m' : Memory) (start : ℕ)
+    (body : List Instruction) (b : BodyState) → ChangesOwn p m m' → FrameHolds p l m b
     → IsLinked p k m start body → IsLinked p k m' start body
-linked_stays p k m m' start body b c h l =
+linked_stays p k r m m' start body b c h l =
     let e = body_sizes k p.layout start body in
     record {
-      code = code_stays p m m' b start (code_from k p.layout start body) c h
+      code = code_stays p r m m' b start (code_from k p.layout start body) c h
           (λ a lo hi. l.own a lo (omega arith)) l.code;
       labels = l.labels;
       small = l.small;
@@ -59,7 +62,7 @@ linked_stays p k m m' start body b c h l =
 
 pub follows_then : (p : FramePlace) (m n : ℕ) (s : State) (mid to : ℕ) (others : OtherRegisters)
     (locals : LocalRegisters) (b c : BodyState) → (g : ReachesBody p m s mid others locals b)
-    → ReachesBody p n (machine g.after mid g.flags) to others locals c
+    → ReachesBody p n (machine g.after mid g.flags) to others g.after.locals c
     → ReachesBody p (m + n) s to others locals c
 follows_then p m n s mid to others locals b c g r = record {
   after = r.after;
@@ -67,24 +70,24 @@ follows_then p m n s mid to others locals b c g r = record {
   comes = reaches_then m n s (machine g.after mid g.flags) (machine r.after to r.flags) g.comes
       r.comes;
   rest = r.rest;
-  locals = r.locals;
+  locals = unused_then p.layout locals g.after.locals r.after.locals g.locals r.locals;
   holds = r.holds;
   changes = changes_then p.layout p.counts p.reserved p.sp p.base s.memory g.after.memory
       r.after.memory g.changes r.changes;
 }
 
 runs_alike : (p : FramePlace) (n : ℕ) (s : State) (to : ℕ) (rest others : OtherRegisters)
-    (locals same : LocalRegisters) (b : BodyState) → rest ≡ others → locals ≡ same
-    → RunsAllTo p n s to rest locals b → RunsAllTo p n s to others same b
-runs_alike p n s to rest others locals same b e d g = record {
+    (locals : LocalRegisters) (b : BodyState) → rest ≡ others → RunsAllTo p n s to rest locals b
+    → RunsAllTo p n s to others locals b
+runs_alike p n s to rest others locals b e g = record {
   turns = g.turns;
   least = g.least;
   most = g.most;
-  follows = named_alike p g.turns s to rest others locals same b e d g.follows;
+  follows = named_alike p g.turns s to rest others locals locals b e refl g.follows;
 }
 
 nothing_made : (p : FramePlace) (v : MachineView) (at : ℕ) (f : Flags) (b : BodyState)
-    → FrameHolds p v.memory b → RunsAllTo p 0 (machine v at f) at v.rest v.locals b
+    → FrameHolds p v.locals v.memory b → RunsAllTo p 0 (machine v at f) at v.rest v.locals b
 nothing_made p v at f b h = record {
   turns = 0;
   least = omega arith;
@@ -94,7 +97,7 @@ nothing_made p v at f b h = record {
     flags = f;
     comes = no_turns (machine v at f) (machine v at f) refl;
     rest = refl;
-    locals = refl;
+    locals = unused_same p.layout v.locals;
     holds = h;
     changes = record { protection = refl; byte = λ a own out. refl; bytes = λ x. x };
   };
@@ -102,7 +105,7 @@ nothing_made p v at f b h = record {
 
 made_then : (p : FramePlace) (m n : ℕ) (v : MachineView) (at : ℕ) (f : Flags) (mid to : ℕ)
     (b c : BodyState) → (g : RunsTo p m (machine v at f) mid v.rest v.locals b)
-    → RunsAllTo p n (machine g.follows.after mid g.follows.flags) to v.rest v.locals c
+    → RunsAllTo p n (machine g.follows.after mid g.follows.flags) to v.rest g.follows.after.locals c
     → RunsAllTo p (suc n) (machine v at f) to v.rest v.locals c
 made_then p m n v at f mid to b c g r =
     let l1 = g.least in let m1 = g.most in let l2 = r.least in let m2 = r.most in
@@ -118,7 +121,8 @@ made_then p m n v at f mid to b c g r =
 
 abbrev Runs : FramePlace → Links → ℕ → List Instruction → ℕ → Type 0
 Runs p k start body n = (number : ℕ) (v : MachineView) (f : Flags) (b : BodyState) (last : ℕ)
-    (c : BodyState) → IsLinked p k v.memory start body → sp_of v ≡ p.sp → FrameHolds p v.memory b
+    (c : BodyState) → IsLinked p k v.memory start body → sp_of v ≡ p.sp
+    → FrameHolds p v.locals v.memory b
     → run p.reserved body n number b ≡ Some (last, c)
     → RunsAllTo p n (machine v (start + offset_of p.layout body number) f)
     (start + offset_of p.layout body last) v.rest v.locals c
@@ -138,7 +142,7 @@ same_point x y b c e = (ap (number_of x) e, ap (body_of b) e)
 after_line : (p : FramePlace) (k : Links) (start : ℕ) (body : List Instruction) (n number : ℕ)
     (v : MachineView) (f : Flags) (b : BodyState) (last : ℕ) (c : BodyState)
     (instruction : Instruction) (s : InstructionEffect) → Runs p k start body n
-    → IsLinked p k v.memory start body → sp_of v ≡ p.sp → FrameHolds p v.memory b
+    → IsLinked p k v.memory start body → sp_of v ≡ p.sp → FrameHolds p v.locals v.memory b
     → number < length body → instruction ≡ get_or body number instructions.Separator
     → InstructionDone p k v (start + offset_of p.layout body number) f b instruction s
     → continued (run p.reserved body n) number s ≡ Some (last, c)
@@ -151,7 +155,8 @@ after_line p k start body n number v f b last c instruction (Next d) rec l at h 
     ≡ start + offset_of y body (number + 1) = step_to (number + 1) (omega arith) in
     let turns = length (template k y here instruction) in
     let g : RunsTo p turns (machine v here f) (start + offset_of y body (number + 1)) v.rest
-    v.locals d = subst (λ a. RunsTo p turns (machine v here f) a v.rest v.locals d) next done in
+    v.locals
+    d = subst (λ a. RunsTo p turns (machine v here f) a v.rest v.locals d) next done in
     go turns g e
   where
     step_to : (j : ℕ) → j ≡ suc number → start + offset_of p.layout body number
@@ -174,9 +179,10 @@ after_line p k start body n number v f b last c instruction (Next d) rec l at h 
         (start + offset_of p.layout body (number + 1)) (start + offset_of p.layout body last) d c g
         (runs_alike p n (machine g.follows.after (start + offset_of p.layout body (number + 1))
         g.follows.flags) (start + offset_of p.layout body last) g.follows.after.rest v.rest
-        g.follows.after.locals v.locals c g.follows.rest g.follows.locals
-        (rec (number + 1) g.follows.after g.follows.flags d last c
-        (linked_stays p k v.memory g.follows.after.memory start body b g.follows.changes h l)
+        g.follows.after.locals c g.follows.rest (rec (number + 1) g.follows.after g.follows.flags d
+        last c
+        (linked_stays p k v.locals v.memory g.follows.after.memory start body b g.follows.changes h
+        l)
         (ap (λ (r : OtherRegisters). r.rsp) g.follows.rest ∙ at) g.follows.holds e))
 after_line p k start body n number v f b last c instruction (JumpsTo d label) rec l at h lt is done
     e =
@@ -193,9 +199,9 @@ after_line p k start body n number v f b last c instruction (JumpsTo d label) re
         (start + offset_of p.layout body label) (start + offset_of p.layout body last) d c g
         (runs_alike p n (machine g.follows.after (start + offset_of p.layout body label)
         g.follows.flags) (start + offset_of p.layout body last) g.follows.after.rest v.rest
-        g.follows.after.locals v.locals c g.follows.rest g.follows.locals
-        (rec label g.follows.after g.follows.flags d last c
-        (linked_stays p k v.memory g.follows.after.memory start body b g.follows.changes h l)
+        g.follows.after.locals c g.follows.rest (rec label g.follows.after g.follows.flags d last c
+        (linked_stays p k v.locals v.memory g.follows.after.memory start body b g.follows.changes h
+        l)
         (ap (λ (r : OtherRegisters). r.rsp) g.follows.rest ∙ at) g.follows.holds e))
 after_line p k start body n number v f b last c instruction (Faults code access) rec l at h lt is
     done e =
@@ -210,7 +216,7 @@ after_line p k start body n number v f b last c instruction NeedsDispatcher rec 
 -- n instructions of a body take n to 16 n turns, and lead where they lead
 pub body_runs : (p : FramePlace) (k : Links) (start : ℕ) (body : List Instruction) (n : ℕ) → Roomy p
     → (number : ℕ) (v : MachineView) (f : Flags) (b : BodyState) (last : ℕ) (c : BodyState)
-    → IsLinked p k v.memory start body → sp_of v ≡ p.sp → FrameHolds p v.memory b
+    → IsLinked p k v.memory start body → sp_of v ≡ p.sp → FrameHolds p v.locals v.memory b
     → run p.reserved body n number b ≡ Some (last, c)
     → RunsAllTo p n (machine v (start + offset_of p.layout body number) f)
     (start + offset_of p.layout body last) v.rest v.locals c

@@ -1,7 +1,12 @@
 -- The premises can hold: a function's frame and a block's below it, in memory of which every byte
 -- may be written.
-use Rattle.std.proofs.Common.{◌<◌, true, false, Some, None, refl, arith, inr}
+use Rattle.std.proofs.Common.{◌<◌, ◌^◌, true, false, Some, None, refl, arith, inr}
 use Rattle.x64_templates.specs.Words.{ReadWrite, Memory, Counts, Agrees, IsFunctionFrame, body_in_memory, FreshFrame, FramePlace, Roomy, FrameHolds}
+use Rattle.x64_instr.specs.declared.register.Reg.{Reg}
+use Rattle.x64_instr.specs.declared.register.Reg.TheVariants.{Rax, Rcx, Rdx, Rbx, Rsp, Rbp, Rsi, Rdi, R8, R9, R10, R11, R12, R13, R14, R15}
+use Rattle.template_code.specs.declared.layout.TheConstants.{NO_REGISTERS}
+use Rattle.x64_templates.specs.Straight.{LocalRegisters}
+use Rattle.x64_templates.specs.Locals.{local_in}
 use Rattle.x64_templates.proofs.Entering.{fresh_holds}
 
 -- 16 temporaries and 4 locals
@@ -17,6 +22,7 @@ function_place = record {
     temporaries = 32;
     slots = 192;
     frame = 200;
+    registers = NO_REGISTERS;
   };
   counts = counts;
   reserved = λ a. true;
@@ -34,6 +40,7 @@ block_place = record {
     temporaries = 32;
     slots = 192;
     frame = 200;
+    registers = NO_REGISTERS;
   };
   counts = counts;
   reserved = λ a. true;
@@ -78,8 +85,30 @@ plain_memory = record {
 plain_agrees : Agrees (λ a. true) plain_memory plain_memory
 plain_agrees = record { byte = λ a r. refl; protection = λ a r. refl; guard = λ a g. refl }
 
-function_bare : FreshFrame function_place plain_memory plain_memory
+abbrev plain_registers : LocalRegisters
+plain_registers = record { rbx = 0; rsi = 0; rdi = 0; r12 = 0; r13 = 0; r14 = 0; r15 = 0 }
+
+plain_small : (r : Reg) → local_in plain_registers r < 2 ^ 64
+plain_small Rbx = omega arith
+plain_small Rsi = omega arith
+plain_small Rdi = omega arith
+plain_small R12 = omega arith
+plain_small R13 = omega arith
+plain_small R14 = omega arith
+plain_small R15 = omega arith
+plain_small Rax = omega arith
+plain_small Rcx = omega arith
+plain_small Rdx = omega arith
+plain_small Rsp = omega arith
+plain_small Rbp = omega arith
+plain_small R8 = omega arith
+plain_small R9 = omega arith
+plain_small R10 = omega arith
+plain_small R11 = omega arith
+
+function_bare : FreshFrame function_place plain_registers plain_memory plain_memory
 function_bare = record {
+  small = plain_small;
   bytes = λ a. (let z : 0 < 256 = omega arith in z);
   writable = λ a is. refl;
   own = λ a is. refl;
@@ -88,7 +117,7 @@ function_bare = record {
   agrees = plain_agrees;
 }
 
-function_holds : FrameHolds function_place plain_memory
-    (body_in_memory function_place.layout function_place.sp function_place.base plain_memory
-    plain_memory)
-function_holds = fresh_holds function_place plain_memory plain_memory function_bare
+function_holds : FrameHolds function_place plain_registers plain_memory
+    (body_in_memory function_place.layout function_place.sp function_place.base plain_registers
+    plain_memory plain_memory)
+function_holds = fresh_holds function_place plain_registers plain_memory plain_memory function_bare

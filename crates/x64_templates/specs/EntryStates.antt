@@ -5,8 +5,10 @@ use Rattle.linear_code.specs.declared.slot.Slot.{Slot}
 use Rattle.linear_code.specs.declared.slot.Slot.TheVariants.{Local, Temporary}
 use Rattle.linear_code.specs.BodyState.{BodyState, with_slot}
 use Rattle.template_code.specs.declared.layout.Layout.{Layout}
-use Rattle.x64_templates.specs.Straight.{MachineView}
-use Rattle.x64_templates.specs.Frames.{InTemporaries, InLocals, IsBytes, MemoryKeepsBase, KeepsReserved, Agrees, slot_at}
+use Rattle.x64_templates.specs.Straight.{LocalRegisters, MachineView}
+use Rattle.x64_templates.specs.Frames.{InTemporaries, InLocals, IsBytes, MemoryKeepsBase, KeepsReserved, Agrees, number_in}
+use Rattle.x64_instr.specs.declared.register.Reg.{Reg}
+use Rattle.x64_templates.specs.Locals.{local_in}
 use Rattle.template_code.specs.Calls.{stack_parameter}
 use Rattle.x64_templates.specs.Runs.{FramePlace}
 
@@ -47,13 +49,14 @@ pub record IsFunctionFrame (p : FramePlace) : Type 0 where
   pub locals : p.layout.locals + 8 * p.counts.locals ≤ p.layout.slots
   pub within : p.layout.slots ≤ p.layout.frame
 
--- the body whose slots hold what memory has at their places
-abbrev pub body_in_memory : Layout → ℕ → ℕ → Memory → Memory → BodyState
-body_in_memory y sp base m source =
-    record { slots = λ x. number_at m.byte 8 (slot_at y sp base x); memory = source }
+-- the body whose slots hold what registers and memory have at their places
+abbrev pub body_in_memory : Layout → (sp base : ℕ) → LocalRegisters → Memory → Memory → BodyState
+body_in_memory y sp base locals m source =
+    record { slots = number_in y sp base locals m; memory = source }
 
--- a frame's memory before its body begins
-pub record FreshFrame (p : FramePlace) (m source : Memory) : Type 0 where
+-- a frame's memory, and the registers of locals, before its body begins
+pub record FreshFrame (p : FramePlace) (locals : LocalRegisters) (m source : Memory) : Type 0 where
+  pub small : (r : Reg) → local_in locals r < 2 ^ 64
   pub bytes : IsBytes m
   pub writable : (a : ℕ) → InTemporaries p.layout p.counts p.sp a
       ⊎ InLocals p.layout p.counts p.base a → may_write m a ≡ true

@@ -7,9 +7,15 @@ use Rattle.linear_code.specs.declared.slot.Slot.TheVariants.{Local, Temporary}
 use Rattle.linear_code.specs.BodyState.{BodyState, Counts}
 use Rattle.linear_code.specs.Meaning.{IsSlot}
 use Rattle.template_code.specs.declared.layout.Layout.{Layout}
+use Rattle.x64_instr.specs.declared.register.Reg.{Reg}
+use Rattle.template_code.specs.declared.layout.Place.{Place}
+use Rattle.template_code.specs.declared.layout.Place.TheVariants.{InRegister, InFrame}
+use Rattle.template_code.specs.Places.{place_of}
 use Rattle.template_code.specs.Slots.{temporary_at, local_at}
+use Rattle.x64_templates.specs.Straight.{LocalRegisters}
+use Rattle.x64_templates.specs.Locals.{is_of_local, local_in}
 
--- where a slot is, by RSP and by the base of the activation's frame
+-- where a slot's word in the frame is, by RSP and by the base of the activation's frame
 abbrev pub slot_at : Layout → ℕ → ℕ → Slot → ℕ
 slot_at y sp base (Temporary i) = sp + temporary_at y i
 slot_at y sp base (Local i) = base + local_at y i
@@ -55,16 +61,32 @@ pub record Agrees (reserved : ℕ → Bool) (m source : Memory) : Type 0 where
   pub protection : (a : ℕ) → reserved a ≡ false → m.protection a ≡ source.protection a
   pub guard : (a : ℕ) → in_guard a ≡ true → reserved a ≡ true
 
--- the slots hold their numbers, in memory that may be written and that is reserved
-pub record HoldsBody (y : Layout) (n : Counts) (reserved : ℕ → Bool) (sp base : ℕ) (m : Memory)
-    (b : BodyState) : Type 0 where
-  pub slot : (x : Slot) → IsSlot n x → number_at m.byte 8 (slot_at y sp base x) ≡ b.slots x
+-- the number in a slot, by its place
+abbrev pub number_placed : Layout → (base : ℕ) → LocalRegisters → Memory → ℕ → Place → ℕ
+number_placed y base locals m i (InRegister r) = local_in locals r
+number_placed y base locals m i InFrame = number_at m.byte 8 (base + local_at y i)
+
+abbrev pub number_in : Layout → (sp base : ℕ) → LocalRegisters → Memory → Slot → ℕ
+number_in y sp base locals m (Temporary i) = number_at m.byte 8 (sp + temporary_at y i)
+number_in y sp base locals m (Local i) = number_placed y base locals m i (place_of y i)
+
+-- the slots hold their numbers; those of the frame are in memory that may be written and that is
+-- reserved
+pub record HoldsBody (y : Layout) (n : Counts) (reserved : ℕ → Bool) (sp base : ℕ)
+    (locals : LocalRegisters) (m : Memory) (b : BodyState) : Type 0 where
+  pub slot : (x : Slot) → IsSlot n x → number_in y sp base locals m x ≡ b.slots x
   pub small : (x : Slot) → IsSlot n x → b.slots x < 2 ^ 64
   pub kept_base : MemoryKeepsBase y.base sp base m
   pub writable : (a : ℕ) → InTemporaries y n sp a ⊎ InLocals y n base a → may_write m a ≡ true
   pub own : (a : ℕ) → InTemporaries y n sp a ⊎ InLocals y n base a → reserved a ≡ true
   pub own_base : KeepsReserved y.base sp reserved
   pub source : Agrees reserved m b.memory
+
+-- of the registers of locals, those that hold no local are as they were
+abbrev pub KeepsUnused : Layout → (old new : LocalRegisters) → Type 0
+KeepsUnused y old new =
+    (r : Reg) → is_of_local r ≡ true → ((i : ℕ) → place_of y i ≡ InRegister r → ⊥)
+    → local_in new r ≡ local_in old r
 
 -- each byte is a number of 8 bits
 abbrev pub IsBytes : Memory → Type 0

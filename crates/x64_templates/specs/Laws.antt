@@ -44,7 +44,7 @@ OperationsRun =
     (p : FramePlace) (to : Slot) (o : Operation) (first second : Slot) (v : MachineView) (rip : ℕ)
     (f : Flags) (b : BodyState)
     → Roomy p → IsThere p to → IsThere p first → IsThere p second → sp_of v ≡ p.sp
-    → FrameHolds p v.memory b
+    → FrameHolds p v.locals v.memory b
     → HasCode v.memory rip (compute_code p.layout to o first second)
     → Computed p to o first second v rip f b
     (step p.reserved (instructions.Compute to o first second) b)
@@ -55,7 +55,7 @@ abbrev pub BodiesRun : Type 0
 BodiesRun =
     (p : FramePlace) (k : Links) (start : ℕ) (body : List Instruction) (n : ℕ) → Roomy p
     → (number : ℕ) (v : MachineView) (f : Flags) (b : BodyState) (last : ℕ) (c : BodyState)
-    → IsLinked p k v.memory start body → sp_of v ≡ p.sp → FrameHolds p v.memory b
+    → IsLinked p k v.memory start body → sp_of v ≡ p.sp → FrameHolds p v.locals v.memory b
     → run p.reserved body n number b ≡ Some (last, c)
     → RunsAllTo p n (machine v (start + offset_of p.layout body number) f)
     (start + offset_of p.layout body last) v.rest v.locals c
@@ -69,7 +69,7 @@ BodiesFault =
     (v : MachineView)
     (f : Flags) (b : BodyState) (last : ℕ) (c : BodyState)
     (to first second : Slot) (o : Operation) (code : Code) (access : Option (Bool × ℕ))
-    → Roomy p → IsLinked p k v.memory start body → sp_of v ≡ p.sp → FrameHolds p v.memory b
+    → Roomy p → IsLinked p k v.memory start body → sp_of v ≡ p.sp → FrameHolds p v.locals v.memory b
     → run p.reserved body n number b ≡ Some (last, c) → last < length body
     → get_or body last instructions.Separator ≡ instructions.Compute to o first second
     → step p.reserved (instructions.Compute to o first second) c ≡ Faults code access
@@ -86,7 +86,8 @@ FaultsAreRetried =
     (to first second : Slot) (o : Operation) (x y : ℕ)
     → Roomy p → IsLinked p k v.memory start body → number < length body
     → get_or body number instructions.Separator ≡ instructions.Compute to o first second
-    → x < 2 ^ 64 → y < 2 ^ 64 → HasOperands o x y v → sp_of v ≡ p.sp → FrameHolds p v.memory b
+    → x < 2 ^ 64 → y < 2 ^ 64 → HasOperands o x y v → sp_of v ≡ p.sp
+    → FrameHolds p v.locals v.memory b
     → Retried p (start + offset_of p.layout body (suc number)) to o v
     (start + offset_of p.layout body number + sizes (operands_code p.layout o first second)) f b
     (performed p.reserved o x y b.memory)
@@ -98,7 +99,7 @@ FaultsAreRetried =
 abbrev pub CallsBegin : Type 0
 CallsBegin =
     (p : FramePlace) (first : ℕ) (v : MachineView) (rip to : ℕ) (f : Flags) (b : BodyState)
-    → Roomy p → first + 4 ≤ p.counts.temporaries → sp_of v ≡ p.sp → FrameHolds p v.memory b
+    → Roomy p → first + 4 ≤ p.counts.temporaries → sp_of v ≡ p.sp → FrameHolds p v.locals v.memory b
     → HasBelow v.memory p.sp 8
     → IsNear (return_at p.layout first rip) to
     → HasCode v.memory rip (begin_call p.layout first rip to)
@@ -119,7 +120,8 @@ ArgumentsAreKept =
     (p : FramePlace) (count : ℕ) (arguments : ℕ → ℕ) (v : MachineView) (rip : ℕ) (f : Flags)
     (b : BodyState)
     → Roomy p → IsFunctionFrame p → count ≤ p.counts.locals → sp_of v ≡ p.sp
-    → FrameHolds p v.memory b → InRegisters v arguments → OnStack p v.memory count arguments
+    → FrameHolds p v.locals v.memory b → InRegisters v arguments
+    → OnStack p v.memory count arguments
     → HasCode v.memory rip (parameters_code p.layout 0 count)
     → ReachesBody p (length (parameters_code p.layout 0 count)) (machine v rip f)
     (rip + sizes (parameters_code p.layout 0 count)) v.rest v.locals
@@ -140,7 +142,7 @@ abbrev pub BodiesReturn : Type 0
 BodiesReturn =
     (p : FramePlace) (from : Slot) (v : MachineView) (old : ℕ → ℕ) (back rip : ℕ) (f : Flags)
     (b : BodyState) → let plan = plan_of_layout p.layout 0 in
-    Roomy p → IsThere p from → sp_of v ≡ p.sp → FrameHolds p v.memory b
+    Roomy p → IsThere p from → sp_of v ≡ p.sp → FrameHolds p v.locals v.memory b
     → IsPlan plan → old 4 < 2 ^ 47 → ((r : ℕ) → old r < 2 ^ 64)
     → HoldsFrame plan.frame plan.distance v.memory old back (registers (machine v rip f))
     (operations_of plan) (operations_of plan)

@@ -11,6 +11,7 @@ use Rattle.linear_code.specs.BodyState.{BodyState, with_slot}
 use Rattle.x64_templates.specs.Straight.{MachineView, machine}
 use Rattle.template_code.specs.Slots.{finish_code}
 use Rattle.x64_templates.specs.Implements.{HasOperands}
+use Rattle.x64_templates.specs.Frames.{KeepsUnused}
 use Rattle.x64_templates.specs.Runs.{Reaches, FramePlace, FrameHolds, ChangesOwn, ReachesBody}
 
 -- n instructions of a body, and then one that faults: the run comes to the instruction of the
@@ -26,8 +27,8 @@ pub record FaultsAfter (p : FramePlace) (n : ℕ) (v : MachineView) (rip : ℕ) 
   pub comes : Reaches turns (machine v rip f) (machine stopped at left)
   pub waits : HasOperands o first second stopped
   pub rest : stopped.rest ≡ v.rest
-  pub locals : stopped.locals ≡ v.locals
-  pub holds : FrameHolds p stopped.memory b
+  pub locals : KeepsUnused p.layout v.locals stopped.locals
+  pub holds : FrameHolds p stopped.locals stopped.memory b
   pub changes : ChangesOwn p v.memory stopped.memory
   pub fault : machines.step (machine stopped at left) ≡ Err (stops.Fault code access)
 

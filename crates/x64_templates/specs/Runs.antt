@@ -19,7 +19,7 @@ use Rattle.linear_code.specs.Meaning.{InstructionEffect, Next, Faults, IsSlot}
 use Rattle.template_code.specs.declared.layout.Layout.{Layout}
 use Rattle.x64_templates.specs.Straight.{AreSmall, LocalRegisters, OtherRegisters, MachineView, machine, takes_frame}
 use Rattle.template_code.specs.Slots.{operands_code, finish_code, compute_code}
-use Rattle.x64_templates.specs.Frames.{SlotsHaveRoom, HoldsBody, Changes}
+use Rattle.x64_templates.specs.Frames.{SlotsHaveRoom, HoldsBody, KeepsUnused, Changes}
 use Rattle.x64_templates.specs.Implements.{HasOperands}
 
 -- an instruction of the image is run, which changes no protection and no byte that may not be
@@ -77,8 +77,8 @@ pub record FramePlace : Type 0 where
 abbrev pub Roomy : FramePlace → Type 0
 Roomy p = SlotsHaveRoom p.layout p.counts p.sp p.base
 
-abbrev pub FrameHolds : FramePlace → Memory → BodyState → Type 0
-FrameHolds p m b = HoldsBody p.layout p.counts p.reserved p.sp p.base m b
+abbrev pub FrameHolds : FramePlace → LocalRegisters → Memory → BodyState → Type 0
+FrameHolds p locals m b = HoldsBody p.layout p.counts p.reserved p.sp p.base locals m b
 
 abbrev pub ChangesOwn : FramePlace → Memory → Memory → Type 0
 ChangesOwn p old new = Changes p.layout p.counts p.reserved p.sp p.base old new
@@ -86,16 +86,17 @@ ChangesOwn p old new = Changes p.layout p.counts p.reserved p.sp p.base old new
 abbrev pub IsThere : FramePlace → Slot → Type 0
 IsThere p x = IsSlot p.counts x
 
--- the run comes to this address, with this body in the frame and all registers but RAX, RCX and RDX
--- as they were
+-- the run comes to this address, with this body in the frame and in the registers of its locals,
+-- and
+-- all other registers but RAX, RCX and RDX as they were
 pub record ReachesBody (p : FramePlace) (turns : ℕ) (s : State) (to : ℕ) (others : OtherRegisters)
     (same : LocalRegisters) (b : BodyState) : Type 0 where
   pub after : MachineView
   pub flags : Flags
   pub comes : Reaches turns s (machine after to flags)
   pub rest : after.rest ≡ others
-  pub locals : after.locals ≡ same
-  pub holds : FrameHolds p after.memory b
+  pub locals : KeepsUnused p.layout same after.locals
+  pub holds : FrameHolds p after.locals after.memory b
   pub changes : ChangesOwn p s.memory after.memory
 
 -- the run comes to an instruction that faults, with both operands in their registers and nothing in

@@ -1,6 +1,6 @@
-use Rattle.std.proofs.Common.{refl, ap, ◌∙◌}
+use Rattle.std.proofs.Common.{refl, sym, ap, ◌∙◌}
 use Rattle.x64_emit.specs.Words.{Slot, sizes, fetch, keep}
-use Rattle.x64_emit.proofs.TemplateSizes.{temporary_fetched, temporary_kept, local_fetched, local_kept}
+use Rattle.x64_emit.proofs.TemplateSizes.{temporary_fetched, temporary_kept, local_fetched, local_kept, register_fetched, register_kept}
 use Rattle.x64_emit.proofs.sizes.slot_size.Goals as goal
 
 pub returns-in-Temporary-clause-fetched : goal.returns-in-Temporary-clause-fetched
@@ -18,11 +18,22 @@ returns-in-Temporary-clause-kept c =
 pub returns-in-None-clause-fetched : goal.returns-in-None-clause-fetched
 returns-in-None-clause-fetched c = λ to.
     ap (λ (x : Slot). sizes (fetch c.args.layout.now to x)) (c.in-Local.is)
-    ∙ local_fetched c.args.layout.now c.in-Local.i c.word_size-in-None.result _ refl
-    c.in-None.is c.word_size-in-None.ensures.value to
+    ∙ local_fetched c.args.layout.now c.in-Local.i c.word_size-in-None.result _
+    (sym c.place.ensures ∙ c.in-InFrame.is) refl c.in-None.is c.word_size-in-None.ensures.value to
 
 pub returns-in-None-clause-kept : goal.returns-in-None-clause-kept
 returns-in-None-clause-kept c =
     ap (λ (x : Slot). sizes (keep c.args.layout.now x)) (c.in-Local.is)
-    ∙ local_kept c.args.layout.now c.in-Local.i c.word_size-in-None.result _ refl c.in-None.is
+    ∙ local_kept c.args.layout.now c.in-Local.i c.word_size-in-None.result _
+    (sym c.place.ensures ∙ c.in-InFrame.is) refl c.in-None.is
     c.word_size-in-None.ensures.value
+
+pub returns-in-InRegister-clause-fetched : goal.returns-in-InRegister-clause-fetched
+returns-in-InRegister-clause-fetched c = λ to.
+    ap (λ (x : Slot). sizes (fetch c.args.layout.now to x)) (c.in-Local.is)
+    ∙ register_fetched c.args.layout.now c.in-Local.i _ (sym c.place.ensures ∙ c.in-InRegister.is) to
+
+pub returns-in-InRegister-clause-kept : goal.returns-in-InRegister-clause-kept
+returns-in-InRegister-clause-kept c =
+    ap (λ (x : Slot). sizes (keep c.args.layout.now x)) (c.in-Local.is)
+    ∙ register_kept c.args.layout.now c.in-Local.i _ (sym c.place.ensures ∙ c.in-InRegister.is)
