@@ -29,8 +29,8 @@ temporary_at y i = y.temporaries + 8 * i
 abbrev pub local_at : Layout → ℕ → ℕ
 local_at y i = y.locals + 8 * i
 
--- a function's locals in the frame are above its RSP; those of a filter or a `__finally` block above
--- the base that it keeps
+-- a function's locals in the frame are above its RSP; those of a filter or a `__finally` block
+-- above the base that it keeps
 abbrev pub fetch_local : Option ℕ → Reg → ℕ → List Instr
 fetch_local None to d = fetched to Rsp d ∷ []
 fetch_local (Some b) to d = fetched to Rsp b ∷ fetched to to d ∷ []

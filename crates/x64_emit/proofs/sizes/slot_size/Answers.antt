@@ -31,7 +31,8 @@ returns-in-None-clause-kept c =
 pub returns-in-InRegister-clause-fetched : goal.returns-in-InRegister-clause-fetched
 returns-in-InRegister-clause-fetched c = λ to.
     ap (λ (x : Slot). sizes (fetch c.args.layout.now to x)) (c.in-Local.is)
-    ∙ register_fetched c.args.layout.now c.in-Local.i _ (sym c.place.ensures ∙ c.in-InRegister.is) to
+    ∙ register_fetched c.args.layout.now c.in-Local.i _
+    (sym c.place.ensures ∙ c.in-InRegister.is) to
 
 pub returns-in-InRegister-clause-kept : goal.returns-in-InRegister-clause-kept
 returns-in-InRegister-clause-kept c =
