@@ -11,12 +11,13 @@ ghost use Rattle.frame_layout.specs.Layout.{IsFrame};
 ghost use Rattle.frame_layout.specs.declared.frame.FrameLayout as frames;
 ghost use Rattle.frame_layout.specs.Plans as spec;
 
-use crate::frame::{FRAME_DISTANCE, FRAME_REGISTER, FrameLayout};
+use crate::frame::FrameLayout;
 use crate::operations::{FIRST_SAVED, operations, pushed_register};
 use arrayvec::ArrayVec;
 use eh_tables::UnwindOperation;
 use host_layout::range::PAGE;
 use seh_num::width::Width;
+use template_code::layout::{FRAME_DISTANCE, FRAME_REGISTER};
 use x64_instr::instruction::{Instr, Operation, Target};
 use x64_instr::operand::{Base, MemRef, Operand, RegisterOrMemory};
 use x64_instr::register::Reg;

@@ -58,6 +58,10 @@ local_fetched y i n b is none h to =
       temporaries = y.temporaries;
       slots = y.slots;
       frame = y.frame;
+      size = y.size;
+      pushes = y.pushes;
+      saves = y.saves;
+      framed = y.framed;
     }) to (Local i))) (is ∙ none) ∙ (let e = h 0x8B to in omega arith)
 
 pub local_kept : (y : Layout) (i n : ℕ) (b : Option ℕ) → y.base ≡ b → b ≡ None
@@ -71,6 +75,10 @@ local_kept y i n b is none h =
       temporaries = y.temporaries;
       slots = y.slots;
       frame = y.frame;
+      size = y.size;
+      pushes = y.pushes;
+      saves = y.saves;
+      framed = y.framed;
     }) (Local i))) (is ∙ none) ∙ (let e = h 0x89 Rax in omega arith)
 
 -- ---- operations
