@@ -182,6 +182,10 @@ no_routine = record {
     temporaries = 0;
     slots = 0;
     frame = 0;
+    size = 0;
+    pushes = 0;
+    saves = 0;
+    framed = false;
   };
   body = record { locals = 0; temporaries = 0; passed = 0; code = []; regions = [] };
 }

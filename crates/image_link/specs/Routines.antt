@@ -39,7 +39,7 @@ is_leaf b =
 
 -- ---- functions
 
--- no local stands in a register, and none has a frame register
+-- no local stands in a register
 abbrev pub function_facts : LinearBody → Facts
 function_facts b =
     record {
@@ -48,7 +48,7 @@ function_facts b =
       temporaries = b.temporaries;
       locals = b.locals;
       registers = 0;
-      frame_register = false;
+      frame_register = true;
     }
 
 abbrev pub function_frame : LinearBody → FrameLayout
@@ -64,6 +64,10 @@ leaf_layout b =
       temporaries = 8 + 8 * b.locals;
       slots = 0;
       frame = 0;
+      size = 0;
+      pushes = 0;
+      saves = 0;
+      framed = false;
     }
 
 abbrev pub function_layout : FrameLayout → Layout
@@ -75,6 +79,10 @@ function_layout f =
       temporaries = f.temporaries;
       slots = f.slots;
       frame = f.depth;
+      size = f.size;
+      pushes = f.pushes;
+      saves = f.saves;
+      framed = f.framed;
     }
 
 abbrev pub leaf : LinearFunction → RoutineView
@@ -164,6 +172,10 @@ funclet_layout function own =
       temporaries = own.temporaries;
       slots = own.slots;
       frame = own.depth;
+      size = own.size;
+      pushes = own.pushes;
+      saves = own.saves;
+      framed = own.framed;
     }
 
 abbrev pub funclet : LinearProgram → LinearFunclet → RoutineView

@@ -124,6 +124,10 @@ fn leaf<'a>(function: &'a IrFunction) -> Routine<'a>
             temporaries: 8 + 8 * function.body.locals,
             slots: 0,
             frame: 0,
+            size: 0,
+            pushes: 0,
+            saves: 0,
+            framed: false,
         },
         body: &function.body,
     }
@@ -139,7 +143,7 @@ fn function_frame(body: &IrBody) -> FrameLayout
         temporaries: body.temporaries,
         locals: body.locals,
         registers: 0,
-        frame_register: false,
+        frame_register: true,
     })
 }
 
@@ -160,6 +164,10 @@ fn framed<'a>(function: &'a IrFunction) -> Routine<'a>
             temporaries: frame.temporaries,
             slots: frame.slots,
             frame: frame.depth,
+            size: frame.size,
+            pushes: frame.pushes,
+            saves: frame.saves,
+            framed: frame.framed,
         },
         body: &function.body,
     }
@@ -230,6 +238,10 @@ fn funclet_routine<'a>(program: &IrProgram, funclet: &'a IrFunclet) -> Routine<'
             temporaries: own.temporaries,
             slots: own.slots,
             frame: own.depth,
+            size: own.size,
+            pushes: own.pushes,
+            saves: own.saves,
+            framed: own.framed,
         },
         body: &funclet.body,
     }
