@@ -86,7 +86,7 @@ fn pushed_count(registers: u64) -> u64
 }
 
 /// How many words the frame register takes that is pushed.
-fn frame_pushes(framed: bool) -> u64
+pub(crate) fn frame_pushes(framed: bool) -> u64
     ensures { result ≡ spec.frame_pushes framed }
 {
     if framed { 1 } else { 0 }

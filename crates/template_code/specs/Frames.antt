@@ -1,8 +1,9 @@
 -- The frame of a body, as a frame of the rules (Microsoft x64 ABI, "Prolog and epilog").
-use Rattle.std.specs.Prelude.{ℕ, zero, suc, ◌+◌, ◌*◌, ◌==◌, Bool, true, false, if◌then◌else◌, List, [], ◌∷◌}
+use Rattle.std.specs.Prelude.{ℕ, zero, suc, ◌+◌, ◌*◌, ◌==◌, Bool, true, false, if◌then◌else◌, List, [], ◌∷◌, length}
 use Rattle.frame_rules.specs.Plan.{FramePlan, Saved}
 use Rattle.template_code.specs.declared.layout.Layout.{Layout}
 use Rattle.template_code.specs.declared.layout.TheConstants.{FRAME_REGISTER, FRAME_DISTANCE}
+use Rattle.template_code.specs.Jumps.{distance}
 
 -- after so many others: RBX, RSI and RDI
 abbrev pub pushed_register : ℕ → ℕ
@@ -51,3 +52,14 @@ frame_plan size probe =
 -- the frame of a layout
 abbrev pub plan_of_layout : Layout → ℕ → FramePlan
 plan_of_layout y probe = saving_plan y.pushes y.saves y.framed y.size y.slots probe
+
+-- ---- `__chkstk`
+
+-- how far after a frame's first byte its call ends: a push is one byte, and the move of the size
+-- and the call are five each
+abbrev pub probe_end : FramePlan → ℕ
+probe_end f = length f.pushes + 10
+
+-- a plan whose call goes to an address, in code that begins at another
+abbrev pub probing : (ℕ → FramePlan) → (at check : ℕ) → FramePlan
+probing plan at check = plan (distance (at + probe_end (plan 0)) check)
