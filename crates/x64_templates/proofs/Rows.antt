@@ -1,5 +1,5 @@
 -- Worked templates, computed down to bytes.
-use Rattle.std.proofs.Common.{◌≡◌, List, [], ◌∷◌, length, None, Some, refl}
+use Rattle.std.proofs.Common.{false, ◌≡◌, List, [], ◌∷◌, length, None, Some, refl}
 use Rattle.x64_templates.specs.Words.{modrm, spelled, Int, Signed, Local, Temporary, Instruction, Layout, size, compute_code, jump_code, template_size, offset_of}
 use Rattle.c_operations.specs.declared.operation.Pure.TheVariants as pures
 use Rattle.c_operations.specs.declared.operation.Operation.TheVariants as operations
@@ -15,6 +15,10 @@ function_layout = record {
   temporaries = 128;
   slots = 312;
   frame = 312;
+  size = 312;
+  pushes = 0;
+  saves = 0;
+  framed = false;
 }
 
 block_layout : Layout
@@ -25,6 +29,10 @@ block_layout = record {
   temporaries = 128;
   slots = 152;
   frame = 152;
+  size = 152;
+  pushes = 0;
+  saves = 0;
+  framed = false;
 }
 
 -- mov rax,[rsp+256] ; mov rcx,[rsp+128] ; add eax,ecx ; mov [rsp+264],rax

@@ -17,6 +17,10 @@ function_place = record {
     temporaries = 32;
     slots = 192;
     frame = 200;
+    size = 200;
+    pushes = 0;
+    saves = 0;
+    framed = false;
   };
   counts = counts;
   reserved = λ a. true;
@@ -34,6 +38,10 @@ block_place = record {
     temporaries = 32;
     slots = 192;
     frame = 200;
+    size = 200;
+    pushes = 0;
+    saves = 0;
+    framed = false;
   };
   counts = counts;
   reserved = λ a. true;
