@@ -8,6 +8,7 @@ use Rattle.eh_tables.specs.declared.code.UnwindOperation.TheVariants.{Allocate, 
 use Rattle.frame_rules.specs.Codes.{pushed, depth, allocation, may_save, are_apart, is_allowed, are_allowed}
 use Rattle.frame_rules.specs.Plan.{IsPlan, Saved, saves_then, frame_then, allocation_then, operations_of}
 use Rattle.frame_rules.proofs.Sizes.{frame_has_its_size}
+use Rattle.template_code.specs.Frames.{probe_end}
 use Rattle.frame_layout.specs.Layout.{frame_pushes, IsFrame}
 use Rattle.frame_layout.specs.Plans.{pushes_of, saves_of, frame_register_if, frame_distance_if, plan_of}
 use Rattle.frame_layout.specs.declared.frame.FrameLayout.{FrameLayout}
@@ -125,10 +126,19 @@ frames_are_planned f probe h near =
           ∙ saving_allowed f.pushes f.framed f.size f.slots h.pushes f.saves h.saves h.saved;
     }
 
-pushes_length : (k : ℕ) (framed : Bool) → k ≤ 3
+-- so many pushes, and that of RBP
+pub pushes_length : (k : ℕ) (framed : Bool) → k ≤ 3
     → length (pushes_of k framed) ≡ k + frame_pushes framed
 pushes_length = by_pushes (λ k framed. length (pushes_of k framed) ≡ k + frame_pushes framed)
     refl refl refl refl refl refl refl refl
+
+-- so few bytes after the first one the call of `__chkstk` ends
+pub probe_end_few : (f : FrameLayout) → f.pushes ≤ 3 → probe_end (plan_of f 0) ≤ 14
+probe_end_few f le =
+    let few = by_pushes (λ k framed. length (pushes_of k framed) ≤ 4) (omega arith) (omega arith)
+    (omega arith) (omega arith) (omega arith) (omega arith) (omega arith) (omega arith)
+    f.pushes f.framed le in
+    omega arith
 
 -- the return address is as far above RSP as it says
 pub depth_is : (f : FrameLayout) (probe : ℕ) → IsFrame f

@@ -6,22 +6,26 @@ use Rattle.std.proofs.lemmas.Bool.{lt-leb, lt-ltb, le-ltb, le-leb, ne_eqb}
 use Rattle.std.proofs.lemmas.Grind.{flat_map-append}
 use Rattle.seh_num.specs.Widths.{low}
 use Rattle.seh_num.specs.declared.width.Width.TheVariants.{W8, W32, W64}
+use Rattle.x64_instr.specs.declared.instruction.Operation.TheVariants.{Add}
 use Rattle.x64_instr.specs.declared.instruction.Instr.{Instr}
 use Rattle.x64_instr.specs.declared.instruction.Instr.TheVariants as instrs
+use Rattle.x64_instr.specs.declared.register.Reg.TheVariants.{Rsp}
 use Rattle.x64_instr.specs.declared.operand.RegisterOrMemory.TheVariants as places
+use Rattle.x64_instr.specs.declared.operand.Operand.TheVariants as operands
 use Rattle.x64_instr.specs.Registers.{register, number}
 use Rattle.x64_encode.specs.declared.writing.Opcode.TheVariants as opcodes
 use Rattle.x64_encode.specs.Chosen.{chosen, is_signed, little, prefixes, displacement, opcode_bytes, place_bytes, modrm_bits, modrm, opcode_register}
 use Rattle.eh_tables.specs.declared.code.UnwindOperation.{UnwindOperation}
 use Rattle.eh_tables.specs.declared.code.UnwindOperation.TheVariants.{Push, Allocate, SetFrame, Save, SaveVector, MachineFrame}
 use Rattle.frame_rules.specs.Prologue.{bytes}
-use Rattle.frame_rules.specs.Plan.{allocating, instructions_of, spelled_by, stack_place, turned, operations_of}
+use Rattle.frame_rules.specs.Plan.{allocating, instructions_of, spelled_by, stack_place, turned, operations_of, loads_then, pops_then, opening_by, epilogue}
 use Rattle.frame_rules.specs.Bytes.{spell, prologue_code}
 use Rattle.frame_layout.specs.declared.frame.FrameLayout.{FrameLayout}
-use Rattle.frame_layout.specs.Plans.{plan_of}
+use Rattle.frame_layout.specs.Layout.{IsFrame}
+use Rattle.frame_layout.specs.Plans.{pushes_of, saves_of, plan_of}
 use Rattle.frame_layout.specs.Infos.{prologue_bytes}
 use Rattle.frame_layout.proofs.Counts.{by_pushes}
-use Rattle.frame_layout.proofs.Steps.{pushing, setting, saving, after, saving_next, executed, HasRegisters, IsShort, operations_executed, executed_short}
+use Rattle.frame_layout.proofs.Steps.{pushing, setting, saving, after, saving_next, executed, HasRegisters, IsShort, operations_executed, executed_short, epilogue_is}
 
 -- ---- instructions one after another
 
@@ -300,3 +304,71 @@ offset_few f xs at i d h are lt left =
     let b = ap (taken f 0) (drop-cons xs i d lt) in
     let c = taken_first f 0 (get_or xs i d) (drop (suc i) xs) in
     omega arith
+
+-- ---- the epilogue
+
+pop_one : (r : ℕ) → r < 8 → length (chosen (instrs.Pop (register r))) ≡ 1
+unfolding opcode_register
+pop_one zero lt = refl
+pop_one (suc zero) lt = refl
+pop_one (suc (suc zero)) lt = refl
+pop_one (suc (suc (suc zero))) lt = refl
+pop_one (suc (suc (suc (suc zero)))) lt = refl
+pop_one (suc (suc (suc (suc (suc zero))))) lt = refl
+pop_one (suc (suc (suc (suc (suc (suc zero)))))) lt = refl
+pop_one (suc (suc (suc (suc (suc (suc (suc zero))))))) lt = refl
+pop_one (suc (suc (suc (suc (suc (suc (suc (suc r)))))))) lt = absurd (omega arith)
+
+pops_few : (k : ℕ) (framed : Bool) → k ≤ 3 → run (pops_then (pushes_of k framed) []) ≤ 4
+pops_few =
+    let a = pop_one 3 (omega arith) in
+    let b = pop_one 5 (omega arith) in
+    let c = pop_one 6 (omega arith) in
+    let d = pop_one 7 (omega arith) in
+    by_pushes (λ k framed. run (pops_then (pushes_of k framed) []) ≤ 4)
+    (omega arith) (omega arith) (omega arith) (omega arith) (omega arith) (omega arith)
+    (omega arith) (omega arith)
+
+loads_few : (at n : ℕ) → run (loads_then (saves_of at n) []) ≤ 8 * n
+loads_few at zero = omega arith
+loads_few at (suc n) =
+    let e = word_length 0x8B (number (register (12 + n))) (at + 8 * n) in
+    let d = displacement_few (at + 8 * n) in
+    let r = loads_few at n in
+    omega arith
+
+raising_few : (n : ℕ) (short : Bool) → is_signed W8 W64 n ≡ short
+    → run (instrs.Arithmetic Add W64 (places.Register Rsp) (operands.Immediate n) ∷ []) ≤ 7
+unfolding modrm
+raising_few n true e = let s : run (instrs.Arithmetic Add W64 (places.Register Rsp)
+    (operands.Immediate n) ∷ []) ≡ 4 = rw e refl in omega arith
+raising_few n false e = let s : run (instrs.Arithmetic Add W64 (places.Register Rsp)
+    (operands.Immediate n) ∷ []) ≡ 7 = rw e refl in omega arith
+
+opening_few : (f : FrameLayout) (probe : ℕ)
+    → run (opening_by (plan_of f probe) (not f.framed) ∷ []) ≤ 7
+unfolding modrm
+opening_few f probe = by f.framed
+  where
+    by : (b : Bool) → run (opening_by (plan_of (record f { framed = b }) probe) (not b) ∷ []) ≤ 7
+    by true = let d = displacement_few ((f.size + (2 ^ 64 - 128)) % 2 ^ 64) in omega arith
+    by false = raising_few f.size (is_signed W8 W64 f.size) refl
+
+-- 44 at most
+pub epilogue_few : (f : FrameLayout) (probe : ℕ) → IsFrame f
+    → run (epilogue (plan_of f probe)) ≤ 44
+epilogue_few f probe h =
+    let loads = loads_then (saves_of f.slots f.saves) [] in
+    let opens = opening_by (plan_of f probe) (not f.framed) ∷ [] in
+    let pops = pops_then (pushes_of f.pushes f.framed) [] in
+    let a = loads_few f.slots f.saves in
+    let b = opening_few f probe in
+    let c = pops_few f.pushes f.framed h.pushes in
+    let four = h.saves in
+    let e = ap run (epilogue_is f probe h.some) in
+    omega (
+      arith,
+      run_both ((loads ++ opens) ++ pops) (instrs.Return ∷ []),
+      run_both (loads ++ opens) pops,
+      run_both loads opens,
+    )

@@ -21,12 +21,6 @@ const MOST_PUSHED: u64 = 3;
 /// The least fixed allocation of a frame with a frame register, in bytes (own).
 pub const LEAST_FRAMED: u64 = 256;
 
-/// The frame register, RBP.
-pub const FRAME_REGISTER: u8 = 5;
-
-/// How far the frame register is above RSP, in bytes (own).
-pub const FRAME_DISTANCE: u64 = 128;
-
 /// What a routine needs of its frame, in words of eight bytes.
 #[derive(Clone, Copy, Debug, PartialEq, Eq)]
 pub struct Facts {
@@ -92,7 +86,7 @@ fn pushed_count(registers: u64) -> u64
 }
 
 /// How many words the frame register takes that is pushed.
-fn frame_pushes(framed: bool) -> u64
+pub(crate) fn frame_pushes(framed: bool) -> u64
     ensures { result ≡ spec.frame_pushes framed }
 {
     if framed { 1 } else { 0 }

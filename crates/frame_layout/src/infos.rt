@@ -10,11 +10,12 @@ ghost use Rattle.frame_layout.specs.declared.frame.FrameLayout as frames;
 ghost use Rattle.frame_layout.specs.Plans as spec;
 ghost use Rattle.frame_layout.specs.Infos.{info_of, Describes};
 
-use crate::frame::{FRAME_DISTANCE, FRAME_REGISTER, FrameLayout};
+use crate::frame::FrameLayout;
 use crate::instructions::PROBE_FREE;
 use crate::operations::operations;
 use arrayvec::ArrayVec;
 use eh_tables::{Trailer, UnwindCode, UnwindInfo, UnwindOperation};
+use template_code::layout::{FRAME_DISTANCE, FRAME_REGISTER};
 
 /// The bytes of what takes a fixed allocation: SUB with an immediate of 8 or 32 bits, or MOV, CALL
 /// and SUB.

@@ -7,22 +7,27 @@ ghost use Rattle.x64_instr.specs.Registers as registers;
 ghost use Rattle.x64_encode.specs.Chosen.{is_signed, IsEncodable};
 ghost use Rattle.frame_rules.specs.Plan as rules;
 ghost use Rattle.frame_rules.specs.Bytes.{prologue_code};
+ghost use Rattle.template_code.specs.Frames.{probe_end};
 ghost use Rattle.frame_layout.specs.Layout.{IsFrame};
 ghost use Rattle.frame_layout.specs.declared.frame.FrameLayout as frames;
 ghost use Rattle.frame_layout.specs.Plans as spec;
 
-use crate::frame::{FRAME_DISTANCE, FRAME_REGISTER, FrameLayout};
+use crate::frame::{FrameLayout, frame_pushes};
 use crate::operations::{FIRST_SAVED, operations, pushed_register};
 use arrayvec::ArrayVec;
 use eh_tables::UnwindOperation;
 use host_layout::range::PAGE;
 use seh_num::width::Width;
+use template_code::layout::{FRAME_DISTANCE, FRAME_REGISTER};
 use x64_instr::instruction::{Instr, Operation, Target};
 use x64_instr::operand::{Base, MemRef, Operand, RegisterOrMemory};
 use x64_instr::register::Reg;
 
 /// The largest allocation that needs no probe of its pages: one page.
 pub const PROBE_FREE: u64 = PAGE;
+
+/// The bytes of a move of a number to EAX and of a call.
+const PROBE_SIZE: u64 = 10;
 
 /// The place so far above RSP.
 fn stack_place(distance: u64) -> MemRef
@@ -101,6 +106,16 @@ fn put_step(instrs: &mut ArrayVec<Instr, 16>, operation: UnwindOperation, framed
         }
         UnwindOperation::SaveVector { .. } | UnwindOperation::MachineFrame { .. } => {}
     }
+}
+
+/// How many bytes after a frame's first one the call of `__chkstk` ends, where there is one: after
+/// the pushes, of a byte each.
+pub fn probe_end(frame: &FrameLayout) -> u64
+    requires { IsFrame frame.now }
+    ensures value { result ≡ probe_end (spec.plan_of frame.now 0) }
+    ensures few { result ≤ 14 }
+{
+    frame.pushes + frame_pushes(frame.framed) + PROBE_SIZE
 }
 
 /// The prologue of a frame.

@@ -16,4 +16,4 @@ mod operations;
 
 pub use frame::{Facts, FrameLayout, plan};
 pub use infos::unwind_of;
-pub use instructions::{epilogue, prologue};
+pub use instructions::{epilogue, probe_end, prologue};

@@ -8,9 +8,10 @@ ghost use Rattle.frame_rules.specs.Plan as rules;
 ghost use Rattle.frame_layout.specs.Layout.{IsFrame};
 ghost use Rattle.frame_layout.specs.Plans as spec;
 
-use crate::frame::{FRAME_REGISTER, FrameLayout};
+use crate::frame::FrameLayout;
 use arrayvec::ArrayVec;
 use eh_tables::UnwindOperation;
+use template_code::layout::FRAME_REGISTER;
 
 /// The number of R12, the first register that is saved by MOV.
 pub const FIRST_SAVED: u8 = 12;

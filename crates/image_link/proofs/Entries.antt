@@ -12,7 +12,7 @@ use Rattle.frame_layout.proofs.Steps.{frame_registers}
 use Rattle.frame_layout.proofs.Sizes.{run, prologue_taken, prologue_few}
 use Rattle.template_code.specs.Operations.{move}
 use Rattle.template_code.specs.Slots.{fetched, keep, local_at}
-use Rattle.template_code.specs.Jumps.{distance}
+use Rattle.template_code.specs.Frames.{probing}
 use Rattle.template_code.specs.declared.layout.Place.{Place}
 use Rattle.template_code.specs.declared.layout.Place.TheVariants.{InRegister, InFrame}
 use Rattle.template_code.specs.Places.{place_of}
@@ -40,14 +40,14 @@ prologue_sizes f probe = sym (run_sizes (prologue_code (plan_of f probe)))
 frame_sizes : (at check : ℕ) (o : Option FrameLayout)
     → sizes (frame_code at check o) ≡ sizes (frame_code 0 0 o)
 frame_sizes at check None = refl
-frame_sizes at check (Some f) = prologue_sizes f (distance (at + 10) check)
-    ∙ sym (prologue_sizes f (distance 10 0))
+frame_sizes at check (Some f) = prologue_sizes f (probing (plan_of f) at check).probe
+    ∙ sym (prologue_sizes f (probing (plan_of f) 0 0).probe)
 
 frame_small : (at check : ℕ) (o : Option FrameLayout) → IsFrameNear o
     → sizes (frame_code at check o) ≤ 57
 frame_small at check None near = omega arith
 frame_small at check (Some f) near =
-    let p = prologue_sizes f (distance (at + 10) check) in
+    let p = prologue_sizes f (probing (plan_of f) at check).probe in
     let few = (prologue_few f (frame_registers f near.0)).1 in
     omega arith
 
@@ -181,7 +181,7 @@ pub framed_some : (f : LinearFunction) → FitsFrame (function_facts f.body)
 unfolding entry_size
 framed_some f fits =
     let frame = function_frame f.body in
-    let p = prologue_sizes frame (distance 10 0) in
+    let p = prologue_sizes frame (probing (plan_of frame) 0 0).probe in
     let some = (prologue_few frame (registers_few (function_facts f.body) fits.registers)).0 in
     omega (
       arith,

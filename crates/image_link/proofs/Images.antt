@@ -184,6 +184,10 @@ no_routine = record {
     slots = 0;
     frame = 0;
     registers = NO_REGISTERS;
+    size = 0;
+    pushes = 0;
+    saves = 0;
+    framed = false;
   };
   body = record { locals = 0; temporaries = 0; passed = 0; code = []; regions = [] };
 }

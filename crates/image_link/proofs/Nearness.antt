@@ -1,7 +1,7 @@
 -- Each routine of a program that fits is near, and all of them have room.
 use Rattle.template_code.specs.declared.layout.Place.TheVariants.{InFrame}
 use Rattle.template_code.specs.Places.{place_of}
-use Rattle.std.proofs.Common.{◌≡◌, ℕ, suc, ◌+◌, ◌<◌, ◌≤◌, ◌==◌, Bool, true, false, not, List, [], ◌∷◌, ◌++◌, length, map, Option, Some, None, refl, ap, arith}
+use Rattle.std.proofs.Common.{◌≡◌, ℕ, suc, ◌+◌, ◌<◌, ◌≤◌, ◌==◌, Bool, true, false, not, List, [], ◌∷◌, ◌++◌, length, map, Option, Some, None, refl, sym, ap, subst, arith}
 use Rattle.std.specs.Prelude.{◌&&◌}
 use Rattle.std.specs.List.{AllByRecursion}
 use Rattle.linear_code.specs.declared.slot.Slot.{Slot}
@@ -9,6 +9,10 @@ use Rattle.image_link.specs.Words.{Local, Temporary, Instruction, LinearBody, Li
 use Rattle.linear_code.specs.declared.instruction.Instruction.TheVariants as instructions
 use Rattle.linear_code.specs.declared.program.FuncletKind.{FuncletKind}
 use Rattle.linear_code.specs.declared.program.FuncletKind.TheVariants.{Filter, Finally}
+use Rattle.frame_layout.specs.declared.frame.FrameLayout.{FrameLayout}
+use Rattle.frame_layout.specs.Layout.{IsFrame}
+use Rattle.x64_emit.specs.Near.{IsFrameIf, IsFrameNear, frame_of_layout}
+use Rattle.std.proofs.lemmas.Bool.{ne_eqb}
 use Rattle.frame_layout.proofs.Frames.{parts, small}
 use Rattle.image_link.proofs.Lemmas.{all_at}
 use Rattle.image_link.specs.Text as texts
@@ -20,7 +24,7 @@ record IsLow (y : Layout) : Type 0 where
   pointers : y.pointers ≤ 16384
   locals : y.locals ≤ 16384
   temporaries : y.temporaries ≤ 16384
-  frame : y.frame ≤ 16384
+  ending : IsFrameNear y
 
 -- ---- frames
 
@@ -33,6 +37,31 @@ pub funclet_facts_fit : (b : LinearBody) → FitsBody b → FitsFrame (funclet_f
 funclet_facts_fit b fits =
     let w = fits.words in
     record { registers = omega arith; words = omega arith }
+
+-- the epilogue of a frame is in its layout
+ending_near : (y : Layout) (h : IsFrame (frame_of_layout y)) → IsFrameNear y
+ending_near y h = subst (IsFrameIf y) (sym (ne_eqb y.size 0
+    (λ z. (let e : y.size ≡ 0 = z in let some = h.some in absurd (omega arith))))) h
+
+function_ending : (f : FrameLayout) → IsFrame f → IsFrameNear (function_layout f)
+function_ending f h = ending_near (function_layout f) (record {
+  pushes = h.pushes;
+  saves = h.saves;
+  some = h.some;
+  saved = h.saved;
+  depth = h.depth;
+  small = h.small;
+})
+
+funclet_ending : (function f : FrameLayout) → IsFrame f → IsFrameNear (funclet_layout function f)
+funclet_ending function f h = ending_near (funclet_layout function f) (record {
+  pushes = h.pushes;
+  saves = h.saves;
+  some = h.some;
+  saved = h.saved;
+  depth = h.depth;
+  small = h.small;
+})
 
 -- ---- instructions
 
@@ -68,7 +97,7 @@ instruction_near y b (instructions.CallFinally f) low fits h = tt
 instruction_near y b (instructions.LocalUnwind label) low fits h = tt
 instruction_near y b instructions.Separator low fits h = tt
 instruction_near y b (instructions.Return from) low fits
-    h = (slot_near y b from low fits h, (let f = low.frame in omega arith))
+    h = (slot_near y b from low fits h, low.ending)
 
 code_near : (y : Layout) (b : LinearBody) (is : List Instruction) → IsLow y → FitsBody b
     → AllByRecursion (FitsInstruction b) is → AllByRecursion (IsInstructionNear y) is
@@ -89,7 +118,7 @@ leaf_near f fits =
       pointers = omega arith;
       locals = omega arith;
       temporaries = omega arith;
-      frame = omega arith;
+      ending = (refl, refl, refl);
     } in
     record {
       frame = tt;
@@ -110,7 +139,7 @@ framed_near f fits =
       pointers = omega arith;
       locals = omega arith;
       temporaries = omega arith;
-      frame = omega arith;
+      ending = function_ending (function_frame f.body) (parts (function_facts f.body) facts);
     } in
     record {
       frame = (parts (function_facts f.body) facts, all);
@@ -162,7 +191,8 @@ funclet_low p f fits h =
       pointers = omega arith;
       locals = omega arith;
       temporaries = omega arith;
-      frame = omega arith;
+      ending = funclet_ending (function_frame (body_of_function p f.function))
+          (funclet_frame f.body) (parts (funclet_facts f.body) (funclet_facts_fit f.body h.body));
     }
 
 entry_near : (p : LinearProgram) (f : LinearFunclet) (k : FuncletKind) → FitsProgram p

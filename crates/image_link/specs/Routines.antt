@@ -40,7 +40,7 @@ is_leaf b =
 
 -- ---- functions
 
--- no local stands in a register, and none has a frame register
+-- no local stands in a register
 abbrev pub function_facts : LinearBody → Facts
 function_facts b =
     record {
@@ -49,7 +49,7 @@ function_facts b =
       temporaries = b.temporaries;
       locals = b.locals;
       registers = 0;
-      frame_register = false;
+      frame_register = true;
     }
 
 abbrev pub function_frame : LinearBody → FrameLayout
@@ -66,6 +66,10 @@ leaf_layout b =
       slots = 0;
       frame = 0;
       registers = NO_REGISTERS;
+      size = 0;
+      pushes = 0;
+      saves = 0;
+      framed = false;
     }
 
 abbrev pub function_layout : FrameLayout → Layout
@@ -78,6 +82,10 @@ function_layout f =
       slots = f.slots;
       frame = f.depth;
       registers = NO_REGISTERS;
+      size = f.size;
+      pushes = f.pushes;
+      saves = f.saves;
+      framed = f.framed;
     }
 
 abbrev pub leaf : LinearFunction → RoutineView
@@ -168,6 +176,10 @@ funclet_layout function own =
       slots = own.slots;
       frame = own.depth;
       registers = NO_REGISTERS;
+      size = own.size;
+      pushes = own.pushes;
+      saves = own.saves;
+      framed = own.framed;
     }
 
 abbrev pub funclet : LinearProgram → LinearFunclet → RoutineView

@@ -16,6 +16,7 @@ use Rattle.template_code.specs.Operations.{move}
 use Rattle.template_code.specs.Slots.{keep}
 use Rattle.template_code.specs.Jumps.{distance}
 use Rattle.template_code.specs.Calls.{keep_register, parameters_code}
+use Rattle.template_code.specs.Frames.{probing}
 use Rattle.template_code.specs.Bytes.{spelled, thunk}
 use Rattle.template_code.specs.Probing.{check_stack}
 use Rattle.template_code.specs.Template.{Links, body_size, code_from}
@@ -33,7 +34,7 @@ use Rattle.image_link.specs.Routines.{RoutineView}
 
 abbrev pub frame_code : ℕ → ℕ → Option FrameLayout → List Instr
 frame_code at check None = []
-frame_code at check (Some f) = prologue_code (plan_of f (distance (at + 10) check))
+frame_code at check (Some f) = prologue_code (probing (plan_of f) at check)
 
 abbrev pub base_of : Layout → Option ℕ → ℕ
 base_of y None = 0

@@ -125,6 +125,10 @@ fn leaf<'a>(function: &'a IrFunction) -> Routine<'a>
             slots: 0,
             frame: 0,
             registers: NO_REGISTERS,
+            size: 0,
+            pushes: 0,
+            saves: 0,
+            framed: false,
         },
         body: &function.body,
     }
@@ -140,7 +144,7 @@ fn function_frame(body: &IrBody) -> FrameLayout
         temporaries: body.temporaries,
         locals: body.locals,
         registers: 0,
-        frame_register: false,
+        frame_register: true,
     })
 }
 
@@ -162,6 +166,10 @@ fn framed<'a>(function: &'a IrFunction) -> Routine<'a>
             slots: frame.slots,
             frame: frame.depth,
             registers: NO_REGISTERS,
+            size: frame.size,
+            pushes: frame.pushes,
+            saves: frame.saves,
+            framed: frame.framed,
         },
         body: &function.body,
     }
@@ -233,6 +241,10 @@ fn funclet_routine<'a>(program: &IrProgram, funclet: &'a IrFunclet) -> Routine<'
             slots: own.slots,
             frame: own.depth,
             registers: NO_REGISTERS,
+            size: own.size,
+            pushes: own.pushes,
+            saves: own.saves,
+            framed: own.framed,
         },
         body: &funclet.body,
     }

@@ -1,21 +1,18 @@
 -- The plans of routines' frames: they keep the rules, unwind infos tell of them, and layouts have
 -- them.
-use Rattle.std.proofs.Common.{◌≡◌, ℕ, ◌+◌, ◌^◌, ◌<◌, Bool, not, List, [], ◌∷◌, ◌++◌, length, Some, None, refl, sym, ap, ◌∙◌, arith}
+use Rattle.std.proofs.Common.{◌≡◌, ℕ, ◌+◌, ◌^◌, ◌<◌, List, [], ◌∷◌, ◌++◌, length, Some, None, refl, sym, ap, subst, ◌∙◌, arith}
 use Rattle.std.specs.Prelude.{slice_get}
 use Rattle.std.specs.List.{flat_map}
-use Rattle.std.proofs.lemmas.Bool.{ne_eqb}
-use Rattle.image_tables.specs.Words.{Instr, UnwindOperation, Nothing, FetchedInstr, bytes, items, FramePlan, IsPlan, spelled_by, operations_of, spell, prologue_code, LinearProgram, FrameLayout, plan_of, info_of, chosen, size, sizes, distance, IsFrameNear, IsNear, Placed, placed, allocation_then, instructions_of, steps_of}
-use Rattle.eh_tables.specs.declared.code.UnwindOperation.TheVariants.{Allocate}
+use Rattle.image_tables.specs.Words.{Instr, UnwindOperation, Nothing, FetchedInstr, bytes, items, FramePlan, IsPlan, spelled_by, operations_of, spell, prologue_code, LinearProgram, FrameLayout, plan_of, info_of, chosen, size, sizes, distance, IsFrameNear, IsNear, Placed, placed, instructions_of, steps_of}
 use Rattle.frame_layout.specs.Infos.{Describes}
 use Rattle.frame_layout.specs.Layout.{IsFrame}
-use Rattle.frame_layout.specs.Plans.{frame_distance_if, frame_register_if, pushes_of, saves_of}
 use Rattle.frame_layout.proofs.Planned.{frames_are_planned}
 use Rattle.frame_layout.proofs.Sizes.{prologue_few}
 use Rattle.frame_layout.proofs.Steps.{frame_registers}
 use Rattle.frame_rules.specs.Plan.{epilogue, turned, unwind_of}
 use Rattle.template_code.specs.Frames.{frame_plan, plan_of_layout}
 use Rattle.template_code.proofs.Frames.{epilogue_unprobed}
-use Rattle.image_tables.proofs.Layouts.{size_of, sized, IsPlain, plain}
+use Rattle.image_tables.proofs.Layouts.{IsPlannedBy, plan_placed}
 use Rattle.image_tables.proofs.Lemmas.{describes, near_signed}
 use Rattle.image_tables.proofs.Rest.{spelled_both}
 
@@ -60,31 +57,11 @@ prologue_sizes f probe =
 
 -- ---- the layout of a routine has the plan of its frame
 
--- that of a frame that saves nothing
-plain_plan : (f : FrameLayout) (probe : ℕ) → IsPlain f → plan_of f probe ≡ frame_plan f.size probe
-plain_plan f probe h = λ i. record {
-  pushes = pushes_of (h.pushes i) (h.framed i);
-  size = f.size;
-  frame = frame_register_if (h.framed i);
-  distance = frame_distance_if (h.framed i);
-  saves = saves_of f.slots (h.saves i);
-  probe = probe;
-}
-
-pub one_code : (f : FrameLayout) (probe : ℕ) → IsPlain f → 0 < f.size
-    → operations_of (plan_of f probe) ≡ Allocate f.size ∷ []
-one_code f probe plain some =
-    ap operations_of (plain_plan f probe plain)
-    ∙ ap (λ (none : Bool). allocation_then (not none) f.size [])
-    (ne_eqb f.size 0 (λ z. (let q : f.size ≡ 0 = z in absurd (omega arith))))
-
 pub laid_plan : (p : LinearProgram) (index : ℕ) (x : Placed) (f : FrameLayout) (probe : ℕ)
     → slice_get (placed p) index ≡ Some x → x.routine.frame ≡ Some f
     → plan_of_layout x.routine.layout probe ≡ plan_of f probe
 laid_plan p index x f probe e framed =
-    let own = plain p index x f e framed in
-    ap (λ n. frame_plan n probe) (sized p index x e ∙ ap size_of framed ∙ own.depth)
-    ∙ sym (plain_plan f probe own)
+    subst (IsPlannedBy x.routine.layout) framed (plan_placed p index x e) probe
 
 -- so its returns end in the epilogue of that plan
 pub laid_epilogue : (p : LinearProgram) (index : ℕ) (x : Placed) (f : FrameLayout) (probe : ℕ)
@@ -99,4 +76,5 @@ leaf_plan = record { size = omega arith; distance = omega arith; probe = refl; a
 
 pub leaf_laid : (p : LinearProgram) (index : ℕ) (x : Placed) → slice_get (placed p) index ≡ Some x
     → x.routine.frame ≡ None → plan_of_layout x.routine.layout 0 ≡ frame_plan 0 0
-leaf_laid p index x e none = ap (λ n. frame_plan n 0) (sized p index x e ∙ ap size_of none)
+leaf_laid p index x e none =
+    subst (IsPlannedBy x.routine.layout) none (plan_placed p index x e) 0

@@ -14,7 +14,9 @@ use Rattle.image_tables.proofs.CodeInMemory.{IsThere, there, code_length, routin
 use Rattle.image_tables.proofs.Arguments.{arguments_inner}
 use Rattle.image_tables.proofs.FramePlans.{plan_near, described, spelled_steps, laid_epilogue, leaf_plan, leaf_laid}
 use Rattle.image_tables.proofs.Links.{links_near}
-use Rattle.template_code.specs.Frames.{frame_plan, plan_of_layout}
+use Rattle.frame_layout.specs.Plans.{plan_of}
+use Rattle.frame_layout.proofs.Planned.{probe_end_few}
+use Rattle.template_code.specs.Frames.{frame_plan, plan_of_layout, probe_end}
 use Rattle.image_tables.proofs.Rest.{IsFine, fine_inner, fine_both, body_fine, encodable_both, spelled_both}
 
 -- ---- what comes after the prologue
@@ -58,7 +60,9 @@ module _ (p : LinearProgram) (index : ℕ) (x : Placed) (f : FrameLayout)
       (routines_near p framed.fits) (has_places p framed.fits) in
       let text = n.text in
       let room = here.room in
-      plan_near f (x.begin + 10) (probe_begin p) sizes.0 (omega arith) (omega arith)
+      let few = probe_end_few f sizes.0.pushes in
+      plan_near f (x.begin + probe_end (plan_of f 0)) (probe_begin p) sizes.0 (omega arith)
+      (omega arith)
 
   rest : IsFine (plan p x f) is_plan (rest_of p x)
   rest =

@@ -1,10 +1,10 @@
--- A routine's layout has the depth of its frame, which saves nothing and has no frame register,
--- and slots up to where its frame has them.
-use Rattle.std.proofs.Common.{◌≡◌, ℕ, suc, ◌==◌, Bool, true, false, not, List, [], ◌∷◌, map, Option, Some, None, refl, subst, arith}
+-- A routine's layout has the depth and the plan of its frame, and slots up to where its frame has
+-- them.
+use Rattle.std.proofs.Common.{◌≡◌, ℕ, suc, ◌==◌, Bool, true, false, not, List, [], ◌∷◌, map, Option, Some, None, refl}
 use Rattle.std.specs.Prelude.{slice_get, ◌&&◌}
 use Rattle.std.specs.List.{AllByRecursion}
-use Rattle.image_tables.specs.Words.{LinearBody, LinearFunction, LinearFunclet, LinearProgram, FrameLayout, RoutineView, is_leaf, leaf_if, functions_from, funclet, routines, Placed, site_of, infos_begin, placed, routines_begin}
-use Rattle.image_link.specs.Routines.{function_frame}
+use Rattle.image_tables.specs.Words.{LinearFunction, LinearFunclet, LinearProgram, FrameLayout, plan_of, Layout, RoutineView, is_leaf, leaf_if, functions_from, funclet, routines, Placed, site_of, infos_begin, placed, routines_begin}
+use Rattle.template_code.specs.Frames.{frame_plan, plan_of_layout}
 use Rattle.image_tables.proofs.Lookups.{placed_has}
 use Rattle.image_tables.proofs.Lemmas.{all_append}
 
@@ -62,27 +62,20 @@ pub slots_placed : (p : LinearProgram) (index : ℕ) (x : Placed)
     → slice_get (placed p) index ≡ Some x → HasSlots x.routine
 slots_placed = all_placed HasSlots function_slots (λ p f. refl)
 
--- a frame that saves nothing, and has no frame register
-pub record IsPlain (f : FrameLayout) : Type 0 where
-  pub pushes : f.pushes ≡ 0
-  pub saves : f.saves ≡ 0
-  pub framed : f.framed ≡ false
-  pub depth : f.depth ≡ f.size
+-- ---- the plan of a layout
 
-abbrev IsPlainIf : Option FrameLayout → Type 0
-IsPlainIf None = Unit {0}
-IsPlainIf (Some f) = IsPlain f
+-- that of the frame, or one that takes nothing
+abbrev pub IsPlannedBy : Layout → Option FrameLayout → Type 0
+IsPlannedBy y None = (probe : ℕ) → plan_of_layout y probe ≡ frame_plan 0 probe
+IsPlannedBy y (Some f) = (probe : ℕ) → plan_of_layout y probe ≡ plan_of f probe
 
-function_plain : (b : LinearBody) → IsPlain (function_frame b)
-function_plain b =
-    record { pushes = refl; saves = refl; framed = refl; depth = omega arith }
+abbrev HasPlan : RoutineView → Type 0
+HasPlan r = IsPlannedBy r.layout r.frame
 
-leaf_plain : (b : Bool) (f : LinearFunction) → IsPlainIf (leaf_if b f).frame
-leaf_plain true f = tt
-leaf_plain false f = function_plain f.body
+function_plan : (b : Bool) (f : LinearFunction) → HasPlan (leaf_if b f)
+function_plan true f = λ probe. refl
+function_plan false f = λ probe. refl
 
-pub plain : (p : LinearProgram) (index : ℕ) (x : Placed) (f : FrameLayout)
-    → slice_get (placed p) index ≡ Some x → x.routine.frame ≡ Some f → IsPlain f
-plain p index x f e framed = subst IsPlainIf framed
-    (all_placed (λ r. IsPlainIf r.frame) leaf_plain
-    (λ p f. record { pushes = refl; saves = refl; framed = refl; depth = omega arith }) p index x e)
+pub plan_placed : (p : LinearProgram) (index : ℕ) (x : Placed)
+    → slice_get (placed p) index ≡ Some x → HasPlan x.routine
+plan_placed = all_placed HasPlan function_plan (λ p f probe. refl)

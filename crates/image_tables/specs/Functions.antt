@@ -10,7 +10,7 @@ use Rattle.host_layout.specs.declared.imported.ImportedService.{ImportedService}
 use Rattle.linear_code.specs.Program.{LinearProgram}
 use Rattle.frame_layout.specs.declared.frame.FrameLayout.{FrameLayout}
 use Rattle.frame_layout.specs.Plans.{plan_of}
-use Rattle.template_code.specs.Jumps.{distance}
+use Rattle.template_code.specs.Frames.{probing}
 use Rattle.template_code.specs.Probing.{check_stack}
 use Rattle.template_code.specs.Template.{code_from}
 use Rattle.image_link.specs.Text.{argument_code, service_thunk}
@@ -21,9 +21,9 @@ use Rattle.image_tables.specs.CodeInMemory.{links}
 
 -- ---- with a frame
 
--- a large frame is taken by a call of `__chkstk`, which ends ten bytes from the begin
+-- a large frame is taken by a call of `__chkstk`
 abbrev pub plan : LinearProgram → Placed → FrameLayout → FramePlan
-plan p x f = plan_of f (distance (x.begin + 10) (probe_begin p))
+plan p x f = probing (plan_of f) x.begin (probe_begin p)
 
 -- what it does with what it is called with, and its body
 abbrev pub rest_of : LinearProgram → Placed → List Instr

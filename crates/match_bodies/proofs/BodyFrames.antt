@@ -14,14 +14,14 @@ use Rattle.frame_rules.proofs.Undoing.{stack_depth}
 use Rattle.match_stack.specs.Stack.{AreAbove}
 use Rattle.match_bodies.specs.CodeSites.{body_plan}
 use Rattle.template_code.specs.Frames.{plan_of_layout}
-use Rattle.match_bodies.specs.Layouts.{IsFramePlan, IsLaidOut, IsLayoutIf}
+use Rattle.match_bodies.specs.Layouts.{IsFramePlan, IsLaidOut, IsLayoutIf, saved_count}
 use Rattle.match_bodies.specs.Setting.{InBody}
 use Rattle.match_stack.proofs.FrameWords.{told_above}
 use Rattle.match_bodies.proofs.Lemmas.{wide_of, word-is, is_word}
 use Rattle.x64_machine.specs.declared.cpu.Cpu.{Cpu}
 use Rattle.match_bodies.proofs.InstructionEffects.{others_of}
 use Rattle.match_bodies.proofs.StackTop.{leaf_layout}
-use Rattle.match_bodies.proofs.FrameCode.{above_plan, epilogue_count, leaf_ending, plan_depth}
+use Rattle.match_bodies.proofs.FrameCode.{above_plan, epilogue_count, plan_depth}
 use Rattle.match_bodies.proofs.OwedCallers.{base_is, returns_alone, at_return}
 
 -- the caller's registers are small where all are
@@ -89,23 +89,26 @@ module _ (setting : Setting) where
             l.plan
         by (FuncletBody k) h e = h.layout.plan
 
-    -- its epilogue has so many instructions at most
-    pub ending_few : length (epilogue (plan_of_layout (p.layout name) 0)) ≤ 10
-    ending_few = by name (image.laid_out name b is)
+    -- it saves so many registers at most
+    pub saved_few : saved_count (plan_of_layout (p.layout name) 0) ≤ 8
+    saved_few = by name (image.laid_out name b is)
       where
         by_leaf : (y : Layout) (leaf : Bool) → IsLayoutIf program p y b leaf
-            → length (epilogue (plan_of_layout y 0)) ≤ 10
-        by_leaf y true l = let e = ap (λ (is : List Instr). length is) (leaf_ending y l.frame) in
-            omega arith
-        by_leaf y false l = let few = l.few in let n = (epilogue_count (plan_of_layout y 0)).1 in
-            omega arith
+            → saved_count (plan_of_layout y 0) ≤ 8
+        by_leaf y true l = let e = ap saved_count l.plan in omega arith
+        by_leaf y false l = l.few
 
         by : (n : BodyName) → IsLaidOut program p n b
-            → length (epilogue (plan_of_layout (p.layout n) 0)) ≤ 10
+            → saved_count (plan_of_layout (p.layout n) 0) ≤ 8
         by (FunctionBody f) h = by_leaf (p.layout (FunctionBody f)) (p.leaf (FunctionBody f)) h
-        by (FuncletBody k) h =
-            let bare = h.layout.bare in
-            let n = (epilogue_count (plan_of_layout (p.layout (FuncletBody k)) 0)).1 in omega arith
+        by (FuncletBody k) h = let bare = h.layout.bare in omega arith
+
+    -- so its epilogue has so many instructions
+    pub ending_few : length (epilogue (plan_of_layout (p.layout name) 0)) ≤ 10
+    ending_few =
+        let few = saved_few in
+        let n = (epilogue_count (plan_of_layout (p.layout name) 0)).1 in
+        omega arith
 
     -- and a funclet's two
     pub funclet_ending_few : (k : ℕ) → name ≡ FuncletBody k

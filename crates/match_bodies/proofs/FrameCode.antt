@@ -1,26 +1,25 @@
 -- The code that makes a frame: by its size, and as the prologue of its plan.
-use Rattle.std.proofs.Common.{◌≡◌, ℕ, ◌++◌, ◌+◌, ◌<◌, ◌≤◌, ◌==◌, Bool, true, false, not, List, [], ◌∷◌, length, refl, ap, ◌∙◌, arith}
+use Rattle.std.proofs.Common.{◌≡◌, ℕ, zero, suc, ◌++◌, ◌+◌, ◌<◌, ◌≤◌, ◌==◌, Bool, true, false, not, List, [], ◌∷◌, length, refl, ap, ◌∙◌, arith}
 use Rattle.std.specs.Prelude.{◌&&◌, nat_le, if◌then◌else◌}
 use Rattle.std.specs.List.{flat_map}
 use Rattle.std.proofs.lemmas.Bool.{eqb-true, ne_eqb, le-leb, lt-leb}
-use Rattle.match_bodies.specs.Words.{Instr, size, sizes, IsNear, frame_code, Layout, chosen}
+use Rattle.match_bodies.specs.Words.{Instr, size, sizes, frame_code, Layout, LinearBody}
 use Rattle.std.proofs.lemmas.List.{append-nil}
 use Rattle.eh_tables.specs.declared.code.UnwindOperation.{UnwindOperation}
 use Rattle.x64_instr.specs.Registers.{register}
 use Rattle.x64_instr.specs.declared.instruction.Instr.TheVariants as instrs
-use Rattle.template_code.specs.Frames.{frame_plan, plan_of_layout}
-use Rattle.template_code.specs.Jumps.{distance}
+use Rattle.template_code.specs.Frames.{frame_plan, plan_of_layout, saving_plan}
 use Rattle.frame_rules.specs.Bytes.{prologue_code, spell}
-use Rattle.frame_rules.specs.Codes.{are_allowed, depth, pushed}
+use Rattle.frame_rules.specs.Codes.{depth, pushed}
 use Rattle.frame_rules.specs.Plan.{FramePlan, Saved, allocation_then, allocating, epilogue, frame_then, instructions_of, load_of, loads_then, frame_size, opening_then, operations_of, pops_then, saves_then, spelled_by, steps_of, turned}
 use Rattle.frame_rules.specs.Prologue.{bytes, items}
 use Rattle.frame_rules.proofs.Frames.{bytes-append}
 use Rattle.frame_rules.proofs.Sizes.{frame_has_its_size}
 use Rattle.match_stack.specs.Stack.{AreAbove}
 use Rattle.match_bodies.specs.CodeSites.{epilogue_through}
-use Rattle.x64_templates.specs.Prologues.{AreProbed, codes_turns, none_stores, prologue_turns}
+use Rattle.x64_templates.specs.Prologues.{codes_turns, none_stores, prologue_turns}
 use Rattle.x64_templates.proofs.PrologueParts.{bytes_sizes}
-use Rattle.match_bodies.specs.Layouts.{AreSavedAbove, saved_count}
+use Rattle.match_bodies.specs.Layouts.{AreSavedAbove, IsFuncletLayout, saved_count}
 use Rattle.match_bodies.proofs.Lemmas.{sizes_append}
 
 -- the prologue of a plan that saves nothing is the allocation
@@ -32,12 +31,45 @@ made_code n probe some =
     (ne_eqb n 0 (λ z. (let e : n ≡ 0 = z in absurd (omega arith))))
     ∙ append-nil (allocating probe n (nat_le n 4096))
 
--- one that makes a frame of at most a page begins with it
-pub made_small : (size probe : ℕ) (leaf : Bool) → leaf ≡ false → 0 < size → size ≤ 4096
-    → frame_code (frame_plan size probe) leaf ≡ allocating 0 size true
-made_small size probe leaf e some small = ap (frame_code (frame_plan size probe)) e
-    ∙ made_code size probe some
-    ∙ ap (allocating probe size) (le-leb size 4096 small)
+bare_by : (pushes saves : ℕ) (framed : Bool) (size slots probe : ℕ)
+    → saved_count (saving_plan pushes saves framed size slots probe) ≡ 0
+    → saving_plan pushes saves framed size slots probe ≡ frame_plan size probe
+bare_by zero zero false size slots probe e = refl
+bare_by zero zero true size slots probe e = absurd (omega arith)
+bare_by zero (suc n) framed size slots probe e = absurd (omega arith)
+bare_by (suc n) saves framed size slots probe e = absurd (omega arith)
+
+-- a layout whose frame saves nothing
+pub record IsBare (y : Layout) : Type 0 where
+  pub bare : saved_count (plan_of_layout y 0) ≡ 0
+  pub whole : frame_size (plan_of_layout y 0) ≡ y.frame + 8
+  pub some : 0 < y.frame
+  pub small : y.frame ≤ 4096
+
+-- as a funclet's
+pub funclet_bare : (y function : Layout) (b : LinearBody) → IsFuncletLayout y function b → IsBare y
+funclet_bare y function b h =
+    let passed = h.passed in
+    let kept = h.kept in
+    let temporaries = h.temporaries in
+    let within = h.within in
+    record { bare = h.bare; whole = h.plan.whole; some = omega arith; small = h.small }
+
+-- has a plan of its allocation alone
+bare_plan : (y : Layout) (probe : ℕ) → IsBare y → plan_of_layout y probe ≡ frame_plan y.frame probe
+bare_plan y probe h =
+    let bare = h.bare in
+    let whole = h.whole in
+    bare_by y.pushes y.saves y.framed y.size y.slots probe bare
+    ∙ ap (λ n. frame_plan n probe) (let e : y.size ≡ y.frame = omega arith in e)
+
+-- whose code is one instruction
+pub made_small : (y : Layout) (probe : ℕ) (leaf : Bool) → leaf ≡ false → IsBare y
+    → frame_code (plan_of_layout y probe) leaf ≡ allocating 0 y.frame true
+made_small y probe leaf e h = ap (frame_code (plan_of_layout y probe)) e
+    ∙ ap prologue_code (bare_plan y probe h)
+    ∙ made_code y.frame probe h.some
+    ∙ ap (allocating probe y.frame) (le-leb y.frame 4096 h.small)
 
 -- ---- the prologue of a plan
 
@@ -56,35 +88,19 @@ steps_sizes p at (x ∷ xs) =
       sizes_append is (flat_map (instructions_of p) xs),
     )
 
-allowed_by : (n : ℕ) (some : Bool) → are_allowed 0 (allocation_then some n []) ≡ true
-allowed_by n true = refl
-allowed_by n false = refl
-
--- so it is with a plan that saves nothing, and has no frame register
-pub plan_allowed : (n probe : ℕ)
-    → are_allowed 0 (operations_of (frame_plan n probe)) ≡ true
-plan_allowed n probe = allowed_by n (not (n == 0))
-
--- its call of `__chkstk` ends ten bytes from the begin
-pub plan_probed : (n begin check : ℕ) → IsNear (begin + 10) check
-    → AreProbed (frame_plan n (distance (begin + 10) check)) check begin
-    (turned [] (operations_of (frame_plan n (distance (begin + 10) check))))
-plan_probed n begin check near = by (not (n == 0))
-  where
-    by : (some : Bool) → AreProbed (frame_plan n (distance (begin + 10) check)) check begin
-        (turned [] (allocation_then some n []))
-    by true = (λ large. (refl, near), tt)
-    by false = tt
-
--- it is run in one turn where it allocates at most a page, and in at most eight
-pub plan_turns : (n probe : ℕ) → 0 < n → n ≤ 4096 → prologue_turns (frame_plan n probe) ≡ 1
+-- one that saves nothing is run in one turn where it allocates at most a page
+plan_turns : (n probe : ℕ) → 0 < n → n ≤ 4096 → prologue_turns (frame_plan n probe) ≡ 1
 plan_turns n probe some small =
     ap (λ none. codes_turns (turned [] (allocation_then (not none) n [])))
     (ne_eqb n 0 (λ z. (let e : n ≡ 0 = z in absurd (omega arith))))
     ∙ ap (λ few. let k : ℕ = (if few then 1 else 8) + 0 in k) (le-leb n 4096 small)
 
+pub bare_turns : (y : Layout) (probe : ℕ) → IsBare y → prologue_turns (plan_of_layout y probe) ≡ 1
+bare_turns y probe h =
+    ap prologue_turns (bare_plan y probe h) ∙ plan_turns y.frame probe h.some h.small
+
 -- and stores nothing then
-pub plan_unstored : (n probe : ℕ) → n ≤ 4096
+plan_unstored : (n probe : ℕ) → n ≤ 4096
     → none_stores (operations_of (frame_plan n probe)) ≡ true
 plan_unstored n probe small = by (not (n == 0))
   where
@@ -92,14 +108,51 @@ plan_unstored n probe small = by (not (n == 0))
     by true = ap (λ few. not (not few) && true) (le-leb n 4096 small)
     by false = refl
 
-pub few_turns : (n probe : ℕ) → prologue_turns (frame_plan n probe) ≤ 8
-few_turns n probe = by (not (n == 0)) (nat_le n 4096) refl
-  where
-    by : (some few : Bool) → nat_le n 4096 ≡ few
-        → codes_turns (turned [] (allocation_then some n [])) ≤ 8
-    by true true e = omega (arith, ap (λ x. let k : ℕ = if x then 1 else 8 in k) e)
-    by true false e = omega (arith, ap (λ x. let k : ℕ = if x then 1 else 8 in k) e)
-    by false few e = omega arith
+pub bare_unstored : (y : Layout) (probe : ℕ) → IsBare y
+    → none_stores (operations_of (plan_of_layout y probe)) ≡ true
+bare_unstored y probe h =
+    ap (λ q. none_stores (operations_of q)) (bare_plan y probe h)
+    ∙ plan_unstored y.frame probe h.small
+
+-- ---- the turns of any plan
+
+turned_turns : (done xs : List UnwindOperation)
+    → codes_turns (turned done xs) ≡ codes_turns done + codes_turns xs
+turned_turns done [] = let z : codes_turns done ≡ codes_turns done + 0 = omega arith in z
+turned_turns done (x ∷ xs) = let r = turned_turns (x ∷ done) xs in omega arith
+
+pushed_turns : (rs : List ℕ) → codes_turns (pushed rs) ≡ length rs
+pushed_turns [] = refl
+pushed_turns (r ∷ rs) = let e = pushed_turns rs in omega arith
+
+allocation_turns : (n : ℕ) (some few : Bool) (xs : List UnwindOperation) → nat_le n 4096 ≡ few
+    → codes_turns (allocation_then some n xs) ≤ 8 + codes_turns xs
+allocation_turns n true true xs e =
+    omega (arith, ap (λ x. let k : ℕ = if x then 1 else 8 in k) e)
+allocation_turns n true false xs e =
+    omega (arith, ap (λ x. let k : ℕ = if x then 1 else 8 in k) e)
+allocation_turns n false few xs e = omega arith
+
+setting_turns : (framed : Bool) (xs : List UnwindOperation)
+    → codes_turns (frame_then framed xs) ≤ 1 + codes_turns xs
+setting_turns true xs = omega arith
+setting_turns false xs = omega arith
+
+saves_turns : (ss : List Saved) (xs : List UnwindOperation)
+    → codes_turns (saves_then ss xs) ≡ length ss + codes_turns xs
+saves_turns [] xs = let z : codes_turns xs ≡ 0 + codes_turns xs = omega arith in z
+saves_turns (s ∷ ss) xs = let e = saves_turns ss xs in omega arith
+
+-- one for each register that is saved and for the frame register, and eight at most
+pub few_turns : (f : FramePlan) → prologue_turns f ≤ saved_count f + 9
+few_turns f =
+    let xs = allocation_then (not (f.size == 0)) f.size (pushed f.pushes) in
+    let a = pushed_turns f.pushes in
+    let b = allocation_turns f.size (not (f.size == 0)) (nat_le f.size 4096) (pushed f.pushes) refl in
+    let c = setting_turns (not (f.frame == 0)) xs in
+    let d = saves_turns f.saves (frame_then (not (f.frame == 0)) xs) in
+    let e = turned_turns [] (operations_of f) in
+    omega arith
 
 -- ---- its epilogue
 
@@ -166,9 +219,9 @@ epilogue_count f =
     (omega arith, omega arith)
 
 -- of a layout without a frame it is the return alone
-pub leaf_ending : (y : Layout) → y.frame ≡ 0
+pub leaf_ending : (y : Layout) → plan_of_layout y 0 ≡ frame_plan 0 0
     → epilogue (plan_of_layout y 0) ≡ instrs.Return ∷ []
-leaf_ending y none = ap (λ n. epilogue (frame_plan n 0)) none
+leaf_ending y none = ap epilogue none
 
 -- ---- its unwind codes
 

@@ -3,6 +3,7 @@ pub mod StackWalks
 pub mod UnwindWalks
 pub mod InstructionEffects
 pub mod FrameCode
+pub mod ProbedPlans
 pub mod SilentTurns
 pub mod RoutineWalks
 pub mod ShadowTurns

@@ -30,8 +30,10 @@ use Rattle.match_bodies.specs.Setting.{HasProgram}
 use Rattle.match_bodies.proofs.Lemmas.{call_size, code_split, keep_first, short, sizes_append}
 use Rattle.x64_templates.specs.Prologues.{AreProbed, code_turns, codes_turns, prologue_turns}
 use Rattle.x64_templates.proofs.PrologueParts.{bytes_sizes}
-use Rattle.match_bodies.proofs.FrameCode.{plan_probed, steps_sizes}
-use Rattle.match_bodies.proofs.BodyFrames.{frame_plan_is}
+use Rattle.match_bodies.proofs.FrameCode.{steps_sizes}
+use Rattle.match_bodies.proofs.ProbedPlans.{plan_probed}
+use Rattle.match_bodies.proofs.BodyFrames.{frame_plan_is, saved_few}
+use Rattle.template_code.specs.Frames.{plan_of_layout, probe_end}
 use Rattle.match_bodies.proofs.SilentTurns.{program_kept}
 use Rattle.match_bodies.proofs.RoutineWalks.{StepsTo, steps_split, keeps_split, Beneath}
 use Rattle.match_bodies.proofs.ReturnAddresses.{argument_found}
@@ -78,8 +80,9 @@ module _ (setting : Setting) where
         (argument_found setting name b is m has some []
         (arguments_code program p name) refl)
 
-    near_probe : IsNear (begin + 10) q.check_stack
+    near_probe : IsNear (begin + probe_end (plan_of_layout (p.layout name) 0)) q.check_stack
     near_probe =
+        let few = saved_few setting name b is in
         let a = image.addresses name b is in
         let a0 = a.first in
         let a1 = a.inside.low in
@@ -95,13 +98,13 @@ module _ (setting : Setting) where
         record {
           size = plan.size;
           distance = plan.distance;
-          probe = short (begin + 10) q.check_stack near_probe;
+          probe = short (begin + probe_end (plan_of_layout (p.layout name) 0)) q.check_stack near_probe;
           allowed = plan.allowed;
         }
 
     pub body_probed : AreProbed (body_plan p q name) q.check_stack begin
         (turned [] (operations_of (body_plan p q name)))
-    body_probed = plan_probed frame begin q.check_stack near_probe
+    body_probed = plan_probed (p.layout name) begin q.check_stack near_probe
 
     module _ (top from back : ℕ) (others : List ℕ) (list : List StackItem)
         (framed : p.leaf name ≡ false) (most : frame + 8 ≤ LARGEST_FRAME)
@@ -407,6 +410,7 @@ module _ (setting : Setting) where
       begins : frame ≤ top → Left (turned [] (operations_of framing)) [] 0
       begins room =
           let deep = frame_has_its_size framing in
+          let whole = (frame_plan_is setting name b is framed).whole in
           record {
             emitted = all_turned framing [] (operations_of framing) tt
                 (emitted_plan framing is_plan);

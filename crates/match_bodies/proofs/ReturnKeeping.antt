@@ -2,7 +2,7 @@
 -- the return is made; the shadow is kept.
 use Rattle.std.proofs.Common.{◌≡◌, ℕ, suc, ◌+◌, ◌^◌, ◌<◌, ◌==◌, Bool, Option, Some, None, true, false, List, [], ◌∷◌, ◌++◌, length, refl, sym, ap, subst, ◌∙◌, arith, inl, length-append, append_assoc}
 use Rattle.std.specs.Prelude.{slice_get}
-use Rattle.std.proofs.lemmas.Bool.{and_parts, eqb-true, eq-eqb, false≢true}
+use Rattle.std.proofs.lemmas.Bool.{and_parts, eqb-true, false≢true}
 use Rattle.std.proofs.lemmas.List.{append-nil}
 use Rattle.match_bodies.specs.Words.{Memory, Rax, Rsp, Instr, State, register, get, AllSmall, Functions, Funclet, Slot, Local, Temporary, LinearBody, BodyName, body_of, Layout, size, sizes, is_encodable, fetch, fetch_local, local_at, Steps, HasCode, StackItem, KeepsShadow, AllKeep, context_below, FindsReturn, FindsOwed, Owed, nothing_owed, owed_of, owed_by, Setting, return_code, Place, InRegister, InFrame, place_of, fetch_placed}
 use Rattle.eh_tables.specs.declared.code.UnwindOperation.{UnwindOperation}
@@ -20,6 +20,7 @@ use Rattle.frame_rules.specs.States.{registers}
 use Rattle.frame_rules.proofs.Bytes.{plans_are_encodable}
 use Rattle.frame_rules.proofs.Leaving.{InLoads, Known}
 use Rattle.frame_rules.proofs.Order.{ordered}
+use Rattle.frame_rules.proofs.Emitting.{gives_all}
 use Rattle.frame_rules.proofs.Planned.{AllLoadable, all_loadable, allocation_plan, allowed_later, loaded, pushes_plan, restored_plan}
 use Rattle.frame_rules.proofs.Planning.{codes_plan, framed_plan, ordered_plan}
 use Rattle.template_code.specs.Frames.{plan_of_layout}
@@ -309,7 +310,9 @@ module _ (setting : Setting) where
           let i = opening_by framing (f == 0) in
           let one = (and_parts (is_encodable i) (all_encodable ending) enc).0 in
           let gives : gives_back f offset (allocation (operations_of bare)) i ≡ true =
-          eq-eqb framing.size (allocation (operations_of bare)) (sym (allocation_plan bare)) in
+          subst (λ n. gives_back f offset n i ≡ true)
+          (allocation_plan (plan_of_layout y 0) ∙ sym (allocation_plan bare))
+          (gives_all (plan_of_layout y 0) planned.is_plan (f == 0) refl) in
           let through : sizes (epilogue_through framing [])
           ≡ sizes (loads_then framing.saves []) + (size i + 0) =
           ap (λ none. sizes (loads_then framing.saves (opening_then framing none []))) e
@@ -437,7 +440,7 @@ module _ (setting : Setting) where
     leaf_leaves : p.leaf name ≡ true → Leaves (length last) u
     leaf_leaves leaf =
         let bare = leaf_ending y
-        (leaf_layout t fs program p q name b leaf (image.laid_out name b is)).frame in
+        (leaf_layout t fs program p q name b leaf (image.laid_out name b is)).plan in
         let same = owed_none leaf in
         subst (λ (c : List Instr). Leaves (length c) u) (sym bare)
         (last_leaves u

@@ -14,7 +14,7 @@ use Rattle.frame_rules.specs.Plan.{allocating}
 use Rattle.x64_templates.proofs.PlacedCode.{reaches_enters}
 use Rattle.match_bodies.proofs.ChainKeeping.{inside_steps}
 use Rattle.match_bodies.specs.CodeSites.{body_plan}
-use Rattle.match_bodies.proofs.FrameCode.{made_small}
+use Rattle.match_bodies.proofs.FrameCode.{funclet_bare, made_small}
 use Rattle.match_bodies.proofs.Lemmas.{longest, bytes_kept, bytes_split, spells, reads, same_number, code_split, near, sizes_append}
 use Rattle.x64_machine.specs.declared.cpu.Cpu.{Cpu}
 use Rattle.host_model.specs.Dispatch.{no_flags}
@@ -128,11 +128,8 @@ module _ (t : Functions) (fs : List Funclet) (program : LinearProgram) (p : Imag
           (code_from (links_of p q name) y (p.address name 0) f.body.code) all in
           let frame = code_split m (p.funclet k) first (arguments_code program p name) entry.0 in
           entered_by m (p.funclet k) y.frame j n (omega arith)
-          (subst (HasCode m (p.funclet k)) (made_small y.frame (body_plan p q name).probe
-          (p.leaf name) plan.framed
-          (let a = plan.layout.passed in let b = plan.layout.kept in
-          let c = plan.layout.temporaries in let w = plan.layout.within in omega arith)
-          (omega arith)) frame.0) e quiet
+          (subst (HasCode m (p.funclet k)) (made_small y (body_plan p q name).probe
+          (p.leaf name) plan.framed (funclet_bare y _ f.body plan.layout)) frame.0) e quiet
 
       elsewhere : (s u : State) → Runs s u → HasProgram t fs program p q s.memory → (k : ℕ)
           → k < length program.funclets → s.cpu.rip ≢ p.funclet k

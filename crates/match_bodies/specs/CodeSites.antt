@@ -13,10 +13,9 @@ use Rattle.template_code.specs.declared.layout.Layout.{Layout}
 use Rattle.template_code.specs.Bytes.{sizes}
 use Rattle.template_code.specs.Operations.{move}
 use Rattle.template_code.specs.Slots.{keep}
-use Rattle.template_code.specs.Frames.{plan_of_layout}
+use Rattle.template_code.specs.Frames.{plan_of_layout, probing}
 use Rattle.template_code.specs.Calls as calls
 use Rattle.template_code.specs.Calls.{keep_register, parameters_code}
-use Rattle.template_code.specs.Jumps.{distance}
 use Rattle.template_code.specs.Template.{Links, code_from}
 use Rattle.frame_rules.specs.Bytes.{prologue_code}
 use Rattle.frame_rules.specs.Plan.{FramePlan}
@@ -54,10 +53,10 @@ abbrev pub frame_code : FramePlan → Bool → List Instr
 frame_code f true = []
 frame_code f false = prologue_code f
 
--- the plan of a body's frame, in which the call of `__chkstk` ends ten bytes from the begin
+-- the plan of a body's frame, with the call of `__chkstk`
 abbrev pub body_plan : ImagePlan → Sites → BodyName → FramePlan
 body_plan p q name =
-    plan_of_layout (p.layout name) (distance (begin_of p q name + 10) q.check_stack)
+    probing (plan_of_layout (p.layout name)) (begin_of p q name) q.check_stack
 
 -- how many bytes that takes
 abbrev pub making_size : ImagePlan → Sites → BodyName → ℕ

@@ -4,7 +4,7 @@ use Rattle.host_layout.specs.declared.range.TheConstants.{PAGE}
 use Rattle.linear_code.specs.Program.{LinearProgram, LinearBody, LinearFunclet}
 use Rattle.linear_machine.specs.Frames.{BodyName, FunctionBody, FuncletBody, body_of}
 use Rattle.template_code.specs.declared.layout.Layout.{Layout}
-use Rattle.template_code.specs.Frames.{plan_of_layout}
+use Rattle.template_code.specs.Frames.{frame_plan, plan_of_layout}
 use Rattle.frame_rules.specs.Plan.{FramePlan, IsPlan, Saved, frame_size}
 use Rattle.match_stack.specs.ImagePlan.{ImagePlan}
 use Rattle.template_code.specs.declared.layout.TheConstants.{LARGEST_FRAME}
@@ -47,6 +47,7 @@ pub record IsLeafLayout (y : Layout) (b : LinearBody) : Type 0 where
   pub locals : y.locals ≡ 8
   pub temporaries : y.temporaries ≡ 8 + 8 * b.locals
   pub few : b.locals + b.temporaries ≤ 4
+  pub plan : plan_of_layout y 0 ≡ frame_plan 0 0
 
 -- a funclet's frame: home space and further arguments, the base, the address of EXCEPTION_POINTERS,
 -- temporaries, and what it saves; its locals are those of its function, above the base

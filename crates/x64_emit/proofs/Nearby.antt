@@ -93,7 +93,7 @@ passes_few y i near = tt
 -- no template takes more than its room
 pub instruction_in_room : (y : Layout) (i : Instruction) → IsInstructionNear y i
     → template_size y i ≤ instruction_room i
-instruction_in_room y i near = template_in_room y i (passes_few y i near)
+instruction_in_room y i near = template_in_room y i (passes_few y i near) near
 
 pub code_in_room : (y : Layout) (is : List Instruction) → AllByRecursion (IsInstructionNear y) is
     → body_size y is ≤ code_room is

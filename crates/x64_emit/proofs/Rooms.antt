@@ -1,13 +1,15 @@
 -- Templates take no more bytes than their room.
-use Rattle.std.proofs.Common.{◌≡◌, ℕ, zero, suc, ◌+◌, ◌-◌, ◌*◌, ◌≤◌, Bool, true, false, cond, List, [], ◌∷◌, ◌++◌, length, Option, Some, None, arith, length-append, ap}
+use Rattle.std.proofs.Common.{◌≡◌, refl, ℕ, zero, suc, ◌+◌, ◌-◌, ◌*◌, ◌≤◌, Bool, true, false, cond, List, [], ◌∷◌, ◌++◌, length, Option, Some, None, arith, length-append, ap}
 use Rattle.std.specs.Prelude.{◌==◌, ◌%◌, not}
 use Rattle.std.proofs.lemmas.Bool.{ne_eqb}
 use Rattle.seh_num.specs.declared.width.Width.{Width}
 use Rattle.x64_emit.specs.Words.{W8, W16, W32, W64, Rax, Rcx, Rdx, Rsp, R8, R9, little, is_signed, has_rex, prefixes, mode, displacement, sib, at_register, place_bytes, modrm_bits, modrm, opcode_register, Slot, Local, Temporary, Instruction, Layout, size, sizes, local_at, temporary_at, fetched, fetch_local, keep_local, fetch_placed, keep_placed, place_of, Place, InRegister, InFrame, fetch, keep, operands_code, finish_code, compute_code, compare_zero, field_load, passing_code, arguments_code, call_code, clear_result, call_finally_code, local_unwind_code, template_size, slot_room, instruction_room}
 use Rattle.seh_num.specs.Widths.{low}
-use Rattle.frame_rules.specs.Plan.{epilogue}
-use Rattle.template_code.specs.Frames.{plan_of_layout}
-use Rattle.template_code.proofs.Frames.{ending_by}
+use Rattle.frame_rules.specs.Plan.{loads_then, opening_then, pops_then, epilogue}
+use Rattle.template_code.specs.Frames.{pushes_of, saves_of, saving_plan, plan_of_layout}
+use Rattle.frame_layout.proofs.Sizes.{run, epilogue_few}
+use Rattle.x64_instr.specs.declared.instruction.Instr.{Instr}
+use Rattle.x64_emit.specs.Near.{IsInstructionNear, IsFrameIf, frame_of_layout}
 use Rattle.x64_instr.specs.declared.register.Reg.{Reg}
 use Rattle.x64_instr.specs.declared.operand.RegisterOrMemory.TheVariants as places
 use Rattle.x64_instr.specs.declared.operand.Operand.TheVariants as operands
@@ -211,17 +213,31 @@ compare_zero_size : size compare_zero ≤ 4
 unfolding size modrm
 compare_zero_size = omega arith
 
-epilogue_by : (t : Bool) (n : ℕ) → length (cond t
-    (modrm W64 (opcodes.One 0x83) 0 (places.Register Rsp) ++ little 1 (low W8 n))
-    (modrm W64 (opcodes.One 0x81) 0 (places.Register Rsp) ++ little 4 (low W32 n))) ≤ 7
-unfolding modrm
-epilogue_by true n = omega arith
-epilogue_by false n = omega arith
-
-ending_size : (n : ℕ) (none : Bool) → sizes (ending_by n 0 none) ≤ 8
+-- the sizes of instructions as they are fetched
+run_sizes : (is : List Instr) → run is ≡ sizes is
 unfolding size
-ending_size n true = omega arith
-ending_size n false = let e = epilogue_by (is_signed W8 W64 n) n in omega arith
+run_sizes [] = refl
+run_sizes (i ∷ is) = let e = run_sizes is in omega arith
+
+return_size : size instrs.Return ≤ 1
+unfolding size
+return_size = omega arith
+
+-- the epilogue of a frame of a layout, or the return of one without
+ending_if : (y : Layout) (none : Bool) → (y.size == 0) ≡ none → IsFrameIf y none
+    → sizes (epilogue (plan_of_layout y 0)) ≤ 44
+ending_if y true e h =
+    let ends = λ (pushes saves : ℕ) (framed none : Bool). loads_then (saves_of y.slots saves)
+    (opening_then (saving_plan pushes saves framed y.size y.slots 0) none
+    (pops_then (pushes_of pushes framed) (instrs.Return ∷ []))) in
+    let same : sizes (epilogue (plan_of_layout y 0)) ≡ sizes (instrs.Return ∷ []) =
+    λ i. sizes (ends (h.0 i) (h.1 i) (h.2 i) (e i)) in
+    let r = return_size in
+    omega arith
+ending_if y false e h =
+    let few = epilogue_few (frame_of_layout y) 0 h in
+    let same = run_sizes (epilogue (plan_of_layout y 0)) in
+    omega arith
 
 passing_size : (y : Layout) (first i n : ℕ) → sizes (passing_code y first i n) ≤ 16 * n
 passing_size y first i zero = omega arith
@@ -264,36 +280,36 @@ unfolding size
 nothing_size = omega arith
 
 -- no template takes more than its room
-pub template_in_room : (y : Layout) (i : Instruction) → PassesFew i
+pub template_in_room : (y : Layout) (i : Instruction) → PassesFew i → IsInstructionNear y i
     → template_size y i ≤ instruction_room i
 unfolding template_size
-template_in_room y (instructions.Compute to o first second) few = compute_size y to o first second
-template_in_room y (instructions.Information to field) few =
+template_in_room y (instructions.Compute to o first second) few near = compute_size y to o first second
+template_in_room y (instructions.Information to field) few near =
     let a = fetched_size Rax Rsp y.pointers in
     let b = fetched_size Rax Rax 0 in
     let c = load_field_size field in
     let d = keep_size y to in
     omega arith
-template_in_room y (instructions.Landing to) few = keep_size y to
-template_in_room y (instructions.Jump label) few = let e = jump_size 5 0 in omega arith
-template_in_room y (instructions.JumpIfZero slot label) few =
+template_in_room y (instructions.Landing to) few near = keep_size y to
+template_in_room y (instructions.Jump label) few near = let e = jump_size 5 0 in omega arith
+template_in_room y (instructions.JumpIfZero slot label) few near =
     let a = fetch_size y Rax slot in
     let b = compare_zero_size in
     let e = jump_if_zero_size y slot 0 0 in
     omega (arith, sizes_append (fetch y Rax slot) (compare_zero ∷ []))
-template_in_room y (instructions.Call function first count) few =
+template_in_room y (instructions.Call function first count) few near =
     let a = passing_size y first 4 (count - 4) in
     let b = arguments_size y first in
     let c = keep_size y (Temporary first) in
     let le : count ≤ 8 = few in
     let e = passing_call_size y first count 0 0 in
     omega arith
-template_in_room y (instructions.CallBuiltIn function first) few = let a = clear_size in
+template_in_room y (instructions.CallBuiltIn function first) few near = let a = clear_size in
     let b = called_size y (Temporary first) first 5 0 in omega arith
-template_in_room y (instructions.CallFinally funclet) few = finally_size 0 0
-template_in_room y (instructions.LocalUnwind label) few = unwind_size 0 0 0
-template_in_room y instructions.Separator few = let e = nothing_size in omega arith
-template_in_room y (instructions.Return from) few =
+template_in_room y (instructions.CallFinally funclet) few near = finally_size 0 0
+template_in_room y (instructions.LocalUnwind label) few near = unwind_size 0 0 0
+template_in_room y instructions.Separator few near = let e = nothing_size in omega arith
+template_in_room y (instructions.Return from) few near =
     let a = fetch_size y Rax from in
-    let e = ending_size y.frame (y.frame == 0) in
+    let e = ending_if y (y.size == 0) refl near.1 in
     omega (arith, sizes_append (fetch y Rax from) (epilogue (plan_of_layout y 0)))

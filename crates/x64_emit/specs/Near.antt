@@ -1,5 +1,5 @@
 -- What an instruction of 32-bit displacements reaches.
-use Rattle.std.specs.Prelude.{ℕ, ◌+◌, ◌*◌, ◌^◌, ◌<◌, ◌≤◌, List, Option, Some, None}
+use Rattle.std.specs.Prelude.{◌≡◌, ℕ, ◌+◌, ◌*◌, ◌^◌, ◌<◌, ◌≤◌, ◌==◌, Bool, true, false, List, Option, Some, None}
 use Rattle.std.specs.List.{AllByRecursion}
 use Rattle.seh_num.specs.declared.limit.TheConstants.{MOST_PARAMETERS}
 use Rattle.seh_num.specs.declared.size.TheConstants.{EXCEPTION_MAXIMUM_PARAMETERS}
@@ -10,6 +10,8 @@ use Rattle.linear_code.specs.declared.slot.Slot.TheVariants.{Local, Temporary}
 use Rattle.linear_code.specs.declared.instruction.Instruction.{Instruction}
 use Rattle.linear_code.specs.declared.instruction.Instruction.TheVariants as instructions
 use Rattle.template_code.specs.declared.layout.Layout.{Layout}
+use Rattle.frame_layout.specs.declared.frame.FrameLayout.{FrameLayout}
+use Rattle.frame_layout.specs.Layout.{IsFrame}
 use Rattle.template_code.specs.Slots.{temporary_at, local_at}
 
 -- addresses in an image, relative to its base, and places in a frame are below 1 GiB (own), so that
@@ -33,13 +35,32 @@ abbrev pub IsSlotNear : Layout → Slot → Type 0
 IsSlotNear y (Temporary i) = IsNear (temporary_at y i)
 IsSlotNear y (Local i) = IsNear (local_at y i) × IsBaseNear y.base
 
+-- the frame of a layout
+abbrev pub frame_of_layout : Layout → FrameLayout
+frame_of_layout y = record {
+  kept = 0;
+  temporaries = y.temporaries;
+  locals = y.locals;
+  slots = y.slots;
+  saves = y.saves;
+  pushes = y.pushes;
+  framed = y.framed;
+  size = y.size;
+  depth = y.frame;
+}
+
 -- at most eight arguments, and at least the four temporaries from the first on
 pub record AreArgumentsNear (y : Layout) (first count : ℕ) : Type 0 where
   pub few : count ≤ MOST_PARAMETERS
   pub temporaries : IsNear (temporary_at y (first + MOST_PARAMETERS))
 
+-- no frame, or one whose epilogue can be emitted
+abbrev pub IsFrameIf : Layout → Bool → Type 0
+IsFrameIf y true = (y.pushes ≡ 0) × (y.saves ≡ 0) × (y.framed ≡ false)
+IsFrameIf y false = IsFrame (frame_of_layout y)
+
 abbrev pub IsFrameNear : Layout → Type 0
-IsFrameNear y = IsNear y.frame
+IsFrameNear y = IsFrameIf y (y.size == 0)
 
 -- so many parameters, in their locals and above the frame
 pub record AreParametersNear (y : Layout) (count : ℕ) : Type 0 where

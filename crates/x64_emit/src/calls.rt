@@ -1,7 +1,7 @@
 //! Jumps, calls and returns.
 
 ghost use Rattle.std.specs.Prelude.{◌≡◌, ◌+◌, ◌-◌, ◌<◌, ◌++◌, [], ◌∷◌, OnOk};
-ghost use Rattle.x64_emit.specs.Near.{near_end, IsNear, IsSlotNear, AreArgumentsNear, IsFrameNear, IsFieldNear, ArePointersNear};
+ghost use Rattle.x64_emit.specs.Near.{near_end, IsNear, IsSlotNear, AreArgumentsNear, IsFrameNear, frame_of_layout, IsFieldNear, ArePointersNear};
 ghost use Rattle.x64_encode.specs.Chosen.{IsEncodable};
 ghost use Rattle.linear_code.specs.declared.slot.Slot.TheVariants as slots;
 ghost use Rattle.frame_rules.specs.Plan as rules;
@@ -262,20 +262,19 @@ pub fn put_local_unwind(
     put(code, &call(at + 15, thunk))
 }
 
-/// The frame of a layout: it saves nothing, and has no frame register.
+/// The frame of a layout.
 fn frame_of(layout: &Layout) -> FrameLayout
-    ensures plan { plan_of result 0 ≡ plan_of_layout layout.now 0 }
-    ensures frame { IsFrameNear layout.now → 0 < layout.now.frame → IsFrame result }
+    ensures { result ≡ frame_of_layout layout.now }
 {
     FrameLayout {
         kept: 0,
         temporaries: layout.temporaries,
         locals: layout.locals,
-        slots: layout.frame,
-        saves: 0,
-        pushes: 0,
-        framed: false,
-        size: layout.frame,
+        slots: layout.slots,
+        saves: layout.saves,
+        pushes: layout.pushes,
+        framed: layout.framed,
+        size: layout.size,
         depth: layout.frame,
     }
 }
@@ -286,7 +285,7 @@ fn put_leaving(code: &mut Vec<u8>, layout: &Layout) -> Result<(), AllocError>
     ensures { OnOk result
         (Appended code.old (rules.epilogue (plan_of_layout layout.now 0)) code.new) }
 {
-    if layout.frame == 0 {
+    if layout.size == 0 {
         return put(code, &Instr::Return);
     }
     put_epilogue(code, &frame_of(layout))

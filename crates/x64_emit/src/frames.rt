@@ -7,19 +7,16 @@ ghost use Rattle.frame_rules.specs.Plan as rules;
 ghost use Rattle.frame_rules.specs.Bytes.{prologue_code};
 ghost use Rattle.frame_layout.specs.Layout.{IsFrame};
 ghost use Rattle.frame_layout.specs.Plans.{plan_of};
-ghost use Rattle.template_code.specs.Jumps.{distance};
+ghost use Rattle.template_code.specs.Frames.{probing};
 ghost use Rattle.template_code.specs.Bytes.{spelled};
 ghost use Rattle.x64_emit.specs.Appending.{Appended};
 ghost use Rattle.x64_emit.specs.Near.{IsNear};
 
 use crate::calls::distance;
 use crate::put::put;
-use frame_layout::{FrameLayout, epilogue, prologue};
+use frame_layout::{FrameLayout, epilogue, probe_end, prologue};
 use std::alloc::AllocError;
 use x64_instr::instruction::Instr;
-
-/// How far after a prologue's first byte the call of `__chkstk` ends, where there is one.
-const PROBE_END: u64 = 10;
 
 /// Adds the bytes of instructions.
 fn put_all(code: &mut Vec<u8>, instrs: &[Instr]) -> Result<(), AllocError>
@@ -44,9 +41,9 @@ pub fn put_prologue(
     requires check_stack { IsNear check_stack }
     ensures { OnOk result
         (Appended code.old
-        (prologue_code (plan_of frame.now (distance (at + 10) check_stack))) code.new) }
+        (prologue_code (probing (plan_of frame.now) at check_stack)) code.new) }
 {
-    let instrs = prologue(frame, distance(at + PROBE_END, check_stack));
+    let instrs = prologue(frame, distance(at + probe_end(frame), check_stack));
     put_all(code, instrs.as_slice())
 }
 

@@ -1,5 +1,5 @@
 -- Worked templates, computed down to bytes.
-use Rattle.std.proofs.Common.{◌≡◌, List, [], ◌∷◌, length, None, Some, refl}
+use Rattle.std.proofs.Common.{false, ◌≡◌, List, [], ◌∷◌, length, None, Some, refl}
 use Rattle.x64_templates.specs.Words.{modrm, spelled, Int, Signed, Local, Temporary, Instruction, Layout, size, compute_code, jump_code, template_size, offset_of}
 use Rattle.template_code.specs.declared.layout.TheConstants.{NO_REGISTERS}
 use Rattle.c_operations.specs.declared.operation.Pure.TheVariants as pures
@@ -17,6 +17,10 @@ function_layout = record {
   slots = 312;
   frame = 312;
   registers = NO_REGISTERS;
+  size = 312;
+  pushes = 0;
+  saves = 0;
+  framed = false;
 }
 
 block_layout : Layout
@@ -28,6 +32,10 @@ block_layout = record {
   slots = 152;
   frame = 152;
   registers = NO_REGISTERS;
+  size = 152;
+  pushes = 0;
+  saves = 0;
+  framed = false;
 }
 
 -- a function with two locals in registers, the first in RBX and the fourth in RSI

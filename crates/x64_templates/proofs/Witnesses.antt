@@ -23,6 +23,10 @@ function_place = record {
     slots = 192;
     frame = 200;
     registers = NO_REGISTERS;
+    size = 200;
+    pushes = 0;
+    saves = 0;
+    framed = false;
   };
   counts = counts;
   reserved = λ a. true;
@@ -41,6 +45,10 @@ block_place = record {
     slots = 192;
     frame = 200;
     registers = NO_REGISTERS;
+    size = 200;
+    pushes = 0;
+    saves = 0;
+    framed = false;
   };
   counts = counts;
   reserved = λ a. true;
