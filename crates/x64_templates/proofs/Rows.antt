@@ -48,6 +48,10 @@ register_layout = record {
   slots = 312;
   frame = 312;
   registers = Some 0 ∷ Some 3 ∷ None ∷ None ∷ None ∷ None ∷ None ∷ [];
+  size = 312;
+  pushes = 0;
+  saves = 0;
+  framed = false;
 }
 
 -- mov rax,rbx ; mov rcx,[rsp+264] ; add eax,ecx ; mov rsi,rax
