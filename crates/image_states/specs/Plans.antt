@@ -55,7 +55,18 @@ funclets_of program = funclets (tables.entries program)
 
 abbrev pub no_layout : Layout
 no_layout =
-    record { base = None; pointers = 0; locals = 0; temporaries = 0; slots = 0; frame = 0 }
+    record {
+      base = None;
+      pointers = 0;
+      locals = 0;
+      temporaries = 0;
+      slots = 0;
+      frame = 0;
+      size = 0;
+      pushes = 0;
+      saves = 0;
+      framed = false;
+    }
 
 abbrev pub nowhere : Placed
 nowhere =
