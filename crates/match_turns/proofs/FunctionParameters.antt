@@ -84,6 +84,10 @@ with_home y = record {
   locals = y.locals;
   slots = 40;
   frame = 40;
+  size = y.size;
+  pushes = y.pushes;
+  saves = y.saves;
+  framed = y.framed;
 }
 
 pub home_parameters : (y : Layout) (i n : ℕ) → i + n ≤ 4
@@ -208,7 +212,7 @@ module _ {setting : Setting} (at_call : AtCall setting) where
     pub turns : ℕ
     pub exact : turns ≡ making_steps (p.leaf (FunctionBody f)) (body_plan p q (FunctionBody f))
         + length (arguments_code program p (FunctionBody f))
-    pub soon : turns ≤ 8 + (count + (count - 4))
+    pub soon : turns ≤ 17 + (count + (count - 4))
     pub comes : Enters target (target + making_size p q (FunctionBody f)) turns at_callee state
     pub rip : state.cpu.rip ≡ p.address (FunctionBody f) 0
     pub stack : register state.cpu Rsp ≡ sp
