@@ -3,10 +3,11 @@ use Rattle.std.proofs.Common.{◌≡◌, ℕ, zero, suc, ◌+◌, ◌-◌, ◌^�
 use Rattle.std.specs.Prelude.{slice_get}
 use Rattle.std.specs.List.{AllByRecursion}
 use Rattle.image_states.specs.Words.{Memory, Rax, Instr, chosen, Entry, Functions, distance, entry_of, IsExecutableAt, Slot, Instruction, LinearBody, LinearProgram, BodyName, body_of, FrameLayout, Layout, spelled, size, sizes, offset_of, fetch, code_from, IsInstructionNear, IsFrameNear, argument_code, entry_size, routine_code, Placed, body_begin, end_of, site_of, image_base, template_at, links, begin_of, making_size, code_of, HasProgram, FindsReturn, FindsOwed, Owed, owed_after, owed_by, is_leaf, or_none, functions_of, funclets_of, routine_of, plan_of, sites_of, HasWholeImage, return_code, placed, probe_begin}
-use Rattle.template_code.specs.Frames.{frame_plan, plan_of_layout}
+use Rattle.template_code.specs.Frames.{frame_plan, plan_of_layout, probe_end}
 use Rattle.template_code.specs.Jumps as jumps
 use Rattle.frame_rules.specs.Plan.{FramePlan, Saved, epilogue, loads_then}
 use Rattle.frame_layout.specs.Plans as layouts
+use Rattle.frame_layout.proofs.Planned.{probe_end_few}
 use Rattle.image_states.proofs.Lemmas.{never_empty, sizes_append, template_sizes, entry_sizes, routine_small, some_same, none_some, entry_least, executable_split, code_split, IsTemplate, template_there, Inner, AllInner, inner_at, inner_role, fetch_inner, away, found_in, none_in, described, prologue_some, prologue_sizes, laid_plan, laid_epilogue, leaf_laid}
 use Rattle.linear_code.specs.declared.instruction.Instruction.TheVariants as instructions
 use Rattle.image_link.specs.Text as texts
@@ -148,10 +149,14 @@ module _ (program : LinearProgram) (c : HasWholeImage program) (name : BodyName)
         let s = small in
         let at = (place program c name b is).begin in
         let own = begin_of (plan_of program) (sites_of program) name in
-        let probe : jumps.distance (own + 10) (sites_of program).check_stack
-        ≡ framing.probe = omega arith in
-        laid_plan program index x f (jumps.distance (own + 10) (sites_of program).check_stack)
-        at_index framed ∙ ap (layouts.plan_of f) probe
+        let check = (sites_of program).check_stack in
+        let end = probe_end (layouts.plan_of f 0) in
+        let few = probe_end_few f near.0.pushes in
+        let probe : jumps.distance (own + end) check ≡ framing.probe = omega arith in
+        ap (λ q. plan_of_layout y (jumps.distance (own + probe_end q) check))
+        (laid_plan program index x f 0 at_index framed)
+        ∙ laid_plan program index x f (jumps.distance (own + end) check) at_index framed
+        ∙ ap (layouts.plan_of f) probe
 
     -- while the frame is made
     pub making_at : (d : ℕ) → d < e.info.prologue_size
@@ -206,7 +211,7 @@ module _ (program : LinearProgram) (c : HasWholeImage program) (name : BodyName)
       let room = h.room in
       ap sizes (frame_same x.routine.frame y x.begin check
       (begin_of (plan_of program) (sites_of program) name) (sites_of program).check_stack
-      (λ f framed probe. laid_plan program index x f probe at_index framed)
+      h.near.frame (λ f framed probe. laid_plan program index x f probe at_index framed)
       (place program c name b is).begin refl (omega arith))
 
   entry_is : sizes making + sizes arguments ≡ entry_size x.routine

@@ -2,7 +2,7 @@
 use Rattle.std.proofs.Common.{◌≡◌, ℕ, zero, suc, ◌+◌, ◌^◌, ◌<◌, ◌==◌, Bool, true, false, not, List, [], ◌∷◌, ◌++◌, get_or, Option, Some, None, refl, sym, ap, subst, ◌∙◌, arith}
 use Rattle.std.specs.Prelude.{slice_get, ◌&&◌}
 use Rattle.std.proofs.lemmas.Option.{slice_get_within, get_or_from_slice_get, slice_get-get_or}
-use Rattle.image_states.specs.Words.{Instruction, FuncletKind, Filter, Finally, LinearBody, LinearFunction, LinearFunclet, LinearProgram, BodyName, FunctionBody, FuncletBody, function_body, funclet_body, body_of, FrameLayout, Layout, template_size, body_size, offset_of, code_from, address_or, RoutineView, leaf_if, funclet_frame, nothing, funclet, argument_code, own_addresses, routine_code, text_begin, linked, Placed, body_begin, site_of, image_base, links, links_of, begin_of, entry_code, code_of, is_leaf, routine_of, address_of, plan_of, sites_of, HasWholeImage, parameters_code, FitsFunclet, kept_by, HasParent, frame_code, parent_base, keep_base, keep_argument, function_arguments, funclet_arguments, probe_begin}
+use Rattle.image_states.specs.Words.{Instruction, FuncletKind, Filter, Finally, LinearBody, LinearFunction, LinearFunclet, LinearProgram, BodyName, FunctionBody, FuncletBody, function_body, funclet_body, body_of, FrameLayout, Layout, template_size, body_size, offset_of, code_from, address_or, RoutineView, leaf_if, funclet_frame, nothing, funclet, argument_code, own_addresses, routine_code, text_begin, linked, IsFrameNear, Placed, body_begin, site_of, image_base, links, links_of, begin_of, entry_code, code_of, is_leaf, routine_of, address_of, plan_of, sites_of, HasWholeImage, parameters_code, FitsFunclet, kept_by, HasParent, frame_code, parent_base, keep_base, keep_argument, function_arguments, funclet_arguments, probe_begin}
 use Rattle.frame_rules.specs.Bytes.{prologue_code}
 use Rattle.image_states.proofs.Lemmas.{all_at, entry_small, none_some, IsThere, laid_plan}
 use Rattle.template_code.specs.Jumps.{distance}
@@ -11,8 +11,9 @@ use Rattle.x64_emit.specs.Entries as link_entries
 use Rattle.image_link.specs.Routines.{entry_of}
 use Rattle.image_link.specs.Routines as link
 use Rattle.image_link.specs.Text as texts
-use Rattle.template_code.specs.Frames.{plan_of_layout}
+use Rattle.template_code.specs.Frames.{plan_of_layout, probe_end, probing}
 use Rattle.frame_layout.specs.Plans as layouts
+use Rattle.frame_layout.proofs.Planned.{probe_end_few}
 use Rattle.match_bodies.specs.CodeSites.{arguments_code}
 use Rattle.image_states.proofs.Places.{is_function, is_funclet}
 use Rattle.image_states.proofs.Addresses.{place, here}
@@ -21,16 +22,20 @@ use Rattle.image_states.proofs.Shifts.{AreMoved, code_moved}
 -- ---- frames
 
 -- where the layout's plan is the frame's
-pub frame_same : (o : Option FrameLayout) (y : Layout) (at check at' check' : ℕ)
+pub frame_same : (o : Option FrameLayout) (y : Layout) (at check at' check' : ℕ) → IsFrameNear o
     → ((f : FrameLayout) → o ≡ Some f → (probe : ℕ) → plan_of_layout y probe
     ≡ layouts.plan_of f probe) → at' ≡ image_base + at → check' ≡ image_base + check
-    → at + 10 < 2 ^ 48 → frame_code (plan_of_layout y (distance (at' + 10) check')) (is_leaf o)
+    → at + 14 < 2 ^ 48 → frame_code (probing (plan_of_layout y) at' check') (is_leaf o)
     ≡ texts.frame_code at check o
-frame_same None y at check at' check' laid e f lt = refl
-frame_same (Some g) y at check at' check' laid e f lt =
-    let away : distance (at' + 10) check' ≡ distance (at + 10) check = omega arith in
-    ap (λ probe. prologue_code (plan_of_layout y probe)) away
-    ∙ ap prologue_code (laid g refl (distance (at + 10) check))
+frame_same None y at check at' check' near laid e f lt = refl
+frame_same (Some g) y at check at' check' near laid e f lt =
+    let end = probe_end (layouts.plan_of g 0) in
+    let few = probe_end_few g near.0.pushes in
+    let away : distance (at' + end) check' ≡ distance (at + end) check = omega arith in
+    ap (λ q. prologue_code (plan_of_layout y (distance (at' + probe_end q) check')))
+    (laid g refl 0)
+    ∙ ap (λ probe. prologue_code (plan_of_layout y probe)) away
+    ∙ ap prologue_code (laid g refl (distance (at + end) check))
 
 -- ---- arguments
 
@@ -146,7 +151,7 @@ module _ (program : LinearProgram) (c : HasWholeImage program) (name : BodyName)
       let p = place program c name b is in
       let room = h.room in
       (λ i. frame_same x.routine.frame x.routine.layout x.begin check
-      (begin_of (plan_of program) (sites_of program) name) (sites_of program).check_stack
+      (begin_of (plan_of program) (sites_of program) name) (sites_of program).check_stack h.near.frame
       (λ f framed probe. laid_plan program p.index x f probe p.at framed) p.begin refl (omega arith)
       i ++ arguments_same program c name b is i)
 

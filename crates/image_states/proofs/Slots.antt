@@ -1,30 +1,48 @@
 -- Where the slots of each body are.
-use Rattle.std.proofs.Common.{◌≡◌, ℕ, ◌+◌, ◌^◌, ◌<◌, ◌≤◌, ◌==◌, Bool, true, false, not, length, Option, Some, None, refl, sym, ap, subst, ◌∙◌, arith}
+use Rattle.std.proofs.Common.{◌≡◌, ℕ, zero, suc, ◌+◌, ◌^◌, ◌<◌, ◌≤◌, ◌==◌, Bool, true, false, not, length, Option, Some, None, refl, sym, ap, subst, ◌∙◌, arith}
 use Rattle.std.specs.Prelude.{slice_get, ◌&&◌, nat_le}
 use Rattle.std.proofs.lemmas.Bool.{and_parts, and_right, leb-true}
 use Rattle.std.proofs.lemmas.Option.{slice_get_within, get_or_from_slice_get}
 use Rattle.image_states.specs.Words.{LinearBody, LinearFunction, LinearFunclet, LinearProgram, FunctionBody, FuncletBody, function_body, funclet_body, Layout, RoutineView, has_call, leaf_if, funclet_frame, funclet, no_function, is_leaf, routine_of, plan_of, HasWholeImage, ImagePlan, FitsBody, FitsFunction, function_frame, IsFuncletSized}
 use Rattle.image_link.specs.Routines as link
-use Rattle.template_code.specs.Frames.{plan_of_layout}
-use Rattle.match_bodies.proofs.FrameCode.{plan_allowed}
+use Rattle.frame_layout.specs.Layout.{IsFrame}
+use Rattle.frame_layout.specs.Plans as layouts
+use Rattle.frame_layout.specs.Plans.{pushes_of, saves_of}
+use Rattle.frame_layout.specs.declared.frame.FrameLayout.{FrameLayout}
+use Rattle.frame_layout.proofs.Frames.{parts, size_is, small as frame_small}
+use Rattle.frame_layout.proofs.Planned.{frames_are_planned}
+use Rattle.image_link.proofs.Nearness.{function_facts_fit}
 use Rattle.image_states.proofs.Lemmas.{all_at, some_same, none_some}
-use Rattle.match_bodies.specs.Layouts.{IsFramePlan, IsFuncletLayout, IsLayoutIf, IsLaidOut, AreLaidOut}
+use Rattle.match_bodies.specs.Layouts.{AreSavedAbove, IsFramePlan, IsFuncletLayout, IsLayoutIf, IsLaidOut, AreLaidOut}
 use Rattle.image_states.proofs.Places.{is_function, is_funclet}
 
--- the plan of a frame that saves nothing
-planned : (y : Layout) → y.slots ≤ y.frame → y.frame < 2 ^ 31
-    → IsFramePlan y (plan_of_layout y 0)
-planned y within small = record {
-  is_plan = record {
-    size = small;
-    distance = omega arith;
-    probe = refl;
-    allowed = plan_allowed y.frame 0;
-  };
-  slots = within;
-  saved = tt;
-  whole = omega arith;
-}
+-- what is saved by mov is above the slots
+saved_above : (at n : ℕ) → AreSavedAbove at (saves_of at n)
+saved_above at zero = tt
+saved_above at (suc n) = (omega arith, saved_above at n)
+
+saves_length : (at n : ℕ) → length (saves_of at n) ≡ n
+saves_length at zero = refl
+saves_length at (suc n) = let e = saves_length at n in omega arith
+
+pushes_few : (n : ℕ) (framed : Bool) → length (pushes_of n framed) ≤ n + 1
+pushes_few zero true = omega arith
+pushes_few zero false = omega arith
+pushes_few (suc n) framed = let e = pushes_few n framed in omega arith
+
+-- the plan of a frame
+planned : (f : FrameLayout) (y : Layout) → IsFrame f → y.slots ≡ f.slots → y.frame ≡ f.depth
+    → IsFramePlan y (layouts.plan_of f 0)
+planned f y h slots depth =
+    let saved = h.saved in
+    let size = size_is f 0 h in
+    record {
+      is_plan = frames_are_planned f 0 h refl;
+      slots = omega arith;
+      saved = subst (λ n. AreSavedAbove n (saves_of f.slots f.saves)) (sym slots)
+          (saved_above f.slots f.saves);
+      whole = omega arith;
+    }
 
 -- ---- functions
 
@@ -46,18 +64,25 @@ module _ (program : LinearProgram) (p : ImagePlan) where
     locals = refl;
     temporaries = refl;
     few = few refl;
+    plan = refl;
   }
   function_by false fn fits few =
-      let w = fits.words in
+      let f = function_frame fn.body in
+      let facts = link.function_facts fn.body in
+      let fit = function_facts_fit fn.body fits in
+      let h = parts facts fit in
+      let saved = h.saved in
+      let depth = h.depth in
       record {
         none = refl;
         passed = omega arith;
         temporaries = omega arith;
         locals = omega arith;
         within = omega arith;
-        small = omega arith;
-        plan = planned (leaf_if false fn).layout (omega arith) (omega arith);
-        few = omega arith;
+        small = frame_small facts fit;
+        plan = planned f (leaf_if false fn).layout h refl refl;
+        few = let a = pushes_few f.pushes f.framed in let b = saves_length f.slots f.saves in
+            let c = h.pushes in let d = h.saves in omega arith;
       }
 
 -- ---- funclets
@@ -81,7 +106,8 @@ funclet_by program fl fn y e same few =
       within = omega arith;
       locals = locals;
       small = omega arith;
-      plan = planned (funclet program fl).layout (omega arith) (omega arith);
+      plan = planned (funclet_frame fl.body) (funclet program fl).layout
+          (parts (link.funclet_facts fl.body) (record { registers = omega arith; words = omega arith })) refl refl;
       bare = refl;
     }
 

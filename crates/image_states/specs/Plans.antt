@@ -64,6 +64,10 @@ no_layout =
       slots = 0;
       frame = 0;
       registers = NO_REGISTERS;
+      size = 0;
+      pushes = 0;
+      saves = 0;
+      framed = false;
     }
 
 abbrev pub nowhere : Placed

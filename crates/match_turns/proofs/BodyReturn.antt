@@ -15,11 +15,11 @@ use Rattle.template_code.specs.Places.{place_of}
 use Rattle.x64_templates.specs.Runs.{Reaches}
 use Rattle.linear_code.specs.declared.instruction.Instruction.TheVariants as instructions
 use Rattle.match_turns.proofs.Lemmas.{body_owed, owed_return, number_small, fetch_fine, return_run, reaches_steps, may_read_written, word_is, reaches_keeps, stays_well_formed, IsCounted, sp_low, frame_top, room_here, holds_here, slots_here, v, frame, slots, same_state, template_here, has_slots, sp_is}
-use Rattle.match_bodies.proofs.FrameCode.{plan_allowed, epilogue_count}
+use Rattle.match_bodies.proofs.FrameCode.{epilogue_count}
 use Rattle.match_bodies.proofs.PrologueSteps.{of_codes, fits, holds, old as before}
 use Rattle.match_bodies.proofs.StackTop.{leaf_layout}
 use Rattle.match_bodies.proofs.RoutineWalks.{Beneath}
-use Rattle.match_bodies.proofs.BodyFrames.{ending_few}
+use Rattle.match_bodies.proofs.BodyFrames.{ending_few, frame_plan_is}
 use Rattle.match_bodies.proofs.ReturnKeeping.{LeavesBody, fetch_plain, returns_leave}
 use Rattle.match_turns.proofs.ReturnAddressPlace.{top_of, begins_beneath}
 
@@ -45,6 +45,10 @@ returns_within y x n le =
     let b = fetched_soon y x in
     let c = (epilogue_count (plan_of_layout y 0)).0 in
     (omega arith, omega arith)
+
+-- the plan of a leaf function keeps the rules
+none_plan : IsPlan (frame_plan 0 0)
+none_plan = record { size = omega arith; distance = omega arith; probe = refl; allowed = refl }
 
 module _ (setting : Setting) (roomy : HaveRoom setting.program) where
   open setting use {functions as t, funclets as fs, program, plan as p, sites as q, image}
@@ -106,6 +110,12 @@ module _ (setting : Setting) (roomy : HaveRoom setting.program) where
     abbrev plan : FramePlan
     plan = plan_of_layout layout 0
 
+    abbrev f : ℕ
+    f = plan.frame
+
+    abbrev offset : ℕ
+    offset = plan.distance
+
     abbrev top : ℕ
     top = top_of setting s c b counted
 
@@ -113,18 +123,18 @@ module _ (setting : Setting) (roomy : HaveRoom setting.program) where
     top_low = let t' = frame_top setting s c b counted in omega arith
 
     abbrev old : ℕ → ℕ
-    old = before t fs 0 0 top (top + 8) back b.body.others b.body.is
+    old = before t fs f offset top (top + 8) back b.body.others b.body.is
 
-    owed_planned : owed_of p c.frame.body ≡ of_codes 0 0 (operations_of plan)
+    owed_planned : owed_of p c.frame.body ≡ of_codes f offset (operations_of plan)
     owed_planned = by (p.leaf c.frame.body) refl
       where
         by : (leaf : Bool) → p.leaf c.frame.body ≡ leaf
-            → owed_of p c.frame.body ≡ of_codes 0 0 (operations_of plan)
+            → owed_of p c.frame.body ≡ of_codes f offset (operations_of plan)
         by true e =
             let none = (leaf_layout t fs program p q c.frame.body b.body.slots.code e
-            (image.laid_out c.frame.body b.body.slots.code b.body.slots.body)).frame in
+            (image.laid_out c.frame.body b.body.slots.code b.body.slots.body)).plan in
             ap (owed_by (p.entry c.frame.body).info) e
-            ∙ ap (λ k. of_codes 0 0 (operations_of (frame_plan k 0))) (sym none)
+            ∙ ap (λ (k : FramePlan). of_codes k.frame k.distance (operations_of k)) (sym none)
         by false e =
             let h = image.plans c.frame.body b.body.slots.code b.body.slots.body e in
             let codes = ap operations h.codes ∙ codes_plan spell (body_plan p q c.frame.body) in
@@ -134,24 +144,23 @@ module _ (setting : Setting) (roomy : HaveRoom setting.program) where
               codes = codes j;
             })
 
-    frame_holds : HoldsFrame 0 0 s.memory old back (registers s) (operations_of plan)
+    is_plan : IsPlan plan
+    is_plan = by (p.leaf c.frame.body) refl
+      where
+        by : (leaf : Bool) → p.leaf c.frame.body ≡ leaf → IsPlan plan
+        by true e =
+            let none = (leaf_layout t fs program p q c.frame.body b.body.slots.code e
+            (image.laid_out c.frame.body b.body.slots.code b.body.slots.body)).plan in
+            subst IsPlan (sym none) none_plan
+        by false e =
+            (frame_plan_is setting c.frame.body b.body.slots.code b.body.slots.body e).is_plan
+
+    frame_holds : HoldsFrame f offset s.memory old back (registers s) (operations_of plan)
         (operations_of plan)
-    frame_holds = holds t fs 0 0 top (top + 8) back b.body.others b.body.is (omega arith)
+    frame_holds = holds t fs f offset top (top + 8) back b.body.others b.body.is is_plan.distance
         b.body.small (let l = top_low in omega arith) s (operations_of plan)
         (subst (λ o. Beneath t s o top (top + 8) back b.body.others b.body.is) owed_planned
         (begins_beneath setting s c b counted))
-
-    is_plan : IsPlan plan
-    is_plan = record {
-      size =
-          let high = frame_top setting s c b counted in
-          let low = sp_low setting s c b counted in
-          let z : layout.frame < 2 ^ 31 = omega arith in
-          z;
-      distance = omega arith;
-      probe = refl;
-      allowed = plan_allowed layout.frame 0;
-    }
 
     -- ---- the state after it
 
@@ -159,9 +168,9 @@ module _ (setting : Setting) (roomy : HaveRoom setting.program) where
     run = return_run (frame setting roomy s c b counted) from view old back s.cpu.rip s.cpu.flags
         (slots setting roomy s c b counted) (room_here setting s c b counted) is_there
         (sp_is setting roomy s c b counted) (holds_here setting s c b counted) is_plan top_low
-        (fits t fs 0 0 top (top + 8) back b.body.others b.body.is (omega arith) b.body.small
+        (fits t fs f offset top (top + 8) back b.body.others b.body.is is_plan.distance b.body.small
         (let l = top_low in omega arith))
-        (subst (λ (x : State). HoldsFrame 0 0 x.memory old back (registers x) (operations_of plan)
+        (subst (λ (x : State). HoldsFrame f offset x.memory old back (registers x) (operations_of plan)
         (operations_of plan)) (same_state setting roomy s c b counted) frame_holds)
         (template_here setting roomy s c b counted (instructions.Return from) at)
 

@@ -6,6 +6,7 @@ use Rattle.std.proofs.lemmas.Bool.{cases_lt, lt-ltb}
 use Rattle.std.proofs.lemmas.Option.{slice_get_within}
 use Rattle.std.proofs.lemmas.List.{append-nil, length-drop, length-take}
 use Rattle.match_turns.specs.Words.{STACK_START, STACK_END, Memory, may_write, number_at, Protection, Rsp, Instr, State, register, distance, arrivals, Temporary, LinearBody, FunctionBody, body_of, Waits, Configuration, instruction_in, waiting, Layout, sizes, put_back, keep, temporary_at, IsNear, call, return_at, passing_code, parameters_code, passing_call_code, context_below, home_end, HoldsWords, return_of, ReturnsTo, On, AllKeep, Comes, function_arguments, FindsReturn, IsLayoutIf, turns_left, slots_end, KeepsStackBut, begun, LARGEST_FRAME, Setting, IsMachineMemory, IsResumed, RepresentsAt, arguments_code}
+use Rattle.match_turns.specs.CallOutcome.{turns_per_call}
 use Rattle.lowering_invariants.specs.SmallNumbers.{AreSmall}
 use Rattle.linear_code.specs.declared.instruction.Instruction.TheVariants as instructions
 use Rattle.match_turns.proofs.Lemmas.{sizes_append, call_size, comes_then, others_of, StepsTo, reaches_steps, enters_steps, AllPlain, plain_both, arguments_plain, passing_plain, parameters_plain, EntryRan, entry_ran, calls_keep, CalleeBegins, small_others as small_registers, frame_from, reaches_silently, enters_silently, none_inside, program_reaches, locals_count, KeepsImage, Keeps, keeps_then, enters_keeps, stays_well_formed, stack_is_reserved, room_here, slots_here, may_read_written, word_of}
@@ -308,7 +309,7 @@ module _ {setting : Setting} (at_call : AtCall setting) where
   callee_begins = begun f (arguments ++ others) c.frame.held (Waits (waiting c first).frame ∷
       c.below) c.store.memory c.store.activations c.events
 
-  pub soon : turns + turns_left callee_begins ≤ 16 + turns_left c
+  pub soon : turns + turns_left callee_begins ≤ turns_per_call + turns_left c
   unfolding turns
   soon =
       let a = inside.soon in

@@ -8,8 +8,7 @@ use Rattle.x64_instr.specs.declared.operand.RegisterOrMemory.TheVariants as plac
 use Rattle.x64_instr.specs.declared.operand.Operand.TheVariants as operands
 use Rattle.x64_instr.specs.declared.instruction.Operation.TheVariants as operations
 use Rattle.x64_instr.specs.declared.instruction.Instr.TheVariants as instrs
-use Rattle.match_bodies.proofs.BodyFrames.{framed_some}
-use Rattle.match_bodies.proofs.FrameCode.{made_small}
+use Rattle.match_bodies.proofs.FrameCode.{funclet_bare, made_small}
 use Rattle.match_turns.proofs.Lemmas.{longest, bytes_split, spells, reads, code_split, near}
 
 -- the first instruction of code that is somewhere is read there
@@ -57,8 +56,8 @@ module _ (setting : Setting) where
       let i = instrs.Arithmetic operations.Sub W64 (places.Register Rsp)
       (operands.Immediate y.frame) in
       let made : HasCode m (p.funclet k) (i ∷ []) = subst (HasCode m (p.funclet k))
-      (made_small y.frame (body_plan p q name).probe (p.leaf name) plan.framed
-      (framed_some setting name f.body is plan.framed) small)
+      (made_small y (body_plan p q name).probe (p.leaf name) plan.framed
+      (funclet_bare y _ f.body plan.layout))
       frame.0 in
       never_both i j (length (chosen i)) (length (chosen j))
       (sym (reads_first m (p.funclet k) i (near y.frame (omega arith)) made)

@@ -6,8 +6,7 @@ use Rattle.frame_rules.specs.Bytes.{prologue_code}
 use Rattle.frame_rules.specs.Plan.{FramePlan}
 use Rattle.frame_rules.specs.States.{IsEntry}
 use Rattle.x64_templates.specs.Prologues.{prologue_turns}
-use Rattle.match_bodies.proofs.BodyFrames.{framed_some}
-use Rattle.match_bodies.proofs.FrameCode.{plan_depth, plan_turns, plan_unstored}
+use Rattle.match_bodies.proofs.FrameCode.{IsBare, bare_turns, bare_unstored, funclet_bare, plan_depth}
 use Rattle.match_bodies.proofs.PlannedPrologues.{body_planned, body_probed}
 use Rattle.match_bodies.proofs.PrologueSteps.{small_at}
 use Rattle.match_turns.proofs.Lemmas.{sizes_append, code_split, Within, within_keeps_code, in_stack, activations_are_at, is_machine, may_read_written}
@@ -35,6 +34,9 @@ module _ (setting : Setting) where
 
     abbrev pub plan : FramePlan
     plan = body_plan p q (FuncletBody k)
+
+    pub bare : IsBare y
+    bare = funclet_bare y _ l.funclet.body l.plan.layout
 
     -- its prologue's end
     abbrev pub begun : ℕ
@@ -190,7 +192,7 @@ module _ (setting : Setting) where
         (l.plan.layout.slot) a.reaches.base (p.funclet k) s.cpu.flags
         (body_planned setting (FuncletBody k) l.funclet.body (is k l) some l.plan.framed)
         (plan_depth (plan k l) frame l.plan.layout.plan.whole)
-        (plan_unstored frame (plan k l).probe l.plan.layout.small) begins
+        (bare_unstored (y k l) (plan k l).probe (bare k l)) begins
         (body_probed setting (FuncletBody k) l.funclet.body (is k l) some)
         memory.code.check_stack room base_small leads
         (entry_codes k l s.memory memory.code).0
@@ -202,8 +204,7 @@ module _ (setting : Setting) where
 
     few_turns : prologue_turns (plan k l) + length (base_code k l) ≤ 3
     few_turns =
-        let some' = framed_some setting (FuncletBody k) l.funclet.body (is k l) l.plan.framed in
-        let one = plan_turns frame (plan k l).probe some' l.plan.layout.small in
+        let one = bare_turns (y k l) (plan k l).probe (bare k l) in
         let two = base_length (parent_base p l.funclet.parent) l.plan.layout.slot in
         omega arith
 

@@ -222,7 +222,7 @@ module _ {setting : Setting} (at_call : AtCall setting) where
     pub turns : ℕ
     pub exact : turns ≡ making_steps (p.leaf (FunctionBody f)) (body_plan p q (FunctionBody f))
         + length (arguments_code program p (FunctionBody f))
-    pub soon : turns ≤ 8 + (count + (count - 4))
+    pub soon : turns ≤ 17 + (count + (count - 4))
     pub comes : Enters target (target + making_size p q (FunctionBody f)) turns at_callee state
     pub rip : state.cpu.rip ≡ p.address (FunctionBody f) 0
     pub stack : register state.cpu Rsp ≡ sp

@@ -16,7 +16,7 @@ use Rattle.match_turns.proofs.Lemmas.{is_machine}
 -- most in the frame
 pub record Made (v : MachineView) (target to : ℕ) (f : Flags) (top sp : ℕ) (arguments : ℕ → ℕ)
     (n : ℕ) : Type 0 where
-  pub few : n ≤ 8
+  pub few : n ≤ 17
   pub after : MachineView
   pub flags : Flags
   pub comes : Enters target to n (machine v target f) (machine after to flags)
@@ -81,7 +81,7 @@ module _ (v : MachineView) (target : ℕ) (f : Flags) (top : ℕ) (arguments : �
   }
 
   -- where its codes lead so far down
-  pub planned_frame : (p : FramePlan) (check frame : ℕ) → IsPlan p → prologue_turns p ≤ 8
+  pub planned_frame : (p : FramePlan) (check frame : ℕ) → IsPlan p → prologue_turns p ≤ 17
       → depth (operations_of p) ≡ frame → IsEntry frame (machine v target f)
       → HasCode v.memory target (prologue_code p)
       → AreProbed p check target (turned [] (operations_of p))
