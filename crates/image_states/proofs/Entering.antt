@@ -151,7 +151,8 @@ module _ (program : LinearProgram) (c : HasWholeImage program) (name : BodyName)
       let p = place program c name b is in
       let room = h.room in
       (λ i. frame_same x.routine.frame x.routine.layout x.begin check
-      (begin_of (plan_of program) (sites_of program) name) (sites_of program).check_stack h.near.frame
+      (begin_of (plan_of program) (sites_of program) name) (sites_of program).check_stack
+      h.near.frame
       (λ f framed probe. laid_plan program p.index x f probe p.at framed) p.begin refl (omega arith)
       i ++ arguments_same program c name b is i)
 

@@ -107,7 +107,9 @@ funclet_by program fl fn y e same few =
       locals = locals;
       small = omega arith;
       plan = planned (funclet_frame fl.body) (funclet program fl).layout
-          (parts (link.funclet_facts fl.body) (record { registers = omega arith; words = omega arith })) refl refl;
+          (parts (link.funclet_facts fl.body)
+          (record { registers = omega arith; words = omega arith }))
+          refl refl;
       bare = refl;
     }
 

@@ -134,9 +134,6 @@ module _ (setting : Setting) where
         by (FunctionBody f) h = by_leaf (p.layout (FunctionBody f)) (p.leaf (FunctionBody f)) h
         by (FuncletBody k) h = h.layout.within
 
-    pub framed_some : p.leaf name ≡ false → 0 < (p.layout name).frame
-    framed_some e = let some = slots_some e in let within = slots_within in omega arith
-
     abbrev framing : FramePlan
     framing = body_plan p q name
 

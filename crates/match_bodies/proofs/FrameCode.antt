@@ -148,7 +148,8 @@ pub few_turns : (f : FramePlan) → prologue_turns f ≤ saved_count f + 9
 few_turns f =
     let xs = allocation_then (not (f.size == 0)) f.size (pushed f.pushes) in
     let a = pushed_turns f.pushes in
-    let b = allocation_turns f.size (not (f.size == 0)) (nat_le f.size 4096) (pushed f.pushes) refl in
+    let b = allocation_turns f.size (not (f.size == 0)) (nat_le f.size 4096)
+    (pushed f.pushes) refl in
     let c = setting_turns (not (f.frame == 0)) xs in
     let d = saves_turns f.saves (frame_then (not (f.frame == 0)) xs) in
     let e = turned_turns [] (operations_of f) in

@@ -98,7 +98,8 @@ module _ (setting : Setting) where
         record {
           size = plan.size;
           distance = plan.distance;
-          probe = short (begin + probe_end (plan_of_layout (p.layout name) 0)) q.check_stack near_probe;
+          probe = short (begin + probe_end (plan_of_layout (p.layout name) 0)) q.check_stack
+              near_probe;
           allowed = plan.allowed;
         }
 

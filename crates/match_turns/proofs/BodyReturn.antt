@@ -170,7 +170,8 @@ module _ (setting : Setting) (roomy : HaveRoom setting.program) where
         (sp_is setting roomy s c b counted) (holds_here setting s c b counted) is_plan top_low
         (fits t fs f offset top (top + 8) back b.body.others b.body.is is_plan.distance b.body.small
         (let l = top_low in omega arith))
-        (subst (λ (x : State). HoldsFrame f offset x.memory old back (registers x) (operations_of plan)
+        (subst (λ (x : State). HoldsFrame f offset x.memory old back (registers x)
+        (operations_of plan)
         (operations_of plan)) (same_state setting roomy s c b counted) frame_holds)
         (template_here setting roomy s c b counted (instructions.Return from) at)
 

@@ -168,7 +168,8 @@ module _ {setting : Setting} (at_call : AtCall setting) where
         (entering.arguments at_call) (calling.called_sp at_call)
         (calling.in_registers at_call) plan q.check_stack frame
         (body_planned setting (FunctionBody f) o there some leaf)
-        (let few = l.few in let n = few_turns plan in omega arith) (plan_depth plan frame l.plan.whole) begins
+        (let few = l.few in let n = few_turns plan in omega arith)
+        (plan_depth plan frame l.plan.whole) begins
         (called_code target (prologue_code plan) (entry false leaf).making)
         (body_probed setting (FunctionBody f) o there some)
         (called_code q.check_stack check_stack b.memory.code.check_stack)

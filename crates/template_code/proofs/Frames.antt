@@ -3,7 +3,6 @@ use Rattle.std.proofs.Common.{◌≡◌, ℕ, ◌==◌, Bool, true, false, List,
 use Rattle.x64_instr.specs.declared.instruction.Instr.{Instr}
 use Rattle.x64_instr.specs.declared.instruction.Instr.TheVariants as instrs
 use Rattle.frame_rules.specs.Plan.{FramePlan, Saved, epilogue, load_of, loads_then, opening_by, opening_then, pops_then}
-use Rattle.template_code.specs.Frames.{frame_plan}
 
 -- ---- an epilogue calls nothing: it doesn't depend on where `__chkstk` is
 
@@ -29,9 +28,3 @@ epilogue_unprobed p k =
     let is = pops_then p.pushes (instrs.Return ∷ []) in
     loads_same p.saves (opening_then (probed p k) (p.size == 0) is)
     (opening_then p (p.size == 0) is) (ending_unprobed p k (p.size == 0) is)
-
--- ---- that of a frame that saves nothing
-
--- by whether it has no bytes
-abbrev pub ending_by : ℕ → ℕ → Bool → List Instr
-ending_by size probe none = opening_then (frame_plan size probe) none (instrs.Return ∷ [])

@@ -283,7 +283,8 @@ nothing_size = omega arith
 pub template_in_room : (y : Layout) (i : Instruction) → PassesFew i → IsInstructionNear y i
     → template_size y i ≤ instruction_room i
 unfolding template_size
-template_in_room y (instructions.Compute to o first second) few near = compute_size y to o first second
+template_in_room y (instructions.Compute to o first second) few near =
+    compute_size y to o first second
 template_in_room y (instructions.Information to field) few near =
     let a = fetched_size Rax Rsp y.pointers in
     let b = fetched_size Rax Rax 0 in
