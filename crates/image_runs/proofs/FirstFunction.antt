@@ -168,7 +168,7 @@ module _ (t : Functions) (fs : List Funclet) (program : LinearProgram) (p : Imag
       inside.comes entry_run.keeps
       h.memory.code silent_after)
 
-  pub soon : inside.turns ≤ 16
+  pub soon : inside.turns ≤ 25
   soon = inside.soon
 
   -- what the stack held is in the other locals

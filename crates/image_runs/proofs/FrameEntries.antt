@@ -9,7 +9,7 @@ use Rattle.frame_rules.specs.Plan.{FramePlan}
 use Rattle.frame_rules.specs.States.{IsEntry, registers}
 use Rattle.x64_templates.specs.Prologues.{prologue_turns}
 use Rattle.match_bodies.proofs.BodyViews.{is_machine}
-use Rattle.match_bodies.proofs.FrameCode.{few_turns, plan_depth, made_small}
+use Rattle.match_bodies.proofs.FrameCode.{few_turns, plan_depth}
 use Rattle.match_bodies.proofs.PlannedPrologues.{body_planned, body_probed}
 use Rattle.match_bodies.proofs.PrologueSteps.{small_at}
 use Rattle.image_runs.proofs.Lemmas.{may_read_written, with_home, home_parameters, Made, no_frame, planned_frame, making_steps}
@@ -148,8 +148,8 @@ module _ (t : Functions) (fs : List Funclet) (program : LinearProgram) (p : Imag
         (entering.view_stack t fs program p q image s source f fn top arguments h)
         h.registers plan q.check_stack frame (body_planned setting (FunctionBody f) o there some
         leaf)
-        (few_turns frame plan.probe) (plan_depth plan frame l.plan.whole) begins
-        (entry false leaf).making
+        (let few = l.few in let n = few_turns plan in omega arith)
+        (plan_depth plan frame l.plan.whole) begins (entry false leaf).making
         (body_probed setting (FunctionBody f) o there some) h.memory.code.check_stack
 
     framed_entered : Goal

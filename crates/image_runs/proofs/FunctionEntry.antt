@@ -79,7 +79,7 @@ module _ (t : Functions) (fs : List Funclet) (program : LinearProgram) (p : Imag
     pub turns : ℕ
     pub exact : turns ≡ making_steps (p.leaf (FunctionBody f)) (body_plan p q (FunctionBody f))
         + length (arguments_code program p (FunctionBody f))
-    pub soon : turns ≤ 16
+    pub soon : turns ≤ 25
     pub comes : Enters target (target + making_size p q (FunctionBody f)) turns first state
     pub rip : state.cpu.rip ≡ p.address (FunctionBody f) 0
     pub stack : register state.cpu Rsp ≡ sp

@@ -2,22 +2,25 @@
 -- image's file.
 use Rattle.std.proofs.Common.{◌≡◌, ℕ, suc, ◌+◌, ◌*◌, ◌%◌, ◌^◌, ◌<◌, Bool, true, false, cond, leb, List, [], ◌∷◌, ◌++◌, length, Option, Some, None, refl, sym, ap, subst, ◌∙◌, arith}
 use Rattle.std.specs.Prelude.{slice_get, is_some, count_by}
+use Rattle.std.specs.List.{flat_map}
 use Rattle.std.proofs.lemmas.Bool.{false≢true}
 use Rattle.std.proofs.lemmas.List.Elements.{All-nil, All-cons, All-append}
 use Rattle.std.proofs.lemmas.List.Sums.{sum_by-cons}
 use Rattle.flat_memory.specs.Memory.{Memory}
 use Rattle.x64_encode.specs.Chosen.{modrm, opcode_register}
-use Rattle.eh_tables.specs.declared.code.UnwindOperation.{UnwindOperation}
+use Rattle.eh_tables.specs.declared.code.UnwindOperation.TheVariants.{Allocate}
+use Rattle.x64_instr.specs.declared.instruction.Instr.{Instr}
 use Rattle.eh_tables.specs.Tables.{Entry}
 use Rattle.linear_code.specs.Program.{LinearProgram}
 use Rattle.template_code.specs.Bytes.{spelled, size}
-use Rattle.template_code.specs.Jumps.{distance}
 use Rattle.template_code.specs.Probing.{check_stack}
 use Rattle.frame_rules.specs.Prologue.{items}
-use Rattle.frame_rules.specs.Plan.{allocating, spelled_by, steps_of, turned}
+use Rattle.frame_rules.specs.Plan.{allocating, instructions_of, operations_of, spelled_by, turned}
 use Rattle.frame_rules.specs.Bytes.{spell, IsExecutableAt}
 use Rattle.frame_layout.specs.declared.frame.FrameLayout.{FrameLayout}
-use Rattle.frame_layout.specs.Plans.{frame_distance_if}
+use Rattle.frame_layout.specs.Plans.{frame_distance_if, pushes_of}
+use Rattle.frame_layout.proofs.Planned.{probe_end_few}
+use Rattle.frame_layout.proofs.Steps.{executed, operations_executed, pushing, saving, setting}
 use Rattle.unwind_check.specs.Prologues.{has_bytes}
 use Rattle.unwind_check.specs.declared.rule.Verdict.TheVariants.{Yes}
 use Rattle.unwind_check.specs.Verdicts.{ImageCode, entry_in, IsKept, AllAreKept}
@@ -50,13 +53,13 @@ use Rattle.image_tables.specs.Functions.{plan, function_of}
 use Rattle.image_tables.specs.RoutinePlaces.{Placed, end_of, site_of, placed_from, infos_begin, placed, routines_begin, probe_begin}
 use Rattle.image_tables.specs.RegionRanges.{HasRegions}
 use Rattle.image_tables.proofs.CodeInMemory.{there}
-use Rattle.image_tables.proofs.FramePlans.{one_code, prologue_some}
-use Rattle.image_tables.proofs.Layouts.{plain}
+use Rattle.image_tables.proofs.FramePlans.{prologue_some, spelled_steps}
 use Rattle.image_tables.proofs.FrameRules.{sizes as frame_sizes, right, is_there}
 use Rattle.image_tables.proofs.ImageText.{images_have_text}
 use Rattle.image_tables.proofs.Prologues.{entry_least}
 use Rattle.image_tables.proofs.Table.{tables_are_read}
 use Rattle.seh.proofs.FrontThunks.{probe_after}
+use Rattle.seh.proofs.PlannedCalls.{Calls, pass_alone, pass_before, pushing_bytes, pushing_pass, last_pass}
 
 -- ---- the stack probe, after the thunks in the front of the text
 
@@ -104,7 +107,10 @@ module _ (p : LinearProgram) (fits : FitsProgram p) (b : IsBounded (image_of (li
 
   module _ (index : ℕ) (x : Placed) (f : FrameLayout) (framed : IsFramed p index x f) where
     abbrev away : ℕ
-    away = distance (x.begin + 10) (probe_begin p)
+    away = (plan p x f).probe
+
+    abbrev pushes_end : ℕ
+    pushes_end = x.begin + length (pushes_of f.pushes f.framed)
 
     end_low : end_of x < 2 ^ 32
     end_low =
@@ -113,29 +119,48 @@ module _ (p : LinearProgram) (fits : FitsProgram p) (b : IsBounded (image_of (li
         let small = routine_small x.routine h.near in
         omega arith
 
-    call_there : has_bytes (code_of image) ((x.begin + 5 + 5 + away) % 2 ^ 64) CHECK_STACK ≡ true
+    call_there : has_bytes (code_of image) ((pushes_end + 5 + 5 + away) % 2 ^ 64) CHECK_STACK
+        ≡ true
     call_there =
         let few = near.text in
+        let pushes = probe_end_few f (frame_sizes p index x f framed).0.pushes in
         let services = services_few p in
         let end = end_low in
-        let to : (x.begin + 5 + 5 + away) % 2 ^ 64 ≡ probe_begin p =
+        let to : (pushes_end + 5 + 5 + away) % 2 ^ 64 ≡ probe_begin p =
         omega arith in
         ap (λ (n : ℕ). has_bytes (code_of image) n CHECK_STACK) to ∙ probe_there
 
-    calls_by : (small : Bool)
-        → CallsProbe (code_of image) CHECK_STACK x.begin
-        (spelled_by spell (allocating away f.size small) ++ [])
+    abbrev OnlyProbe : ℕ → List Instr → Type 0
+    OnlyProbe at is = Calls (code_of image) CHECK_STACK at is
+
+    allocation_calls : (small : Bool) (rest : List Instr) → ((at : ℕ) → OnlyProbe at rest)
+        → OnlyProbe pushes_end (allocating away f.size small ++ rest)
     unfolding modrm opcode_register
-    calls_by true = (λ c. absurd (false≢true c), tt)
-    calls_by false =
-        (λ c. absurd (false≢true c), (λ c. call_there, (λ c. absurd (false≢true c), tt)))
+    allocation_calls true rest h = (λ c. absurd (false≢true c), h _)
+    allocation_calls false rest h =
+        (λ c. absurd (false≢true c), (λ c. call_there, (λ c. absurd (false≢true c), h _)))
+
+    -- after the pushes
+    prologue_calls : OnlyProbe x.begin (flat_map (instructions_of (plan p x f)) (executed f))
+    prologue_calls =
+        let q = plan p x f in
+        let first = pushing f.pushes f.framed in
+        let last = setting f.framed ++ saving f.slots f.saves in
+        let sizes = pushing_bytes q f.pushes f.framed (frame_sizes p index x f framed).0.pushes in
+        pass_before (code_of image) CHECK_STACK q x.begin first (Allocate f.size ∷ last)
+        (pushing_pass (code_of image) CHECK_STACK q f.pushes f.framed)
+        (subst (λ n. OnlyProbe (x.begin + n) (flat_map (instructions_of q) (Allocate f.size ∷ last)))
+        (sym sizes) (allocation_calls (leb f.size 4096) (flat_map (instructions_of q) last)
+        (λ at. pass_alone (code_of image) CHECK_STACK q at last
+        (last_pass (code_of image) CHECK_STACK q f.framed f.slots f.saves))))
 
     calls : CallsProbe (code_of image) CHECK_STACK x.begin (items (function_of p x f).steps)
     calls =
-        subst (λ (os : List UnwindOperation). CallsProbe (code_of image) CHECK_STACK x.begin
-        (items (steps_of spell (plan p x f) 0 (turned [] os))))
-        (sym (one_code f away (plain p index x f framed.there framed.framed)
-        (frame_sizes p index x f framed).0.some)) (calls_by (leb f.size 4096))
+        let q = plan p x f in
+        let order = operations_executed f q.probe (frame_sizes p index x f framed).0.some in
+        subst (CallsProbe (code_of image) CHECK_STACK x.begin)
+        ((λ i. spelled_by spell (flat_map (instructions_of q) (sym order i)))
+        ∙ spelled_steps q 0 (turned [] (operations_of q))) prologue_calls
 
     is_right : IsRightEntry (entry_in checked (entry_of (site_of p) x f)) (function_of p x f)
     is_right =

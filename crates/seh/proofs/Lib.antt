@@ -2,6 +2,7 @@ mod Lemmas
 pub mod Shown
 pub mod Inputs
 pub mod Images
+mod PlannedCalls
 pub mod CompiledEntries
 mod FrontThunks
 pub mod UncoveredRoutines
