@@ -149,7 +149,8 @@ module _ (p : LinearProgram) (fits : FitsProgram p) (b : IsBounded (image_of (li
         let sizes = pushing_bytes q f.pushes f.framed (frame_sizes p index x f framed).0.pushes in
         pass_before (code_of image) CHECK_STACK q x.begin first (Allocate f.size ∷ last)
         (pushing_pass (code_of image) CHECK_STACK q f.pushes f.framed)
-        (subst (λ n. OnlyProbe (x.begin + n) (flat_map (instructions_of q) (Allocate f.size ∷ last)))
+        (subst (λ n. OnlyProbe (x.begin + n)
+        (flat_map (instructions_of q) (Allocate f.size ∷ last)))
         (sym sizes) (allocation_calls (leb f.size 4096) (flat_map (instructions_of q) last)
         (λ at. pass_alone (code_of image) CHECK_STACK q at last
         (last_pass (code_of image) CHECK_STACK q f.framed f.slots f.saves))))
