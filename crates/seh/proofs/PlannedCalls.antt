@@ -52,9 +52,9 @@ module _ (m : Memory) (routine : List ℕ) where
 
     one_passes : (i : Instr) → is_call i ≡ false → (at : ℕ) (rest : List Instr)
         → Calls (at + bytes (spelled_by spell (i ∷ []))) rest → Calls at (i ∷ rest)
-    one_passes i no at rest h =
+    one_passes i plain at rest h =
         let e : at + bytes (spelled_by spell (i ∷ [])) ≡ at + (spell i).size = omega arith in
-        ((λ c. absurd (false≢true (sym no ∙ c))), subst (λ a. Calls a rest) e h)
+        ((λ c. absurd (false≢true (sym plain ∙ c))), subst (λ a. Calls a rest) e h)
 
     turned_pass : (done xs : List UnwindOperation) → Pass done → Pass xs → Pass (turned done xs)
     turned_pass done [] d h = d
