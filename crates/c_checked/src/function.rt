@@ -1,7 +1,16 @@
 //! Functions.
 
+ghost use Rattle.std.specs.Prelude.{◌≡◌};
+ghost use Rattle.c_checked.specs.Program.{surplus, function as function_view};
+
 use crate::statement::Stmt;
 use c_operations::operation::Size;
+
+/// A function with so many locals, parameters aside, weighs 1 (own).
+pub const LIGHT_LOCALS: u64 = 256;
+
+/// Beyond these it weighs 1 more for each so many that are begun (own).
+pub const LOCALS_BY_WEIGHT: u64 = 1024;
 
 /// A function definition (C11, 6.9.1). A parameter, a local and a result has the size of its
 /// numbers.
@@ -17,4 +26,13 @@ pub struct Function {
     pub returns: Option<Size>,
     /// The statements of its block.
     pub body: Vec<Stmt>,
+}
+
+impl Function {
+    /// What the function weighs above 1: an activation counts its weight in the depth.
+    pub fn surplus(&self) -> u64
+        ensures { result ≡ surplus (function_view self.now) }
+    {
+        (self.locals.len() as u64 + (LOCALS_BY_WEIGHT - 1 - LIGHT_LOCALS)) / LOCALS_BY_WEIGHT
+    }
 }

@@ -3,8 +3,7 @@ use Rattle.std.proofs.Common.{◌≡◌, ◌<◌, ◌≤◌, ℕ, zero, suc, ◌
 use Rattle.std.proofs.lemmas.List.{length-replicate}
 use Rattle.std.proofs.lemmas.Option.{slice_get_within}
 use Rattle.std.specs.Prelude.{◌-◌, Bool, false, take, replicate, get_or, slice_get, Option, Some, None}
-use Rattle.lowering_follows.specs.Words.{Filter, Always, Funclet, Program, Function, State, Value, Normal, Returned, Target, Outcome, Gives, Context, Handler, no_exception, all, ended_call, enter, within, Temporary, LinearProgram, LinearFunction, FunctionBody, Item, Waits, Store, with_some, deeper, regions_at, handlers_in, handlers, target_past, unwind, target_of, begin_function, exec, Names, LoweringContext, Nowhere, Jumps, statements_size, statements_notes, constant, own_locals, scope_of, statements_weight, HasAt, FunctionPlaced}
-use Rattle.source_meaning.specs.State.{with_activation, with_outermost}
+use Rattle.lowering_follows.specs.Words.{Filter, Always, Funclet, Program, Function, State, Value, Normal, Returned, Target, Outcome, Gives, Context, Handler, no_exception, all, ended_call, enter, within, Temporary, LinearProgram, LinearFunction, FunctionBody, Item, Waits, Store, with_some, deeper, regions_at, handlers_in, handlers, target_past, unwind, target_of, begin_function, exec, Names, LoweringContext, Nowhere, Jumps, statements_size, statements_notes, constant, own_locals, scope_of, statements_weight, HasAt, FunctionPlaced, with_activation, with_outermost, let_go_surplus}
 use Rattle.linear_code.specs.declared.instruction.Instruction.TheVariants as instructions
 use Rattle.linear_machine.specs.Frames as machine
 use Rattle.lowering_follows.proofs.Lemmas.{Part, at, Site, frame_of, conf, Picked, Ways, price, found, Reaches, Claim, value_ways, more, attains_out, reaches_after, reaches_more, stepped, first, fetch, sooner, deep_claim, prefix_self, handlers_below, leaves}
@@ -16,6 +15,7 @@ use Rattle.lowering_follows.proofs.TaskClaims.{pushed, Within, Around}
 use Rattle.lowering_follows.proofs.Raises.{unwound_is}
 use Rattle.lowering_follows.proofs.BodyClaims.{statement_ways, Stays, Surroundings, BodyRuns}
 use Rattle.lowering_follows.proofs.BodySequences.{all_runs}
+use Rattle.lowering_follows.proofs.LightFunctions.{enters_light, light_activation}
 
 -- ---- the locals of an activation that begins
 
@@ -136,7 +136,7 @@ module _ (program : Program) (linear : LinearProgram) (rate body : ℕ) where
     left s = record s { activations = take m s.activations }
 
     abbrev ended : State → State
-    ended st = with_outermost m st
+    ended st = with_outermost m (let_go_surplus 0 st)
 
     abbrev Kc : Kept
     Kc = Stays program linear rate body scope.names (shapes ++ new ∷ []) callee base'
@@ -195,7 +195,7 @@ module _ (program : Program) (linear : LinearProgram) (rate body : ℕ) where
         }) callee csite Kc done) o
         → Claim linear rate s st (price 2 0 x x)
         (value_ways (pushed context site (pc + 1) temps)
-        (Within program linear rate body shapes base) context site) (ended_call m o)
+        (Within program linear rate body shapes base) context site) (ended_call m 0 o)
     unfolding ended_call
     function_ends s st x done (Gives (Value v) mid) e has l1 l2 l3 label l4 a = absurd a
     function_ends s st x done (Gives Normal mid) e has l1 l2 l3 label l4 a =
@@ -204,7 +204,7 @@ module _ (program : Program) (linear : LinearProgram) (rate body : ℕ) where
         record {
           store = left a.store;
           fits = call_fits e mid a.store a.fits;
-          same = a.same;
+          same = omega (arith, a.same);
           reaches = reaches_after linear rate s (at c0)
               (pushed context site (pc + 1) temps 0 (ended mid) (left a.store)) st mid (ended mid) 0
               0
@@ -224,7 +224,7 @@ module _ (program : Program) (linear : LinearProgram) (rate body : ℕ) where
     function_ends s st x done (Gives (Returned v) mid) e has l1 l2 l3 label l4 a = record {
       store = left a.1.store;
       fits = call_fits e mid a.1.store a.1.fits;
-      same = a.1.same;
+      same = omega (arith, a.1.same);
       reaches = reaches_more linear rate s (pushed context site (pc + 1) temps v (ended mid)
           (left a.1.store)) st (ended mid) 0 0 x 2 0 x (omega arith) (omega arith)
           (ended_reaches s (pushed context site (pc + 1) temps v (ended mid) (left a.1.store)) st
@@ -367,29 +367,24 @@ module _ (program : Program) (linear : LinearProgram) (rate body : ℕ) where
         room = omega (arith, f.locals);
         plain = λ e. absurd (cc);
       } in
-      deep_claim linear rate 1 site.held store (at begins) st (price 3 0 body body) w
-      (λ st. ended_call (length st.frames) (all (within program n) fn.body
-      (record {
-        handlers = context.handlers;
-        activation = length st.frames;
-        exception = no_exception;
-        abnormal = false;
-      })
-      (with_activation k (vs ++ replicate (length fn.locals) 0) st))) deep
-      held
+      subst (λ o. Claim linear rate (λ next. deeper 1 site.held store st.events (next begins)) st
+      (price 3 0 body body) w o)
+      (sym (enters_light (within program n) k fn vs context f.no_surplus st))
+      (deep_claim linear rate 1 site.held store (at begins) st (price 3 0 body body) w
+      (light_activation (within program n) k fn vs context) deep held
       (subst (λ c. Claim linear rate (at c) st (price 3 0 body body) w
-      (ended_call m (all (within program n) fn.body inner st'))) here
+      (ended_call m 0 (all (within program n) fn.body inner st'))) here
       (let light = f.light in
       let quick = f.quick in
       more linear rate (at (conf inner csite 0 [] st' store')) st (price 3 0 x x)
-      (price 3 0 body body) w (ended_call m (all (within program n) fn.body inner st'))
+      (price 3 0 body body) w (ended_call m 0 (all (within program n) fn.body inner st'))
       (omega arith, omega arith, omega arith)
       (sooner linear rate (at (conf inner csite 0 [] st' store')) st st' (price 3 0 x x) w
-      (ended_call m (all (within program n) fn.body inner st')) refl
+      (ended_call m 0 (all (within program n) fn.body inner st')) refl
       (prefix_self st.events)
       (first linear rate (conf inner csite 0 [] st' store')
       (at (conf inner csite 1 [] st' store')) st' st' (price 2 0 x x) (price 3 0 x x) w
-      (ended_call m (all (within program n) fn.body inner st'))
+      (ended_call m 0 (all (within program n) fn.body inner st'))
       (omega arith, omega arith, omega arith) refl refl (prefix_self st.events)
       (λ j. fetch linear rate (conf inner csite 0 [] st' store') instructions.Separator j
       f.starts.0)
@@ -404,4 +399,4 @@ module _ (program : Program) (linear : LinearProgram) (rate body : ℕ) where
         push_alike shapes st.memory st.frames store new given locals alike kept.0,
         kept_itself (below_slot m (own_locals fn)) shapes' store',
         push_functions shapes new st.functions kept.2,
-      ) held))))))
+      ) held)))))))

@@ -14,6 +14,7 @@ use Rattle.lowering_follows.proofs.Segments.{IsSegmentAt, front, back, whole_is_
 use Rattle.lowering_follows.proofs.FuncletNumbers.{count_front, count_back}
 use Rattle.lowering_follows.proofs.Regions.{all_outside}
 use Rattle.lowering_follows.proofs.StatementPlaces.{Alike, code_is_at, place_all}
+use Rattle.lowering_follows.proofs.LightFunctions.{sound_is_light}
 use Rattle.lowering_follows.proofs.RegionCovers.{whole_cover, bare}
 use Rattle.lowering_follows.proofs.SoundStatements.{inside_function, knows_function}
 
@@ -127,6 +128,7 @@ module _ (program : Program) where
             (cover q (omega arith) (omega arith)));
         light = light;
         quick = omega arith;
+        no_surplus = sound_is_light program.functions fn g.sound;
       }
 
 pub lowered_is_linked : LoweredIsLinked

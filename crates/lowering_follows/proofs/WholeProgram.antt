@@ -8,6 +8,7 @@ use Rattle.lowering_follows.specs.Words.{W32, W64, signed, wrapped, Size, Progra
 use Rattle.source_meaning.specs.declared.ended.Ended.{Ended}
 use Rattle.source_meaning.specs.declared.ended.Ended.TheVariants.{Exit}
 use Rattle.source_meaning.specs.State.{deeper, with_activation}
+use Rattle.lowering_follows.proofs.LightFunctions.{enters_light}
 use Rattle.source_meaning.specs.Meaning as source
 use Rattle.source_meaning.proofs.RemainingSteps.{enters_within}
 use Rattle.linear_code.specs.declared.instruction.Instruction.TheVariants as instructions
@@ -164,7 +165,7 @@ module _ (program : Program) (linear : LinearProgram) (rate body : ℕ)
         (constant 0 0 ∷ instructions.Return (Temporary 0) ∷ [])
         → Claim linear rate s from (price 1 0 x x)
         (statement_ways program linear rate body (scope_of fn) inner csite kept done) o
-        → Done s from (ended_call 0 o)
+        → Done s from (ended_call 0 0 o)
     unfolding ended_call
     main_ends s from kept done (Gives Normal st) h p =
         let y = p.reaches.by (suc (suc zero)) in
@@ -186,7 +187,7 @@ module _ (program : Program) (linear : LinearProgram) (rate body : ℕ)
     main_ends s from kept done (Gives r st) h p = absurd p
 
     main_runs : (n : ℕ) → Done (at c0) (begun n)
-        (ended_call 0 (all (within program n) fn.body inner (begun n)))
+        (ended_call 0 0 (all (within program n) fn.body inner (begun n)))
     main_runs n =
         let new : Shape = record {
           function = program.main;
@@ -246,11 +247,12 @@ module _ (program : Program) (linear : LinearProgram) (rate body : ℕ)
 
     enters : (n : ℕ)
         → enter (within program n) program.main (Some fn) vs outside (source.start program n)
-        ≡ ended_call 0 (all (within program n) fn.body inner (begun n))
+        ≡ ended_call 0 0 (all (within program n) fn.body inner (begun n))
     unfolding deeper choose
-    enters n = refl
+    enters n = enters_light (within program n) program.main fn vs outside f.no_surplus
+        (source.start program n)
 
-    ran_is : (n : ℕ) → ran program arg n ≡ ended_call 0
+    ran_is : (n : ℕ) → ran program arg n ≡ ended_call 0 0
         (all (within program n) fn.body inner (begun n))
     ran_is n =
         ap (λ main. enter (does program) program.main main (source.main_arguments main arg) outside

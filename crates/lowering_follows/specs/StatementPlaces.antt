@@ -4,7 +4,7 @@ use Rattle.std.specs.Prelude.{◌≡◌, ◌<◌, ◌≤◌, ℕ, ◌+◌, ◌-�
 use Rattle.c_checked.specs.Expression.{Expression}
 use Rattle.c_checked.specs.Statement.{Declared, Filter, Always, Funclet, Statement, Declare, Block, Evaluate, If, IfElse, For, DoWhile, Break, Continue, Leave, TryExcept, TryFinally, Statements, Empty, Then}
 use Rattle.c_checked.specs.Statement as statements
-use Rattle.c_checked.specs.Program.{Program, Function}
+use Rattle.c_checked.specs.Program.{Program, Function, surplus}
 use Rattle.linear_code.specs.declared.slot.Slot.TheVariants.{Local, Temporary}
 use Rattle.linear_code.specs.declared.instruction.Instruction.TheVariants.{Jump, JumpIfZero, CallFinally, Landing, Separator, Return}
 use Rattle.linear_code.specs.declared.instruction.Instruction.TheVariants as instructions
@@ -262,6 +262,8 @@ module _ (program : Program) (linear : LinearProgram) (steps_per_turn body : ℕ
         (constant 0 0 ∷ instructions.Return (Temporary 0) ∷ [])
     pub light : statements_weight fn.body ≤ body
     pub quick : statements_weight fn.body + body + 4 ≤ steps_per_turn
+    -- linear code counts 1 in the depth for each activation
+    pub no_surplus : surplus fn ≡ 0
 
   -- each function is in the linear code, beside globals and a `main` that are the same
   pub record IsLinked : Type 0 where

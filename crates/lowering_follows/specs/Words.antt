@@ -12,7 +12,7 @@ pub use Rattle.c_operations.specs.declared.operation.Pure.{Pure}
 pub use Rattle.c_operations.specs.declared.operation.Size.{Size}
 pub use Rattle.c_operations.specs.declared.operation.Size.TheVariants.{Long, Int}
 pub use Rattle.c_checked.specs.Expression.{Expression, Arguments, Done, Next, Lvalue, Global, Indirection, Element, Local, Node, On}
-pub use Rattle.c_checked.specs.Program.{Program, Function}
+pub use Rattle.c_checked.specs.Program.{Program, Function, surplus}
 pub use Rattle.c_checked.specs.Sound.{count_up, are_sizes, funclets, function_sound, some_sizes, functions_sound, main_sound, TypingContext, is_number, size_after, unary_takes, takes, built_in_takes, constant_fits, amount_fits, change_fits, call_fits, lvalue_size, argument_sizes, expression_sound, node_sound, lvalue_sound, arguments_sound, Inside, optional_sound, test_sound, value_fits, declared_sound, all_declared_sound, result_sound, filter_sound, statement_sound, statements_sound, funclets_in, filter_funclet}
 pub use Rattle.c_checked.specs.Statement.{Statement, Statements, Empty, Then, Declared, Filter, Declare, Block, Evaluate, If, IfElse, For, DoWhile, Break, Continue, Leave, TryExcept, TryFinally, Return, Always, Funclet}
 pub use Rattle.c_checked.specs.declared.expression.Conversion.{Conversion}
@@ -23,11 +23,11 @@ pub use Rattle.source_meaning.specs.Laws.{IsPrefixOf}
 pub use Rattle.source_meaning.specs.Meaning.{within, perform, does, for_parameters, outside, ran, shows, meaning}
 pub use Rattle.source_meaning.specs.Raises.{raise_event, noncontinuable}
 pub use Rattle.source_meaning.specs.Source.{is_reserved, first_memory}
-pub use Rattle.source_meaning.specs.State.{State, Outcome, Normal, Target, Gives, emit, hold, let_go, Value, Broke, Continued, Exception, Returned, set_memory, LeftTry, End, Result}
+pub use Rattle.source_meaning.specs.State.{State, Outcome, Normal, Target, Gives, emit, hold, let_go, Value, Broke, Continued, Exception, Returned, set_memory, LeftTry, End, Result, with_activation, with_outermost, hold_surplus, let_go_surplus, count_steps}
 unfoldable pub use Rattle.source_meaning.specs.State.{with_value, and_then, choose}
 pub use Rattle.source_meaning.specs.Statements.{optional, declare, declare_each, statement, for_iteration, do_iteration}
 unfoldable pub use Rattle.source_meaning.specs.Statements.{landing, finally_after}
-pub use Rattle.source_meaning.specs.Tasks.{Context, Eval, Run, ForIteration, DoIteration, TryBody, RunFinally, Handler, Raise, Locate, Retry, RunFilter}
+pub use Rattle.source_meaning.specs.Tasks.{Context, Eval, Run, ForIteration, DoIteration, TryBody, RunFinally, Handler, Raise, Locate, Retry, RunFilter, Does}
 pub use Rattle.linear_code.specs.Program.{LinearProgram, LinearFunction, LinearFunclet, LinearBody}
 pub use Rattle.linear_code.specs.declared.instruction.Instruction.{Instruction}
 pub use Rattle.linear_code.specs.declared.instruction.Instruction.TheVariants.{Compute, Separator, LocalUnwind, JumpIfZero, Call, CallBuiltIn, CallFinally, Information, Jump, Landing}

@@ -2,7 +2,7 @@
 use Rattle.std.proofs.Common.{◌≡◌, ℕ, List, [], ◌∷◌, length, refl, sym, ap, ◌∙◌, Option, Some, None}
 use Rattle.std.specs.Prelude.{Bool, true, false, nat_eq, nat_lt, ◌^◌, reverse}
 use Rattle.std.proofs.lemmas.List.{length-reverse}
-use Rattle.source_machine.specs.Words.{Program, Expression, Statement, Statements, Ended, Deep, Exception, State, Result, Value, Normal, Continued, Target, End, Outcome, Gives, choose, with_value, and_then, emit, Handler, Does, ended_call, all, optional, in_loop, landing, finally_after, noncontinuable, search, W32, low, Place, context_at, OperandFrame, AssignmentFrame, StatementFrame, SequelFrame, BodyFrame, ContinuationFrame, Operand, Assignment, InStatement, Sequel, Body, EndsCall, Lands, Finishes, Plan, chosen, operand_plan, assignment_plan, evaluated, branch, answer_plan, in_statement_plan, sequel_plan, body_plan, Machine, follow, over, after_value, after_normal, after_body, left_call, target_landed, landed, finished, resumed, outside, given, unless_deep, below, operand_meaning, assignment_meaning, branch_meaning, in_statement_meaning, sequel_meaning, body_meaning, through, through_all, comes_to}
+use Rattle.source_machine.specs.Words.{Program, Expression, Statement, Statements, Ended, Deep, Exception, State, Result, Value, Normal, Continued, Target, End, Outcome, Gives, choose, with_value, and_then, emit, Handler, Does, ended_call, all, optional, in_loop, landing, finally_after, noncontinuable, search, W32, low, Place, context_at, OperandFrame, AssignmentFrame, StatementFrame, SequelFrame, BodyFrame, ContinuationFrame, Operand, Assignment, InStatement, Sequel, Body, EndsCall, Lands, Finishes, Plan, chosen, operand_plan, assignment_plan, evaluated, branch, answer_plan, in_statement_plan, sequel_plan, body_plan, Machine, follow, over, after_value, after_normal, after_body, left_call, target_landed, landed, finished, resumed, outside, given, unless_deep, unless_few, below, operand_meaning, assignment_meaning, branch_meaning, in_statement_meaning, sequel_meaning, body_meaning, through, through_all, comes_to}
 use Rattle.source_meaning.specs.Tasks as tasks
 use Rattle.seh_num.specs.declared.event.Event.TheVariants as events
 use Rattle.source_machine.specs.Frames as frames
@@ -41,6 +41,13 @@ module _ (program : Program) (d : Does) where
   unfolding choose
   deep_keeps true m other go e = over_keeps m (Some (Deep 1001))
   deep_keeps false m other go e = e
+
+  pub few_keeps : (b : Bool) (m other : Machine) (go : State → Outcome)
+      → comes other ≡ from m (go m.state)
+      → comes (unless_few b m other) ≡ from m (choose b (λ st. Gives (End None) st) go m.state)
+  unfolding choose
+  few_keeps true m other go e = over_keeps m None
+  few_keeps false m other go e = e
 
   -- ---- a plan that is chosen
 
@@ -159,11 +166,11 @@ module _ (program : Program) (d : Does) where
   loop_keeps m plan go h Continued = h
   loop_keeps m plan go h other = refl
 
-  call_keeps : (m : Machine) (n : ℕ) (how : Result)
-      → comes (left_call m n how) ≡ from m (ended_call n (Gives how m.state))
+  call_keeps : (m : Machine) (n s : ℕ) (how : Result)
+      → comes (left_call m n s how) ≡ from m (ended_call n s (Gives how m.state))
   unfolding ended_call
-  call_keeps m n (Value v) = refl
-  call_keeps m n other = refl
+  call_keeps m n s (Value v) = refl
+  call_keeps m n s other = refl
 
   target_keeps : (b : Bool) (m : Machine) (held : ℕ) (block : Statements) (p : Place) (to : ℕ)
       (exc : Exception)
@@ -209,7 +216,7 @@ module _ (program : Program) (d : Does) where
       normal_keeps m (sequel_plan f) (sequel_meaning program d m.handlers f) (sequel_keeps m f) how
   resumed_keeps m (Body f) how =
       loop_keeps m (body_plan f) (body_meaning program d m.handlers f) (body_keeps m f) how
-  resumed_keeps m (EndsCall n) how = call_keeps m n how
+  resumed_keeps m (EndsCall n s) how = call_keeps m n s how
   resumed_keeps m (Lands held block p) how = land_keeps m held block p how
   resumed_keeps m (Finishes k last p) how = finish_keeps m k last p how
 

@@ -1,8 +1,9 @@
 -- A run with fewer steps is the front of one with more; and where a run comes to.
-use Rattle.std.proofs.Common.{◌≡◌, ℕ, zero, suc, ◌+◌, ◌≤◌, ◌<◌, refl, sym, ap, ◌∙◌, subst, arith, inl, inr}
-use Rattle.std.specs.Prelude.{◌⊎◌, Bool, true, false, ◌&&◌, ℤ}
-use Rattle.std.proofs.lemmas.Bool.{cases_Bool}
-use Rattle.source_machine.specs.Words.{Program, Task, does, ran, Place, Next, Over, Start, Machine, step, done, started, comes_to, is_over, distance, first, after, is_raise, raises_inside, PlainBefore, OneRun, ComesToEnd, RaisesShow}
+use Rattle.std.proofs.Common.{◌≡◌, ℕ, zero, suc, ◌+◌, ◌-◌, ◌≤◌, ◌<◌, refl, sym, ap, ◌∙◌, subst, arith, inl, inr, List, Option, Some, None}
+use Rattle.std.specs.Prelude.{◌⊎◌, Bool, true, false, ◌&&◌, nat_lt, slice_get, ℤ}
+use Rattle.std.proofs.lemmas.Bool.{cases_Bool, cases_lt, lt-ltb, le-ltb}
+use Rattle.source_machine.specs.Words.{Program, Function, weight, surplus, Task, does, ran, Place, Next, Over, Start, Machine, step, done, started, entered, unless_deep, unless_few, is_deep, comes_to, is_over, distance, first, after, is_raise, raises_inside, PlainBefore, OneRun, ComesToEnd, RaisesShow}
+use Rattle.source_machine.specs.Frames as frames
 use Rattle.source_machine.proofs.StepDistance.{decreases}
 use Rattle.source_machine.proofs.WholeRuns.{all_keep}
 use Rattle.source_machine.proofs.StepsLeft.{with_left, alike}
@@ -40,6 +41,37 @@ starts m task p zero l k le = inr refl
 starts m task p (suc n) zero k le = absurd (omega arith)
 starts m task p (suc n) (suc l) k le = inl (record { left = l; is = refl; more = omega arith })
 
+-- ---- a function begins
+
+deep_ahead : (b : Bool) (m m' other other' : Machine) → Ahead other other'
+    → Ahead (unless_deep b m other) (unless_deep b m' other')
+deep_ahead true m m' other other' h = inr refl
+deep_ahead false m m' other other' h = h
+
+few_ahead : (n i j : ℕ) (m m' other other' : Machine) → i ≤ j → Ahead other other'
+    → Ahead (unless_few (nat_lt i n) m other) (unless_few (nat_lt j n) m' other')
+few_ahead n i j m m' other other' le h = by_test (cases_lt i n)
+  where
+    by_test : (i < n) ⊎ (n ≤ i)
+        → Ahead (unless_few (nat_lt i n) m other) (unless_few (nat_lt j n) m' other')
+    by_test (inl lt) =
+        subst (λ b. Ahead (unless_few b m other) (unless_few (nat_lt j n) m' other'))
+        (sym (lt-ltb i n lt)) (inr refl)
+    by_test (inr ge) =
+        let there : n ≤ j = omega arith in
+        subst (λ b. Ahead (unless_few b m other) (unless_few (nat_lt j n) m' other'))
+        (sym (le-ltb i n ge))
+        (subst (λ b. Ahead other (unless_few b m' other')) (sym (le-ltb j n there)) h)
+
+enters : (m : Machine) (number : ℕ) (f : Option Function) (vs : List ℕ) (l : ℕ)
+    → m.state.steps_left ≤ l
+    → Ahead (entered m number f vs) (entered (with_left l m) number f vs)
+enters m number None vs l le = inl (record { left = l; is = refl; more = le })
+enters m number (Some f) vs l le =
+    deep_ahead (is_deep m.state (weight f)) m (with_left l m) _ _
+    (few_ahead (surplus f) m.state.steps_left l m (with_left l m) _ _ le
+    (inl (record { left = l - surplus f; is = refl; more = omega arith })))
+
 same_left : (program : Program) (m : Machine) (next : Next) (l : ℕ) → m.state.steps_left ≤ l
     → done program (with_left l m) next ≡ with_left l (done program m next)
     → done program m next ≡ with_left m.state.steps_left (done program m next)
@@ -55,6 +87,8 @@ same_left program m next l le e kept =
 done_ahead : (program : Program) (m : Machine) (next : Next) (l : ℕ) → m.state.steps_left ≤ l
     → Ahead (done program m next) (done program (with_left l m) next)
 done_ahead program m (Start task p) l le = starts m task p m.state.steps_left l l le
+done_ahead program m (frames.Call (frames.Defined f) vs p) l le =
+    enters m f (slice_get program.functions f) vs l le
 done_ahead program m next l le = same_left program m next l le (alike l program m next)
     (alike m.state.steps_left program m next)
 

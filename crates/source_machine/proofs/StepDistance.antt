@@ -2,7 +2,7 @@
 use Rattle.std.proofs.Common.{◌≡◌, ℕ, zero, suc, ◌+◌, ◌*◌, ◌<◌, List, [], ◌∷◌, length, refl, arith}
 use Rattle.std.proofs.Common.{lit<, Option, Some, None}
 use Rattle.std.specs.Prelude.{Bool, true, false, nat_eq, nat_lt, slice_get, ◌^◌}
-use Rattle.source_machine.specs.Words.{W32, low, BuiltIn, Put, Protect, RaiseException, Walk, Operation, performed, Program, Function, Expression, On, Node, Lvalue, Local, Arguments, Done, Filter, Always, Funclet, Statement, Statements, Empty, Declared, is_reserved, Exception, Result, Value, Normal, Continued, LeftTry, Target, End, Handler, Task, Place, Callee, OperandFrame, AssignmentFrame, StatementFrame, SequelFrame, BodyFrame, ContinuationFrame, Operand, Assignment, InStatement, Sequel, Body, EndsCall, Lands, Finishes, Next, Over, Give, Start, Begin, Plan, Then, Push, chosen, node_plan, expression_plan, find_plan, pass_plan, operand_plan, assignment_plan, evaluated, branch, answer_plan, in_statement_plan, sequel_plan, body_plan, proceed_plan, declare_plan, statement_plan, Machine, follow, unless_deep, started, begun, fetched, put, operated, entered, built_in, called, declared, asked_by, asked, searched, target_landed, landed, finished, left_call, after_value, after_normal, after_body, resumed, given, outside, done, is_deep, with_local, is_over, operand_worth, assignment_worth, statement_worth, worth, all_worth, next_worth, distance, Decreases}
+use Rattle.source_machine.specs.Words.{W32, low, BuiltIn, Put, Protect, RaiseException, Walk, Operation, performed, Program, Function, weight, surplus, Expression, On, Node, Lvalue, Local, Arguments, Done, Filter, Always, Funclet, Statement, Statements, Empty, Declared, is_reserved, Exception, Result, Value, Normal, Continued, LeftTry, Target, End, Handler, Task, Place, Callee, OperandFrame, AssignmentFrame, StatementFrame, SequelFrame, BodyFrame, ContinuationFrame, Operand, Assignment, InStatement, Sequel, Body, EndsCall, Lands, Finishes, Next, Over, Give, Start, Begin, Plan, Then, Push, chosen, node_plan, expression_plan, find_plan, pass_plan, operand_plan, assignment_plan, evaluated, branch, answer_plan, in_statement_plan, sequel_plan, body_plan, proceed_plan, declare_plan, statement_plan, Machine, follow, unless_deep, unless_few, started, begun, fetched, put, operated, entered, built_in, called, declared, asked_by, asked, searched, target_landed, landed, finished, left_call, after_value, after_normal, after_body, resumed, given, outside, done, is_deep, with_local, is_over, operand_worth, assignment_worth, statement_worth, worth, all_worth, next_worth, distance, Decreases}
 use Rattle.c_operations.specs.Performed as performing
 use Rattle.c_checked.specs.Expression as nodes
 use Rattle.c_checked.specs.Expression.{Next as Another}
@@ -29,6 +29,11 @@ deeper : (c : Bool) (m other : Machine) (b : ℕ) → 0 < b → distance other <
     → distance (unless_deep c m other) < at_worth m b
 deeper true m other b lt le = omega arith
 deeper false m other b lt le = le
+
+fewer : (c : Bool) (m other : Machine) (b : ℕ) → 0 < b → distance other < at_worth m b
+    → distance (unless_few c m other) < at_worth m b
+fewer true m other b lt le = omega arith
+fewer false m other b lt le = le
 
 -- ---- plans
 
@@ -170,9 +175,10 @@ body_decreases m plan h Normal = followed m plan 23 h
 body_decreases m plan h Continued = followed m plan 23 h
 body_decreases m plan h how = omega arith
 
-call_decreases : (m : Machine) (n : ℕ) (how : Result) → distance (left_call m n how) < at_worth m 21
-call_decreases m n (End e) = omega arith
-call_decreases m n x = omega arith
+call_decreases : (m : Machine) (n s : ℕ) (how : Result)
+    → distance (left_call m n s how) < at_worth m 21
+call_decreases m n s (End e) = omega arith
+call_decreases m n s x = omega arith
 
 target_decreases : (c : Bool) (m : Machine) (held : ℕ) (block : Statements) (p : Place) (to : ℕ)
     (exc : Exception) → distance (target_landed m c held block p to exc) < at_worth m 22
@@ -217,7 +223,7 @@ resumed_decreases m (InStatement f) how =
     statement_more f = lit< tt
 resumed_decreases m (Sequel f) how = normal_decreases m (sequel_plan f) (sequel_plan_worth f) how
 resumed_decreases m (Body f) how = body_decreases m (body_plan f) (body_plan_worth f) how
-resumed_decreases m (EndsCall n) how = call_decreases m n how
+resumed_decreases m (EndsCall n s) how = call_decreases m n s how
 resumed_decreases m (Lands held block p) how = land_decreases m held block p how
 resumed_decreases m (Finishes k last p) how = finish_decreases m k last p how
 
@@ -275,7 +281,9 @@ operated_decreases m o a b p (performing.Undefined a') = omega arith
 entered_decreases : (m : Machine) (number : ℕ) (f : Option Function) (vs : List ℕ)
     → distance (entered m number f vs) < at_worth m 23
 entered_decreases m number None vs = omega arith
-entered_decreases m number (Some f) vs = deeper (is_deep m.state 1) m _ 23 (lit< tt) (omega arith)
+entered_decreases m number (Some f) vs =
+    deeper (is_deep m.state (weight f)) m _ 23 (lit< tt)
+    (fewer (nat_lt m.state.steps_left (surplus f)) m _ 23 (lit< tt) (omega arith))
 
 built_in_decreases : (m : Machine) (k : BuiltIn) (vs : List ℕ) (p : Place)
     → distance (built_in m k vs p) < at_worth m 23

@@ -1,8 +1,8 @@
 -- Each step shows more or the same.
 use Rattle.std.proofs.Common.{ℕ, zero, suc, List, [], ◌∷◌, ◌++◌, length, refl, Option, Some, None}
-use Rattle.std.specs.Prelude.{Bool, true, false, nat_eq, slice_get}
+use Rattle.std.specs.Prelude.{Bool, true, false, nat_eq, nat_lt, slice_get}
 use Rattle.seh_num.specs.declared.event.Event.{Event}
-use Rattle.source_machine.specs.Words.{BuiltIn, Put, Protect, RaiseException, Walk, Operation, performed, Program, Function, Lvalue, Local, Filter, Always, Funclet, Statements, is_reserved, Exception, Result, Value, Normal, Continued, LeftTry, Target, End, Handler, Task, IsPrefixOf, Place, Callee, ContinuationFrame, Operand, Assignment, InStatement, Sequel, Body, EndsCall, Lands, Finishes, Next, Over, Give, Start, Begin, Plan, Then, Push, operand_plan, assignment_plan, in_statement_plan, sequel_plan, body_plan, Machine, follow, unless_deep, started, begun, fetched, put, operated, entered, built_in, called, asked_by, asked, searched, target_landed, landed, finished, left_call, after_value, after_normal, after_body, resumed, given, outside, done, is_deep, with_local, Extends}
+use Rattle.source_machine.specs.Words.{BuiltIn, Put, Protect, RaiseException, Walk, Operation, performed, Program, Function, weight, surplus, Lvalue, Local, Filter, Always, Funclet, Statements, is_reserved, Exception, Result, Value, Normal, Continued, LeftTry, Target, End, Handler, Task, IsPrefixOf, Place, Callee, ContinuationFrame, Operand, Assignment, InStatement, Sequel, Body, EndsCall, Lands, Finishes, Next, Over, Give, Start, Begin, Plan, Then, Push, operand_plan, assignment_plan, in_statement_plan, sequel_plan, body_plan, Machine, follow, unless_deep, unless_few, started, begun, fetched, put, operated, entered, built_in, called, asked_by, asked, searched, target_landed, landed, finished, left_call, after_value, after_normal, after_body, resumed, given, outside, done, is_deep, with_local, Extends}
 use Rattle.c_operations.specs.Performed as performing
 use Rattle.source_meaning.specs.Tasks as tasks
 use Rattle.source_machine.specs.Frames as frames
@@ -24,6 +24,11 @@ unless_shows : (b : Bool) (m other : Machine) → Shows m.state.events other
 unless_shows true m other h = prefix_self m.state.events
 unless_shows false m other h = h
 
+few_shows : (b : Bool) (m other : Machine) → Shows m.state.events other
+    → Shows m.state.events (unless_few b m other)
+few_shows true m other h = prefix_self m.state.events
+few_shows false m other h = h
+
 value_shows : (m : Machine) (plan : ℕ → Plan) (how : Result)
     → Shows m.state.events (after_value m plan how)
 value_shows m plan (Value v) = follows m.state.events m (plan v) (prefix_self m.state.events)
@@ -40,9 +45,10 @@ body_shows m plan Normal = follows m.state.events m plan (prefix_self m.state.ev
 body_shows m plan Continued = follows m.state.events m plan (prefix_self m.state.events)
 body_shows m plan how = prefix_self m.state.events
 
-call_shows : (m : Machine) (n : ℕ) (how : Result) → Shows m.state.events (left_call m n how)
-call_shows m n (End e) = prefix_self m.state.events
-call_shows m n x = prefix_self m.state.events
+call_shows : (m : Machine) (n s : ℕ) (how : Result)
+    → Shows m.state.events (left_call m n s how)
+call_shows m n s (End e) = prefix_self m.state.events
+call_shows m n s x = prefix_self m.state.events
 
 target_shows : (b : Bool) (m : Machine) (held : ℕ) (block : Statements) (p : Place) (to : ℕ)
     (exc : Exception) → Shows m.state.events (target_landed m b held block p to exc)
@@ -68,7 +74,7 @@ resumed_shows m (Assignment f) how = value_shows m (assignment_plan f) how
 resumed_shows m (InStatement f) how = value_shows m (in_statement_plan f) how
 resumed_shows m (Sequel f) how = normal_shows m (sequel_plan f) how
 resumed_shows m (Body f) how = body_shows m (body_plan f) how
-resumed_shows m (EndsCall n) how = call_shows m n how
+resumed_shows m (EndsCall n s) how = call_shows m n s how
 resumed_shows m (Lands held block p) how = land_shows m held block p how
 resumed_shows m (Finishes k last p) how = finish_shows m k last p how
 
@@ -118,7 +124,8 @@ entered_shows : (m : Machine) (number : ℕ) (f : Option Function) (vs : List �
     → Shows m.state.events (entered m number f vs)
 entered_shows m number None vs = prefix_self m.state.events
 entered_shows m number (Some f) vs =
-    unless_shows (is_deep m.state 1) m _ (prefix_self m.state.events)
+    unless_shows (is_deep m.state (weight f)) m _
+    (few_shows (nat_lt m.state.steps_left (surplus f)) m _ (prefix_self m.state.events))
 
 built_in_shows : (m : Machine) (k : BuiltIn) (vs : List ℕ) (p : Place)
     → Shows m.state.events (built_in m k vs p)

@@ -1,10 +1,10 @@
 -- Each step keeps what the machine comes to.
 use Rattle.std.proofs.Common.{◌≡◌, ℕ, zero, suc, ◌+◌, ◌-◌, List, [], ◌∷◌, ◌++◌, length, take, refl}
 use Rattle.std.proofs.Common.{sym, ap, ◌∙◌, arith, Option, Some, None}
-use Rattle.std.specs.Prelude.{slice_get}
+use Rattle.std.specs.Prelude.{nat_lt, slice_get}
 use Rattle.std.proofs.lemmas.List.{append_assoc, append-nil, reverse-append, length-append}
 use Rattle.std.proofs.Math.Seq.{take-append_seam}
-use Rattle.source_machine.specs.Words.{BuiltIn, Put, Protect, RaiseException, Walk, Operation, performed, Program, Function, Node, Lvalue, Local, Arguments, Done, Filter, Statements, Empty, Declared, Undefined, is_reserved, End, Gives, deeper, with_value, and_then, Handler, Task, Does, counted, tried, locate, read, write, each, all, ended_call, enter, call_built_in, node, declare, declare_each, statement, perform, does, Place, context_at, Callee, Next, Over, Give, Start, Begin, node_plan, find_plan, pass_plan, proceed_plan, declare_plan, Machine, follow, started, fetched, put, operated, entered, built_in, called, declared, with_local, handler_at, guarded, without_last, done, is_deep, call, through, through_all, reaches, KeepsMeaning}
+use Rattle.source_machine.specs.Words.{BuiltIn, Put, Protect, RaiseException, Walk, Operation, performed, Program, Function, weight, surplus, Node, Lvalue, Local, Arguments, Done, Filter, Statements, Empty, Declared, Undefined, is_reserved, End, Gives, deeper, counting, with_value, and_then, Handler, Task, Does, counted, tried, locate, read, write, each, all, ended_call, enter, call_built_in, node, declare, declare_each, statement, perform, does, Place, context_at, Callee, Next, Over, Give, Start, Begin, node_plan, find_plan, pass_plan, proceed_plan, declare_plan, Machine, follow, started, fetched, put, operated, entered, built_in, called, declared, with_local, handler_at, guarded, without_last, done, is_deep, call, through, through_all, reaches, KeepsMeaning}
 use Rattle.c_operations.specs.Performed as performing
 use Rattle.c_checked.specs.Expression as nodes
 use Rattle.c_checked.specs.Expression.{Next as Another}
@@ -13,7 +13,7 @@ use Rattle.c_checked.specs.Statement.{Then as Followed}
 use Rattle.source_meaning.specs.Tasks as tasks
 use Rattle.source_meaning.proofs.RemainingSteps.{does_is}
 use Rattle.source_machine.specs.Frames as frames
-use Rattle.source_machine.proofs.FrameKeeping.{comes, from, over_keeps, deep_keeps, evaluated_keeps}
+use Rattle.source_machine.proofs.FrameKeeping.{comes, from, over_keeps, deep_keeps, few_keeps, evaluated_keeps}
 use Rattle.source_machine.proofs.FrameKeeping.{given_keeps}
 use Rattle.source_machine.proofs.TaskKeeping.{begun_keeps, searched_keeps}
 
@@ -71,9 +71,11 @@ module _ (program : Program) (d : Does) where
   entered_keeps : (m : Machine) (number : ℕ) (f : Option Function) (vs : List ℕ) (p : Place)
       → comes program d (entered m number f vs) ≡ from program d m
       (enter d number f vs (context_at m.handlers p) m.state)
-  unfolding deeper ended_call
+  unfolding deeper counting ended_call
   entered_keeps m number None vs p = refl
-  entered_keeps m number (Some f) vs p = deep_keeps program d (is_deep m.state 1) m _ _ refl
+  entered_keeps m number (Some f) vs p =
+      deep_keeps program d (is_deep m.state (weight f)) m _ _
+      (few_keeps program d (nat_lt m.state.steps_left (surplus f)) m _ _ refl)
 
   built_in_keeps : (m : Machine) (k : BuiltIn) (vs : List ℕ) (p : Place)
       → comes program d (built_in m k vs p) ≡ from program d m

@@ -1,7 +1,7 @@
--- What is done next doesn't look at how many steps are left, unless it begins a task.
+-- What is done next doesn't look at how many steps are left, unless it begins a task or a function.
 use Rattle.std.proofs.Common.{◌≡◌, ℕ, zero, suc, List, [], ◌∷◌, length, refl, Option, Some, None}
 use Rattle.std.specs.Prelude.{Bool, true, false, nat_eq, slice_get}
-use Rattle.source_machine.specs.Words.{BuiltIn, Put, Protect, RaiseException, Walk, Operation, performed, Program, Function, Lvalue, Local, Filter, Always, Funclet, Statements, is_reserved, Exception, Result, Value, Normal, Continued, LeftTry, Target, End, Handler, Task, Place, Callee, ContinuationFrame, Operand, Assignment, InStatement, Sequel, Body, EndsCall, Lands, Finishes, Next, Over, Give, Start, Begin, Plan, Then, Push, operand_plan, assignment_plan, in_statement_plan, sequel_plan, body_plan, Machine, follow, unless_deep, begun, fetched, put, operated, entered, built_in, called, asked_by, asked, searched, target_landed, landed, finished, left_call, after_value, after_normal, after_body, resumed, given, outside, done, is_deep, with_local}
+use Rattle.source_machine.specs.Words.{BuiltIn, Put, Protect, RaiseException, Walk, Operation, performed, Program, Lvalue, Local, Filter, Always, Funclet, Statements, is_reserved, Exception, Result, Value, Normal, Continued, LeftTry, Target, End, Handler, Task, Place, ContinuationFrame, Operand, Assignment, InStatement, Sequel, Body, EndsCall, Lands, Finishes, Next, Over, Give, Start, Begin, Plan, Then, Push, operand_plan, assignment_plan, in_statement_plan, sequel_plan, body_plan, Machine, follow, unless_deep, begun, fetched, put, operated, built_in, asked_by, asked, searched, target_landed, landed, finished, left_call, after_value, after_normal, after_body, resumed, given, outside, done, is_deep, with_local}
 use Rattle.c_operations.specs.Performed as performing
 use Rattle.source_meaning.specs.Tasks as tasks
 use Rattle.source_machine.specs.Frames as frames
@@ -36,10 +36,10 @@ module _ (l : ℕ) where
   body m plan Continued = follows m plan
   body m plan how = refl
 
-  call : (m : Machine) (n : ℕ) (how : Result)
-      → left_call (with_left l m) n how ≡ with_left l (left_call m n how)
-  call m n (End e) = refl
-  call m n x = refl
+  call : (m : Machine) (n s : ℕ) (how : Result)
+      → left_call (with_left l m) n s how ≡ with_left l (left_call m n s how)
+  call m n s (End e) = refl
+  call m n s x = refl
 
   target : (b : Bool) (m : Machine) (held : ℕ) (block : Statements) (p : Place) (to : ℕ)
       (exc : Exception)
@@ -66,7 +66,7 @@ module _ (l : ℕ) where
   resume m (InStatement f) how = value m (in_statement_plan f) how
   resume m (Sequel f) how = normal m (sequel_plan f) how
   resume m (Body f) how = body m (body_plan f) how
-  resume m (EndsCall n) how = call m n how
+  resume m (EndsCall n s) how = call m n s how
   resume m (Lands held block p) how = land m held block p how
   resume m (Finishes k last p) how = finish m k last p how
 
@@ -104,22 +104,12 @@ module _ (l : ℕ) where
   operate m o a b p (performing.Raises code access) = refl
   operate m o a b p (performing.Undefined a') = refl
 
-  enter : (m : Machine) (number : ℕ) (f : Option Function) (vs : List ℕ)
-      → entered (with_left l m) number f vs ≡ with_left l (entered m number f vs)
-  enter m number None vs = refl
-  enter m number (Some f) vs = unless (is_deep m.state 1) m _
-
   built : (m : Machine) (k : BuiltIn) (vs : List ℕ) (p : Place)
       → built_in (with_left l m) k vs p ≡ with_left l (built_in m k vs p)
   built m Put vs p = refl
   built m Protect vs p = refl
   built m RaiseException vs p = refl
   built m Walk vs p = refl
-
-  calls : (program : Program) (m : Machine) (callee : Callee) (vs : List ℕ) (p : Place)
-      → called program (with_left l m) callee vs p ≡ with_left l (called program m callee vs p)
-  calls program m (frames.Defined f) vs p = enter m f (slice_get program.functions f) vs
-  calls program m (frames.BuiltInOf k) vs p = built m k vs p
 
   ask_by : (m : Machine) (f : Filter) (h : Handler) (level : ℕ) (exc : Exception) (p : Place)
       → asked_by (with_left l m) f h level exc p ≡ with_left l (asked_by m f h level exc p)
@@ -136,9 +126,10 @@ module _ (l : ℕ) where
   searches m zero exc p = refl
   searches m (suc level) exc p = ask m (slice_get m.handlers level) level exc p
 
-  -- what begins a task is left out
+  -- what begins a task or a function is left out
   abbrev pub IsAlike : Program → Machine → Next → Type 0
   IsAlike program m (Start task p) = Unit {0}
+  IsAlike program m (frames.Call (frames.Defined f) vs p) = Unit {0}
   IsAlike program m next = done program (with_left l m) next ≡ with_left l (done program m next)
 
   pub alike : (program : Program) (m : Machine) (next : Next) → IsAlike program m next
@@ -153,7 +144,8 @@ module _ (l : ℕ) where
   alike program m (frames.Operate o a b p) = operate m o a b p
       (performed (is_reserved program.globals) o a b m.state.memory)
   alike program m (frames.Pass callee vs es p) = follows m _
-  alike program m (frames.Call callee vs p) = calls program m callee vs p
+  alike program m (frames.Call (frames.Defined f) vs p) = tt
+  alike program m (frames.Call (frames.BuiltInOf k) vs p) = built m k vs p
   alike program m (frames.Proceed ss p) = follows m _
   alike program m (frames.DeclareEach ds p) = follows m _
   alike program m (frames.DeclareName d p) = follows (with_local m p d.local 0) _

@@ -179,7 +179,7 @@ module _ (program : Program) (d : Does) where
   through hs (InStatement f) o = with_value o (in_statement_meaning hs f)
   through hs (Sequel f) o = and_then o (sequel_meaning hs f)
   through hs (Body f) o = in_loop o (body_meaning hs f)
-  through hs (EndsCall n) o = ended_call n o
+  through hs (EndsCall n s) o = ended_call n s o
   through hs (Lands held block p) o =
       landing (length (context_at hs p).handlers) held o
       (λ exc st. all d block (record (context_at hs p) { exception = exc }) st)

@@ -122,8 +122,8 @@ pub data ContinuationFrame : Type 0 where
   InStatement : StatementFrame → ContinuationFrame
   Sequel : SequelFrame → ContinuationFrame
   Body : BodyFrame → ContinuationFrame
-  -- a call's end: how many activations there were before it
-  EndsCall : ℕ → ContinuationFrame
+  -- a call's end: how many activations there were before it, and its function's surplus
+  EndsCall : ℕ → ℕ → ContinuationFrame
   -- the end of a `__try` with an `__except`, whose handler is the machine's last: what was held
   -- where it was entered, and the block
   Lands : ℕ → Statements → Place → ContinuationFrame

@@ -13,13 +13,13 @@ use Rattle.c_operations.specs.Performed as performing
 use Rattle.c_operations.specs.Performed.{performed}
 use Rattle.c_checked.specs.Expression.{Lvalue, Local, Global, Indirection, Element}
 use Rattle.c_checked.specs.Statement.{Filter, Always, Funclet, Statements, Declared}
-use Rattle.c_checked.specs.Program.{Program, Function}
+use Rattle.c_checked.specs.Program.{Program, Function, weight, surplus}
 use Rattle.source_meaning.specs.declared.ended.Ended.TheVariants.{Unhandled, Undefined, Deep}
 use Rattle.source_meaning.specs.Source.{is_reserved}
 use Rattle.source_meaning.specs.State.{Exception, State, Result, Value, Normal, Returned, Broke, Continued}
 use Rattle.source_meaning.specs.State.{LeftTry, Target, End, local_of, set_local, set_memory, emit, hold}
 use Rattle.source_meaning.specs.State.{let_go, depth, with_activation, with_outermost, emit_all}
-use Rattle.source_meaning.specs.State.{walk_events}
+use Rattle.source_meaning.specs.State.{walk_events, hold_surplus, let_go_surplus, count_steps}
 use Rattle.source_meaning.specs.Tasks as tasks
 use Rattle.source_meaning.specs.Tasks.{Handler, Task}
 use Rattle.source_meaning.specs.Expressions.{of_test, no_exception, raised}
@@ -59,6 +59,11 @@ over m how = record m { next = Over how }
 abbrev pub unless_deep : Bool → Machine → Machine → Machine
 unless_deep true m other = over m (End (Some (Deep TOO_DEEP)))
 unless_deep false m other = other
+
+-- the run is over where fewer steps are left than are counted at once
+abbrev pub unless_few : Bool → Machine → Machine → Machine
+unless_few true m other = over m (End None)
+unless_few false m other = other
 
 abbrev pub is_deep : State → ℕ → Bool
 is_deep st n = nat_lt DEEPEST (depth st + n)
@@ -131,13 +136,15 @@ abbrev pub entered : Machine → ℕ → Option Function → List ℕ → Machin
 entered m number None vs = with_next m (Give (Value 0))
 entered m number (Some f) vs =
     let n = length m.state.frames in
-    unless_deep (is_deep m.state 1) m
-    (follow (at_state m (with_activation number (vs ++ replicate (length f.locals) 0) m.state))
-    (Push (EndsCall n) (frames.Proceed f.body (record {
+    unless_deep (is_deep m.state (weight f)) m
+    (unless_few (nat_lt m.state.steps_left (surplus f)) m
+    (follow (at_state m (with_activation number (vs ++ replicate (length f.locals) 0)
+    (hold_surplus (surplus f) (count_steps (surplus f) m.state))))
+    (Push (EndsCall n (surplus f)) (frames.Proceed f.body (record {
       activation = n;
       exception = no_exception;
       abnormal = false;
-    }))))
+    })))))
 
 abbrev pub built_in : Machine → BuiltIn → List ℕ → Place → Machine
 built_in m Put vs p =
@@ -216,20 +223,20 @@ finished m k last p LeftTry = with_next m (Start (tasks.RunFinally k last false)
 finished m k last p how =
     follow m (Push (Sequel (frames.GivesResult how)) (Start (tasks.RunFinally k last true) p))
 
-abbrev pub with_activations : Machine → ℕ → Machine
-with_activations m n = at_state m (with_outermost n m.state)
+abbrev pub with_activations : Machine → ℕ → ℕ → Machine
+with_activations m n s = at_state m (with_outermost n (let_go_surplus s m.state))
 
--- an activation that a target leaves counts in the depth until that lands
+-- an activation that a target leaves counts in the depth, with its surplus, until that lands
 abbrev pub left_by_target : Machine → ℕ → Machine
 left_by_target m n =
     at_state m (with_outermost n (record m.state { held = m.state.held + 1 }))
 
-abbrev pub left_call : Machine → ℕ → Result → Machine
-left_call m n (End e) = with_next m (Give (End e))
-left_call m n Normal = with_next (with_activations m n) (Give (Value 0))
-left_call m n (Returned v) = with_next (with_activations m n) (Give (Value v))
-left_call m n (Target to exc) = with_next (left_by_target m n) (Give (Target to exc))
-left_call m n how = with_next (with_activations m n) (Give how)
+abbrev pub left_call : Machine → ℕ → ℕ → Result → Machine
+left_call m n s (End e) = with_next m (Give (End e))
+left_call m n s Normal = with_next (with_activations m n s) (Give (Value 0))
+left_call m n s (Returned v) = with_next (with_activations m n s) (Give (Value v))
+left_call m n s (Target to exc) = with_next (left_by_target m n) (Give (Target to exc))
+left_call m n s how = with_next (with_activations m n s) (Give how)
 
 abbrev pub after_value : Machine → (ℕ → Plan) → Result → Machine
 after_value m plan (Value v) = follow m (plan v)
@@ -251,7 +258,7 @@ resumed m (Assignment f) how = after_value m (assignment_plan f) how
 resumed m (InStatement f) how = after_value m (in_statement_plan f) how
 resumed m (Sequel f) how = after_normal m (sequel_plan f) how
 resumed m (Body f) how = after_body m (body_plan f) how
-resumed m (EndsCall n) how = left_call m n how
+resumed m (EndsCall n s) how = left_call m n s how
 resumed m (Lands held block p) how = landed m held block p how
 resumed m (Finishes k last p) how = finished m k last p how
 

@@ -58,7 +58,7 @@ worth (Assignment f) = assignment_worth f
 worth (InStatement f) = statement_worth f
 worth (Sequel f) = sequel_worth f
 worth (Body f) = 3
-worth (EndsCall n) = 1
+worth (EndsCall n s) = 1
 worth (Lands held block p) = 2
 worth (Finishes k last p) = 1
 

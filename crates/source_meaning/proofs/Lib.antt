@@ -1,4 +1,5 @@
 pub mod Prefixes
+pub mod Counting
 pub mod Relations
 pub mod RelatedMeanings
 pub mod RemainingSteps

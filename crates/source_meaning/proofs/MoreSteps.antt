@@ -1,12 +1,14 @@
 -- What more steps show begins with what fewer steps show, and an end stays.
-use Rattle.std.proofs.Common.{◌≡◌, ℕ, zero, suc, ◌+◌, ◌≤◌, List, ◌++◌, refl, sym, ap, ◌∙◌}
+use Rattle.std.proofs.Common.{◌≡◌, ℕ, zero, suc, ◌+◌, ◌-◌, ◌≤◌, List, ◌++◌, refl, sym, ap, ◌∙◌}
 use Rattle.std.proofs.Common.{subst, arith, inl, inr}
-use Rattle.std.specs.Prelude.{Bool, true, false, slice_get, ℤ, Option, Some, None, ◌⊎◌}
+use Rattle.std.proofs.lemmas.Bool.{cases_Bool, ltb-false, le-ltb}
+use Rattle.std.specs.Prelude.{Bool, true, false, nat_lt, slice_get, ℤ, Option, Some, None, ◌⊎◌}
 use Rattle.std.proofs.lemmas.Option.{none-some}
-use Rattle.source_meaning.specs.Words.{Event, Program, State, Result, Value, End, Outcome, Gives, how_of, state_of, counted, enter, perform, within, start, outside, main_arguments, ran, shows, meaning, is_calm, IsPrefixOf, ShowsMore, EndStays, CalmBefore, EventsGrow}
+use Rattle.source_meaning.specs.Words.{Event, Program, State, Result, Value, End, Outcome, Gives, how_of, state_of, counting, counted, enter, perform, within, start, outside, main_arguments, ran, shows, meaning, is_calm, IsPrefixOf, ShowsMore, EndStays, CalmBefore, EventsGrow}
 use Rattle.seh_num.specs.Shown.{Shown}
 use Rattle.source_meaning.specs.declared.ended.Ended.{Ended}
 use Rattle.source_meaning.proofs.Relations.{Relation, with_left}
+use Rattle.source_meaning.proofs.Counting.{too_few, enough}
 use Rattle.source_meaning.proofs.RelatedMeanings.{Related, perform_go, enter_go}
 use Rattle.source_meaning.proofs.RemainingSteps.{enters_within}
 use Rattle.source_meaning.proofs.Prefixes.{prefix_self, prefix_then}
@@ -98,6 +100,60 @@ module _ (k m : ℕ) where
   claim_through c c' stops cases true o o' s = kin_through c c' stops cases o o' s
   claim_through c c' stops cases false o o' s = tt
 
+  -- ---- several steps at once
+
+  abbrev Steps : (State → Outcome) → (State → Outcome) → Type 0
+  Steps go go' =
+      (a : Bool) (st : State) (l : ℕ) → Near k m a st.steps_left l
+      → Out k m a st.events (go st) (go' (with_left l st))
+
+  counting_grows : (n : ℕ) (go go' : State → Outcome) → Steps go go' → (st : State)
+      → IsPrefixOf st.events (events_of (counting n st go'))
+  counting_grows n go go' h st = by_test (cases_Bool (nat_lt st.steps_left n))
+    where
+      by_test : (nat_lt st.steps_left n ≡ true) ⊎ (nat_lt st.steps_left n ≡ false)
+          → IsPrefixOf st.events (events_of (counting n st go'))
+      by_test (inl e) =
+          subst (λ o. IsPrefixOf st.events (events_of o)) (sym (too_few n st go' e))
+          (prefix_self st.events)
+      by_test (inr e) =
+          let left = st.steps_left - n in
+          subst (λ o. IsPrefixOf st.events (events_of o)) (sym (enough n st go' e))
+          (h false (with_left left st) left tt).0
+
+  counting_kin : (n : ℕ) (go go' : State → Outcome) → Steps go go' → (st : State)
+      → st.steps_left + k ≤ m
+      → Kin k m (counting n st go) (counting n (with_left (st.steps_left + k) st) go')
+  counting_kin n go go' h st low = by_test (cases_Bool (nat_lt st.steps_left n))
+    where
+      more : State
+      more = with_left (st.steps_left + k) st
+
+      by_test : (nat_lt st.steps_left n ≡ true) ⊎ (nat_lt st.steps_left n ≡ false)
+          → Kin k m (counting n st go) (counting n more go')
+      by_test (inl e) =
+          subst (λ o. Kin k m o (counting n more go')) (sym (too_few n st go e))
+          (inr (record { ended = refl; front = counting_grows n go go' h more }))
+      by_test (inr e) =
+          let left = st.steps_left - n in
+          let fits : n ≤ st.steps_left = ltb-false st.steps_left n e in
+          let there : nat_lt (st.steps_left + k) n ≡ false =
+          le-ltb (st.steps_left + k) n (omega arith) in
+          let both : (st.steps_left + k) - n ≡ left + k = omega arith in
+          let less : left + k ≤ m = omega arith in
+          subst (λ o. Kin k m o (counting n more go')) (sym (enough n st go e))
+          (subst (λ o. Kin k m (go (with_left left st)) o) (sym (enough n more go' there))
+          (subst (λ j. Kin k m (go (with_left left st)) (go' (with_left j st))) (sym both)
+          (h true (with_left left st) (left + k) (refl, less)).1))
+
+  counting_claim : (n : ℕ) (go go' : State → Outcome) → Steps go go' → (a : Bool) (st : State)
+      (l : ℕ) → Near k m a st.steps_left l
+      → Claimed a (Kin k m (counting n st go) (counting n (with_left l st) go'))
+  counting_claim n go go' h true st l near =
+      subst (λ l. Kin k m (counting n st go) (counting n (with_left l st) go')) (sym near.0)
+      (counting_kin n go go' h st (subst (λ j. j ≤ m) near.0 near.1))
+  counting_claim n go go' h false st l near = tt
+
   kin : Relation
   kin =
       record {
@@ -105,6 +161,10 @@ module _ (k m : ℕ) where
         out = Out k m;
         gives = kin_gives;
         later = kin_later;
+        counts = λ n go go' h a st l near. (
+          counting_grows n go go' h (with_left l st),
+          counting_claim n go go' h a st l near,
+        );
         through = λ c c' stops cases a es o o' s. (
           prefix_then es (events_of o') (events_of (c' o')) s.0 (grows c c' cases o'),
           claim_through c c' stops cases a o o' s.1,

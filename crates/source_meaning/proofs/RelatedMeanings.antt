@@ -11,11 +11,11 @@ use Rattle.c_operations.specs.declared.built_in.BuiltIn.TheVariants.{Put, Protec
 use Rattle.c_checked.specs.Expression as nodes
 use Rattle.c_checked.specs.Expression.{Expression, On, Node, Lvalue, Local, Global, Indirection, Element, Arguments, Done, Next}
 use Rattle.c_checked.specs.Statement.{Declared, Filter, Always, Funclet, Statement, Declare, Block, Evaluate, If, IfElse, For, DoWhile, Return, Break, Continue, Leave, TryExcept, TryFinally, Statements, Empty, Then}
-use Rattle.source_meaning.specs.Words.{Program, Function, Unhandled, Undefined, Exception, State, Value, Normal, Returned, Broke, Continued, LeftTry, Target, End, Outcome, set_memory, Handler, Context, Task, Eval, Locate, Run, ForIteration, DoIteration, TryBody, Raise, RunFilter, RunFinally, Retry, Does, tried, operate, locate, load, read, write, each, all, enter, call_built_in, node, expression, optional, declare, declare_each, statement, for_iteration, do_iteration, perform}
+use Rattle.source_meaning.specs.Words.{Program, Function, weight, surplus, Unhandled, Undefined, Exception, State, Value, Normal, Returned, Broke, Continued, LeftTry, Target, End, Outcome, set_memory, Handler, Context, Task, Eval, Locate, Run, ForIteration, DoIteration, TryBody, Raise, RunFilter, RunFinally, Retry, Does, tried, operate, locate, load, read, write, each, all, enter, call_built_in, node, expression, optional, declare, declare_each, statement, for_iteration, do_iteration, perform}
 use Rattle.source_meaning.specs.Raises.{noncontinuable, answered, search_by, search, run_filter, run_finally}
 use Rattle.source_meaning.specs.Source.{is_reserved}
 use Rattle.source_meaning.proofs.Relations.{Relation, Go, GoWith, give, value_go, then_go, loop_go}
-use Rattle.source_meaning.proofs.Relations.{choice_go, deeper_go, landing_go, finally_go, ended_go}
+use Rattle.source_meaning.proofs.Relations.{choice_go, deeper_go, counting_go, landing_go, finally_go, ended_go}
 
 -- from states that are near, f and g do what is related
 abbrev pub Related : Relation → Does → Does → Type 0
@@ -84,8 +84,10 @@ module _ (R : Relation) (program : Program) (f g : Does) (alike : Related R f g)
       → Go R (enter f number fn vs context) (enter g number fn vs context)
   enter_go number None vs context = give R (Value 0)
   enter_go number (Some fn) vs context = λ a st l n.
-      deeper_go R 1 _ _ (λ a st l n. ended_go R (length st.frames) a _ _ _
-      (all_go fn.body _ a _ l n)) a st l n
+      deeper_go R (weight fn) _ _
+      (counting_go R (surplus fn) _ _
+      (λ a st l n. ended_go R (length st.frames) (surplus fn) a _ _ _
+      (all_go fn.body _ a _ l n))) a st l n
 
   built_in_go : (k : BuiltIn) (vs : List ℕ) (context : Context)
       → Go R (call_built_in f k vs context) (call_built_in g k vs context)

@@ -2,7 +2,7 @@
 -- and how it goes through what is done with an outcome.
 use Rattle.std.proofs.Common.{◌≡◌, ℕ, ◌+◌, List, ◌++◌, Some, None, refl}
 use Rattle.std.specs.Prelude.{Bool, true, false, nat_lt, nat_eq}
-use Rattle.source_meaning.specs.Words.{Event, Deep, Exception, State, Result, Value, Normal, Returned, Broke, Continued, LeftTry, Target, End, Outcome, Gives, choose, depth, deeper, with_value, and_then, ended_call, in_loop, landing, finally_after, with_outermost}
+use Rattle.source_meaning.specs.Words.{Event, Deep, Exception, State, Result, Value, Normal, Returned, Broke, Continued, LeftTry, Target, End, Outcome, Gives, choose, depth, deeper, counting, with_value, and_then, ended_call, in_loop, landing, finally_after, with_outermost, let_go_surplus}
 
 abbrev pub with_left : ℕ → State → State
 with_left l st = record st { steps_left = l }
@@ -17,6 +17,13 @@ pub record Relation : Type 1 where
       → out a st.events (Gives how st) (Gives how (with_left l st))
   pub later : (a : Bool) (es more : List Event) (o o' : Outcome) → out a (es ++ more) o o'
       → out a es o o'
+  -- what is done after so many steps at once
+  pub counts :
+      (n : ℕ) (k k' : State → Outcome)
+      → ((a : Bool) (st : State) (l : ℕ) → near a st.steps_left l
+      → out a st.events (k st) (k' (with_left l st)))
+      → (a : Bool) (st : State) (l : ℕ) → near a st.steps_left l
+      → out a st.events (counting n st k) (counting n (with_left l st) k')
   -- what is done with an outcome, where nothing is done once no step is left
   pub through :
       (c c' : Outcome → Outcome) → ((st : State) → c (Gives (End None) st) ≡ Gives (End None) st)
@@ -127,17 +134,23 @@ module _ (R : Relation) where
       R.through (λ o. finally_after o k) (λ o. finally_after o k') (λ st. refl)
       (finally_cases k k' h)
 
-  ended_cases : (d : ℕ) (a : Bool) (how : Result) (st : State) (l : ℕ) → R.near a st.steps_left l
-      → R.out a st.events (ended_call d (Gives how st)) (ended_call d (Gives how (with_left l st)))
-  unfolding ended_call
-  ended_cases d a (End e) st l n = give (End e) a st l n
-  ended_cases d a Normal st l n = give (Value 0) a (with_outermost d st) l n
-  ended_cases d a (Returned v) st l n = give (Value v) a (with_outermost d st) l n
-  ended_cases d a (Target to exc) st l n =
-      give (Target to exc) a (with_outermost d (record st { held = st.held + 1 })) l n
-  ended_cases d a how st l n = give how a (with_outermost d st) l n
+  pub counting_go : (n : ℕ) (k k' : State → Outcome) → Go k k'
+      → Go (λ st. counting n st k) (λ st. counting n st k')
+  counting_go n k k' h a st l near = R.counts n k k' h a st l near
 
-  pub ended_go : (d : ℕ) (a : Bool) (es : List Event) (o o' : Outcome) → R.out a es o o'
-      → R.out a es (ended_call d o) (ended_call d o')
+  ended_cases : (d s : ℕ) (a : Bool) (how : Result) (st : State) (l : ℕ) → R.near a st.steps_left l
+      → R.out a st.events (ended_call d s (Gives how st))
+      (ended_call d s (Gives how (with_left l st)))
   unfolding ended_call
-  ended_go d = R.through (ended_call d) (ended_call d) (λ st. refl) (ended_cases d)
+  ended_cases d s a (End e) st l n = give (End e) a st l n
+  ended_cases d s a Normal st l n = give (Value 0) a (with_outermost d (let_go_surplus s st)) l n
+  ended_cases d s a (Returned v) st l n =
+      give (Value v) a (with_outermost d (let_go_surplus s st)) l n
+  ended_cases d s a (Target to exc) st l n =
+      give (Target to exc) a (with_outermost d (record st { held = st.held + 1 })) l n
+  ended_cases d s a how st l n = give how a (with_outermost d (let_go_surplus s st)) l n
+
+  pub ended_go : (d s : ℕ) (a : Bool) (es : List Event) (o o' : Outcome) → R.out a es o o'
+      → R.out a es (ended_call d s o) (ended_call d s o')
+  unfolding ended_call
+  ended_go d s = R.through (ended_call d s) (ended_call d s) (λ st. refl) (ended_cases d s)

@@ -1,9 +1,11 @@
 -- A task's meaning in terms of the tasks inside it, with no bound in sight; and no more steps are
 -- left after it than before.
-use Rattle.std.proofs.Common.{◌≡◌, ℕ, zero, suc, ◌≤◌, List, refl, sym, ap, ◌∙◌, subst, arith}
-use Rattle.std.specs.Prelude.{true, Option, None}
-use Rattle.source_meaning.specs.Words.{Program, Function, State, Result, End, Outcome, Gives, state_of, Context, Task, Does, counted, enter, perform, within, does, DoesIs, NeverRises}
+use Rattle.std.proofs.Common.{◌≡◌, ℕ, zero, suc, ◌-◌, ◌≤◌, List, refl, sym, ap, ◌∙◌, subst, arith, inl, inr}
+use Rattle.std.proofs.lemmas.Bool.{cases_Bool}
+use Rattle.std.specs.Prelude.{true, false, nat_lt, Option, None, ◌⊎◌}
+use Rattle.source_meaning.specs.Words.{Program, Function, State, Result, End, Outcome, Gives, state_of, Context, Task, Does, counting, counted, enter, perform, within, does, DoesIs, NeverRises}
 use Rattle.source_meaning.proofs.Relations.{Relation, with_left}
+use Rattle.source_meaning.proofs.Counting.{too_few, enough}
 use Rattle.source_meaning.proofs.RelatedMeanings.{Related, perform_go, enter_go}
 
 -- two outcomes are one, and leave at most b steps
@@ -28,6 +30,30 @@ same_through b c c' cases o o' s = subst (λ x. Same b (c o) (c' x)) s.eq (at o 
     at : (o : Outcome) → (state_of o).steps_left ≤ b → Same b (c o) (c' o)
     at (Gives how st) low = cases how st low
 
+-- several steps at once
+same_counting :
+    (b n : ℕ) (k k' : State → Outcome)
+    → ((st : State) (l : ℕ) → (st.steps_left ≡ l) × (st.steps_left ≤ b)
+    → Same b (k st) (k' (with_left l st)))
+    → (st : State) (l : ℕ) → (st.steps_left ≡ l) × (st.steps_left ≤ b)
+    → Same b (counting n st k) (counting n (with_left l st) k')
+same_counting b n k k' h st l near =
+    subst (λ l. Same b (counting n st k) (counting n (with_left l st) k')) near.0
+    (by_test (cases_Bool (nat_lt st.steps_left n)))
+  where
+    by_test : (nat_lt st.steps_left n ≡ true) ⊎ (nat_lt st.steps_left n ≡ false)
+        → Same b (counting n st k) (counting n st k')
+    by_test (inl e) =
+        subst (λ o. Same b o (counting n st k')) (sym (too_few n st k e))
+        (subst (λ o. Same b (Gives (End None) st) o) (sym (too_few n st k' e))
+        (same b (Gives (End None) st) (omega (arith, near.0, near.1))))
+    by_test (inr e) =
+        let left = st.steps_left - n in
+        let less : left ≤ b = omega (arith, near.0, near.1) in
+        subst (λ o. Same b o (counting n st k')) (sym (enough n st k e))
+        (subst (λ o. Same b (k (with_left left st)) o) (sym (enough n st k' e))
+        (h (with_left left st) left (refl, less)))
+
 le_refl_of : (n : ℕ) → n ≤ n
 le_refl_of n = omega arith
 
@@ -38,6 +64,7 @@ same_relation b =
       out = λ a es o o'. Same b o o';
       gives = λ a how st l n. same_gives b how st l n.0 n.1;
       later = λ a es more o o' s. s;
+      counts = λ n k k' h a. same_counting b n k k' (h a);
       through =
           λ c c' stops cases a es o o' s. same_through b c c'
           (λ how st low. cases a how st st.steps_left (refl, low)) o o' s;

@@ -28,13 +28,13 @@ use Rattle.c_checked.specs.Expression as nodes
 use Rattle.c_checked.specs.Expression.{Expression, On, Node, Lvalue, Local, Global, Indirection}
 use Rattle.c_checked.specs.Expression.{Element, Arguments, Done, Next}
 use Rattle.c_checked.specs.Statement.{Statements, Empty, Then}
-use Rattle.c_checked.specs.Program.{Program, Function}
+use Rattle.c_checked.specs.Program.{Program, Function, weight, surplus}
 use Rattle.source_meaning.specs.declared.ended.Ended.TheVariants.{Undefined}
 use Rattle.source_meaning.specs.Source.{is_reserved}
 use Rattle.source_meaning.specs.State.{Exception, State, Value, Normal, Returned, Target, End, Outcome}
 use Rattle.source_meaning.specs.State.{Gives, choose, local_of, set_local, set_memory, emit, deeper}
 use Rattle.source_meaning.specs.State.{with_value, and_then, with_activation, with_outermost}
-use Rattle.source_meaning.specs.State.{emit_all, walk_events}
+use Rattle.source_meaning.specs.State.{emit_all, walk_events, counting, hold_surplus, let_go_surplus}
 use Rattle.source_meaning.specs.Tasks.{Context, Eval, Locate, Run, Raise, Retry, Does}
 
 -- ---- values
@@ -148,32 +148,35 @@ abbrev pub all : Does → Statements → Context → State → Outcome
 all does Empty context st = Gives Normal st
 all does (Then s ss) context st = and_then (does (Run s) context st) (λ st. all does ss context st)
 
--- a call's end: its activation is gone, but where a target has left it, it counts in the depth
--- until that lands; an end of the program goes out at once
-unfoldable pub ended_call : ℕ → Outcome → Outcome
-ended_call n (Gives (End e) st) = Gives (End e) st
-ended_call n (Gives Normal st) = Gives (Value 0) (with_outermost n st)
-ended_call n (Gives (Returned v) st) = Gives (Value v) (with_outermost n st)
-ended_call n (Gives (Target to exc) st) =
+-- a call's end: its activation is gone, with what it held; but where a target has left it, both
+-- count in the depth until that lands; an end of the program goes out at once
+unfoldable pub ended_call : ℕ → ℕ → Outcome → Outcome
+ended_call n s (Gives (End e) st) = Gives (End e) st
+ended_call n s (Gives Normal st) = Gives (Value 0) (with_outermost n (let_go_surplus s st))
+ended_call n s (Gives (Returned v) st) = Gives (Value v) (with_outermost n (let_go_surplus s st))
+ended_call n s (Gives (Target to exc) st) =
     Gives (Target to exc) (with_outermost n (record st { held = st.held + 1 }))
-ended_call n (Gives how st) = Gives how (with_outermost n st)
+ended_call n s (Gives how st) = Gives how (with_outermost n (let_go_surplus s st))
 
 abbrev pub no_exception : Exception
 no_exception = record { code = 0; flag = false; access = None }
 
 -- the body of the function of this number, under the handlers of the call, in an activation of its
--- own, whose locals are 0 beside the parameters
+-- own, whose locals are 0 beside the parameters. An activation counts its function's weight in the
+-- depth, and what that is above 1 in steps, where it begins
 abbrev pub enter : Does → ℕ → Option Function → List ℕ → Context → State → Outcome
 enter does number None vs context st = Gives (Value 0) st
 enter does number (Some f) vs context st =
-    deeper 1 st (λ st. ended_call (length st.frames) (all does f.body
+    deeper (weight f) st (λ st. counting (surplus f) st
+    (λ st. ended_call (length st.frames) (surplus f) (all does f.body
     (record {
       handlers = context.handlers;
       activation = length st.frames;
       exception = no_exception;
       abnormal = false;
     })
-    (with_activation number (vs ++ replicate (length f.locals) 0) st)))
+    (with_activation number (vs ++ replicate (length f.locals) 0)
+    (hold_surplus (surplus f) st)))))
 
 abbrev pub call_built_in : Does → BuiltIn → List ℕ → Context → State → Outcome
 call_built_in does Put vs context st =

@@ -19,7 +19,7 @@ use Rattle.source_meaning.specs.Expressions.{expression}
 use Rattle.source_meaning.specs.Statements.{in_loop, landing, finally_after, statement, for_iteration}
 use Rattle.source_meaning.specs.Statements.{do_iteration}
 use Rattle.source_meaning.specs.Raises.{raise_event, search, run_filter, run_finally}
-use Rattle.source_meaning.specs.State.{emit}
+use Rattle.source_meaning.specs.State.{emit, counting}
 
 -- what each task does, given what the tasks inside it do
 abbrev pub perform : Program → Does → Does
@@ -96,6 +96,6 @@ Calm program arg n = is_calm (meaning program arg n).end
 
 -- what a proof opens, by `unfolding computed`, to compute a meaning
 unfoldable pub computed : ℕ
-unfolding choose deeper with_value and_then ended_call in_loop landing finally_after counted
-    first_refused number_at with_number
+unfolding choose deeper counting with_value and_then ended_call in_loop landing finally_after
+    counted first_refused number_at with_number
 computed = 0

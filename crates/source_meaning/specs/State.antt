@@ -17,8 +17,9 @@ pub record Exception : Type 0 where
 
 -- the steps that are left; memory; the live activations' locals, outermost first, and their
 -- functions; what is held of the depth beside them: 2 for each filter and `__finally` block that
--- runs, or that a target has left, and 1 for each activation that a target has left, until the
--- target lands; the events so far
+-- runs, or that a target has left, 1 for each activation that a target has left, and of each
+-- activation, live or left, what its function weighs above 1; of what a target has left, until it
+-- lands; the events so far
 pub record State : Type 0 where
   pub steps_left : ℕ
   pub memory : Memory
@@ -66,6 +67,13 @@ with_activation f locals st =
 abbrev pub with_outermost : ℕ → State → State
 with_outermost n st = record st { frames = take n st.frames; functions = take n st.functions }
 
+-- with so much more held, and so much less
+abbrev pub hold_surplus : ℕ → State → State
+hold_surplus s st = record st { held = st.held + s }
+
+abbrev pub let_go_surplus : ℕ → State → State
+let_go_surplus s st = record st { held = st.held - s }
+
 abbrev pub set_memory : State → Memory → State
 set_memory st memory = record st { memory = memory }
 
@@ -98,6 +106,15 @@ choose false a b st = b st
 unfoldable pub deeper : ℕ → State → (State → Outcome) → Outcome
 deeper n st go =
     choose (nat_lt DEEPEST (depth st + n)) (λ st. Gives (End (Some (Deep TOO_DEEP))) st) go st
+
+-- so many steps fewer are left
+abbrev pub count_steps : ℕ → State → State
+count_steps n st = record st { steps_left = st.steps_left - n }
+
+-- continues after so many steps at once, unless fewer are left
+unfoldable pub counting : ℕ → State → (State → Outcome) → Outcome
+counting n st go =
+    choose (nat_lt st.steps_left n) (λ st. Gives (End None) st) (λ st. go (count_steps n st)) st
 
 -- continues with a value; any other result stays
 unfoldable pub with_value : Outcome → (ℕ → State → Outcome) → Outcome

@@ -227,7 +227,7 @@ waiting_of (waiting.Assignment f) = frames.Assignment (assignment_frame_of f)
 waiting_of (waiting.Statement f) = frames.InStatement (statement_frame_of f)
 waiting_of (waiting.Sequel f) = frames.Sequel (sequel_frame_of f)
 waiting_of (waiting.Body f) = frames.Body (body_frame_of f)
-waiting_of (waiting.EndsCall n) = frames.EndsCall n
+waiting_of (waiting.EndsCall n s) = frames.EndsCall n s
 waiting_of (waiting.Lands held block p) =
     frames.Lands held (all_statements block.now.items) (place_of p)
 waiting_of (waiting.Finishes k last p) =

@@ -156,8 +156,8 @@ pub enum Waiting<'p> {
     Statement(StatementFrame<'p>),
     Sequel(SequelFrame<'p>),
     Body(BodyFrame<'p>),
-    /// The end of a call: how many activations there were before it.
-    EndsCall(usize),
+    /// The end of a call: how many activations there were before it, and its function's surplus.
+    EndsCall(usize, u64),
     /// The end of a `__try` with an `__except`, whose handler is the machine's last: what was held
     /// where it was entered, and its block.
     Lands(u64, &'p Vec<Stmt>, Place),

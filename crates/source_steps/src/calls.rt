@@ -24,7 +24,7 @@ use seh_num::extension::sign_extend;
 use seh_num::width::Width;
 use source_plans::expressions::start;
 use source_plans::frame::{
-    Action, Callee, Completion, ContinuationFrame, Next, SequelFrame, Waiting,
+    Action, Callee, Completion, ContinuationFrame, Finish, Next, SequelFrame, Waiting,
 };
 use source_plans::place::{Exception, NO_EXCEPTION, Place};
 use source_plans::task::Task;
@@ -61,7 +61,8 @@ fn raised(code: u64, flags: u64) -> Exception
 }
 
 impl<'p> Machine<'p> {
-    /// The body of the function of this number, in an activation of its own.
+    /// The body of the function of this number, in an activation of its own, which counts the
+    /// function's weight in the depth, and its surplus in steps.
     fn enter(
         &mut self,
         number: FunctionNumber,
@@ -71,14 +72,20 @@ impl<'p> Machine<'p> {
         ensures { IfOk result (Moved self.old self.new (λ m. model.entered m number.value (Some
             (programs.function function.now)) values.items)) }
     {
-        if self.is_deep(1) {
+        let surplus = function.surplus();
+        if self.is_deep(1 + surplus) {
             return Ok(too_deep());
         }
+        if self.steps_left < surplus {
+            return Ok(Next::Does(Action::Over(Finish::OutOfSteps)));
+        }
+        self.steps_left -= surplus;
+        self.held = self.held.saturating_add(surplus);
         let activation = self.activations.len();
         let locals = with_zeros(values, function.locals.len())?;
         self.activations.push(locals)?;
         self.functions.push(number)?;
-        self.push(ContinuationFrame::Waits(Waiting::EndsCall(activation)))?;
+        self.push(ContinuationFrame::Waits(Waiting::EndsCall(activation, surplus)))?;
         let place = Place {
             activation,
             exception: NO_EXCEPTION,

@@ -1,6 +1,6 @@
 //! Results go to what waits for them.
 
-ghost use Rattle.std.specs.Prelude.{◌≡◌, ◌+◌, ◌++◌, [], ◌∷◌, List, IfOk, OnOk, map, nat_eq};
+ghost use Rattle.std.specs.Prelude.{◌≡◌, ◌+◌, ◌-◌, ◌++◌, [], ◌∷◌, List, IfOk, OnOk, map, nat_eq};
 ghost use Rattle.source_meaning.specs.State as states;
 ghost use Rattle.source_meaning.specs.Tasks as tasks;
 ghost use Rattle.seh_num.specs.declared.event.Event.{Event as Event'};
@@ -58,21 +58,42 @@ impl<'p> Machine<'p> {
         }
     }
 
-    /// The end of a call.
-    fn leave_call(&mut self, count: usize, how: Completion) -> Result<Next<'p>, AllocError>
-        ensures { IfOk result (Moved self.old self.new (λ m. model.left_call m count
+    /// What an activation held of the depth beside itself is no longer held.
+    fn let_go_surplus(&mut self, surplus: u64)
+        ensures { self.new ≡ record self.old { held = self.old.held - surplus } }
+    {
+        self.held = self.held.saturating_sub(surplus);
+    }
+
+    /// The end of a call, of a function with this surplus.
+    fn leave_call(
+        &mut self,
+        count: usize,
+        surplus: u64,
+        how: Completion,
+    ) -> Result<Next<'p>, AllocError>
+        ensures { IfOk result (Moved self.old self.new (λ m. model.left_call m count surplus
             (views.result_of how))) }
     {
         self.activations.truncate(count);
         self.functions.truncate(count);
         match how {
-            Completion::Normal => Ok(Next::Does(Action::Give(Completion::Value(0)))),
-            Completion::Returned(value) => Ok(Next::Does(Action::Give(Completion::Value(value)))),
+            Completion::Normal => {
+                self.let_go_surplus(surplus);
+                Ok(Next::Does(Action::Give(Completion::Value(0))))
+            }
+            Completion::Returned(value) => {
+                self.let_go_surplus(surplus);
+                Ok(Next::Does(Action::Give(Completion::Value(value))))
+            }
             Completion::Target(level, exception) => {
                 self.hold_activation()?;
                 Ok(Next::Does(Action::Give(Completion::Target(level, exception))))
             }
-            other => Ok(Next::Does(Action::Give(other))),
+            other => {
+                self.let_go_surplus(surplus);
+                Ok(Next::Does(Action::Give(other)))
+            }
         }
     }
 
@@ -258,7 +279,7 @@ impl<'p> Machine<'p> {
             Waiting::Statement(frame) => silently(self.resume_statement(frame, how)),
             Waiting::Sequel(frame) => silently(self.resume_sequel(frame, how)),
             Waiting::Body(frame) => silently(self.resume_body(frame, how)),
-            Waiting::EndsCall(count) => silently(self.leave_call(count, how)),
+            Waiting::EndsCall(count, surplus) => silently(self.leave_call(count, surplus, how)),
             Waiting::Lands(held, block, place) => {
                 let _ = self.handlers.pop();
                 Ok(self.resume_landing(held, block, place, how))

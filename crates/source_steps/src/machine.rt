@@ -1,6 +1,6 @@
 //! The machine, and what changes it.
 
-ghost use Rattle.std.specs.Prelude.{◌≡◌, ◌≤◌, ◌++◌, [], ◌∷◌, List, reverse, IfOk, OnOk};
+ghost use Rattle.std.specs.Prelude.{◌≡◌, ◌++◌, [], ◌∷◌, List, reverse, IfOk, OnOk};
 ghost use Rattle.source_meaning.specs.State as states;
 ghost use Rattle.source_meaning.specs.State.{walk_events};
 ghost use Rattle.source_meaning.specs.declared.ended.Ended.TheVariants as ends;
@@ -37,8 +37,9 @@ pub struct Machine<'p> {
     /// The function of each of them.
     pub functions: LiveFunctions,
     /// What is held of the depth beside the live activations: 2 for each filter and `__finally`
-    /// block that runs, or that a target has left, and 1 for each activation that one has left,
-    /// until it lands.
+    /// block that runs, or that a target has left, 1 for each activation that one has left, and of
+    /// each activation, live or left, its function's surplus; of what a target has left, until it
+    /// lands.
     pub held: u64,
     /// The handlers around the place where the machine continues, outermost first.
     pub handlers: Vec<Handler<'p>>,
@@ -122,7 +123,6 @@ pub fn too_deep<'p>() -> Next<'p>
 impl<'p> Machine<'p> {
     /// Whether the depth would rise above the greatest, by so much.
     pub fn is_deep(&self, more: u64) -> bool
-        requires { more ≤ 2 }
         ensures { (es : List Event') → result ≡ model.is_deep (state_of self.now es) more }
     {
         let live = self.activations.len() as u64;
@@ -131,6 +131,9 @@ impl<'p> Machine<'p> {
             return true;
         }
         if held > DEEPEST {
+            return true;
+        }
+        if more > DEEPEST {
             return true;
         }
         live + held + more > DEEPEST
