@@ -108,9 +108,10 @@ operations_are f probe some = by f.framed
     by false = ap (λ z. saves_then (saves_of f.slots f.saves)
         (allocation_then (not z) f.size (pushed (pushes_of f.pushes false)))) none
 
-distance_small : (b : Bool) → frame_distance_if b < 2 ^ 16
-distance_small true = omega arith
-distance_small false = omega arith
+-- the number of a frame register and its distance are in one byte
+pub frame_small : (b : Bool) → frame_register_if b + frame_distance_if b < 2 ^ 8
+frame_small true = omega arith
+frame_small false = omega arith
 
 -- they keep the rules
 pub frames_are_planned : (f : FrameLayout) (probe : ℕ) → IsFrame f
@@ -118,9 +119,10 @@ pub frames_are_planned : (f : FrameLayout) (probe : ℕ) → IsFrame f
 frames_are_planned f probe h near =
     let small = h.small in
     let depth = h.depth in
+    let distance = frame_small f.framed in
     record {
       size = omega arith;
-      distance = distance_small f.framed;
+      distance = omega arith;
       probe = near;
       allowed = ap (are_allowed (frame_register_if f.framed)) (operations_are f probe h.some)
           ∙ saving_allowed f.pushes f.framed f.size f.slots h.pushes f.saves h.saves h.saved;

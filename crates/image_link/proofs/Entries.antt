@@ -14,7 +14,7 @@ use Rattle.template_code.specs.Operations.{move}
 use Rattle.template_code.specs.Slots.{fetched, keep, local_at}
 use Rattle.template_code.specs.Frames.{probing}
 use Rattle.template_code.specs.declared.layout.Place.{Place}
-use Rattle.template_code.specs.declared.layout.Place.TheVariants.{InRegister, InFrame}
+use Rattle.template_code.specs.declared.layout.Place.TheVariants.{InRegister, InFrame, Arriving}
 use Rattle.template_code.specs.Places.{place_of}
 use Rattle.template_code.specs.Calls.{parameter_placed, keep_register, parameter_register, stack_parameter, parameter_code, parameters_code}
 use Rattle.image_link.proofs.Lemmas.{sizes_append, sizes_spelled, instruction_in_room, code_in_room}
@@ -68,6 +68,7 @@ register_by y i r false = omega arith
 parameter_few : (y : Layout) (i : ℕ) (p : Place) → length (parameter_placed y i p) ≤ 2
 parameter_few y i (InRegister r) = register_by y i r (ltb i 4)
 parameter_few y i InFrame = parameter_by y i (ltb i 4)
+parameter_few y i Arriving = omega arith
 
 parameters_small : (y : Layout) (i n : ℕ) → sizes (parameters_code y i n) ≤ 30 * n
 parameters_small y i zero = omega arith
@@ -176,13 +177,13 @@ appended old new whole a more all e f g = ap (λ t. t ++ more) e ∙ append_asso
 
 -- ---- a frame takes an instruction
 
-pub framed_some : (f : LinearFunction) → FitsFrame (function_facts f.body)
+pub framed_some : (f : LinearFunction) → FitsFrame (function_facts f)
     → 0 < routine_size (framed f)
 unfolding entry_size
 framed_some f fits =
-    let frame = function_frame f.body in
+    let frame = function_frame f in
     let p = prologue_sizes frame (probing (plan_of frame) 0 0).probe in
-    let some = (prologue_few frame (registers_few (function_facts f.body) fits.registers)).0 in
+    let some = (prologue_few frame (registers_few (function_facts f) fits.registers)).0 in
     omega (
       arith,
       sizes_append (frame_code 0 0 (Some frame))

@@ -4,7 +4,7 @@ use Rattle.std.proofs.Common.{◌≡◌, ℕ, zero, suc, ◌+◌, ◌-◌, ◌*�
 use Rattle.std.specs.Prelude.{◌&&◌, IfOk}
 use Rattle.std.specs.List.{AllByRecursion}
 use Rattle.std.proofs.lemmas.Bool.{eq-eqb}
-use Rattle.image_link.specs.Words.{ImportedService, LinearBody, LinearFunction, LinearFunclet, LinearProgram, CanBeImage, ImageContents, RoutineView, is_leaf, framed, leaf_if, functions_from, funclet, no_function, body_of_function, routines, IsRoutineNear, IsSiteNear, AreFew, HasRoom, HasNames, HasPlaces, table_bytes, SiteView, room, routine_size, bounds, first_routine_at, text_bytes, infos_room, infos, ranges, first, total, text_size, xdata_begin, IsPlacement, site, image_of, NameRow, names_size, name_table_size, calls_walk, named_if, named_functions, function_rows, names_room, services_of, linked, FitsProgram, tables_room, function_bodies, funclet_bodies, program_tables_room}
+use Rattle.image_link.specs.Words.{ImportedService, LinearBody, LinearFunction, LinearFunclet, LinearProgram, CanBeImage, ImageContents, RoutineView, is_leaf, framed, leaf_if, functions_from, funclet, no_function, function_of_index, routines, IsRoutineNear, IsSiteNear, AreFew, HasRoom, HasNames, HasPlaces, table_bytes, SiteView, room, routine_size, bounds, first_routine_at, text_bytes, infos_room, infos, ranges, first, total, text_size, xdata_begin, IsPlacement, site, image_of, NameRow, names_size, name_table_size, calls_walk, named_if, named_functions, function_rows, names_room, services_of, linked, FitsProgram, tables_room, function_bodies, funclet_bodies, program_tables_room}
 use Rattle.image_link.proofs.Lemmas.{code_in_room}
 use Rattle.image_link.specs.declared.placement.Placement.{Placement}
 use Rattle.image_link.specs.declared.routine.Entry.TheVariants as entries
@@ -184,6 +184,7 @@ no_routine = record {
     slots = 0;
     frame = 0;
     registers = NO_REGISTERS;
+    arrivals = 0;
     size = 0;
     pushes = 0;
     saves = 0;
@@ -204,7 +205,7 @@ functions_main : (main index i : ℕ) (fs : List LinearFunction) (d : RoutineVie
     → get_or (functions_from main index fs) i d ≡ framed (get_or fs i e)
 functions_main main index i [] d e lt is = absurd (omega arith)
 functions_main main index zero (f ∷ fs) d e lt is = ap
-    (λ (b : Bool). leaf_if (not b && is_leaf f.body) f)
+    (λ (b : Bool). leaf_if (not b && is_leaf f) f)
     (eq-eqb index main (let z : index ≡ main = omega arith in z))
 functions_main main index (suc i) (f ∷ fs) d e lt is = functions_main main (suc index) i fs d e
     (omega arith) (let z : suc index + i ≡ main = omega arith in z)
@@ -234,7 +235,7 @@ functions_tables main index [] = refl
 functions_tables main index (f ∷ fs) =
     let r = functions_tables main (suc index) fs in
     let s = ap (λ (b : LinearBody). length b.regions)
-    (same_body (not (index == main) && is_leaf f.body) f) in
+    (same_body (not (index == main) && is_leaf f) f) in
     omega arith
 
 funclets_tables : (p : LinearProgram) (fs : List LinearFunclet)
@@ -268,7 +269,7 @@ has_places p fits =
       there = omega (arith, length-append a b);
       some = λ d. subst (λ (r : RoutineView). 0 < routine_size r) (sym (main_is p fits d))
           (framed_some (get_or p.functions p.main no_function)
-          (function_facts_fit (body_of_function p p.main) (function_at p p.main fits lt)));
+          (function_facts_fit (function_of_index p p.main) (function_at p p.main fits lt)));
     }
 
 named_within : (walks : Bool) (fs : List LinearFunction)

@@ -4,6 +4,7 @@ pub mod Entries
 pub mod Front
 pub mod Infos
 pub mod Nearness
+pub mod SavedLocals
 pub mod Places
 pub mod Bounds
 pub mod Images

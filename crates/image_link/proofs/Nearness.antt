@@ -1,11 +1,9 @@
 -- Each routine of a program that fits is near, and all of them have room.
-use Rattle.template_code.specs.declared.layout.Place.TheVariants.{InFrame}
-use Rattle.template_code.specs.Places.{place_of}
 use Rattle.std.proofs.Common.{◌≡◌, ℕ, suc, ◌+◌, ◌<◌, ◌≤◌, ◌==◌, Bool, true, false, not, List, [], ◌∷◌, ◌++◌, length, map, Option, Some, None, refl, sym, ap, subst, arith}
 use Rattle.std.specs.Prelude.{◌&&◌}
 use Rattle.std.specs.List.{AllByRecursion}
 use Rattle.linear_code.specs.declared.slot.Slot.{Slot}
-use Rattle.image_link.specs.Words.{Local, Temporary, Instruction, LinearBody, LinearFunction, LinearFunclet, LinearProgram, Layout, IsBaseNear, IsSlotNear, IsInstructionNear, IsParentNear, code_room, FitsFrame, RoutineView, is_leaf, function_facts, function_frame, leaf_layout, function_layout, leaf, framed, leaf_if, functions_from, funclet_facts, funclet_frame, nothing, no_function, body_of_function, body_of_funclet, kept_by, HasParent, entry_of, funclet_layout, funclet, routines, IsEntryNear, IsRoutineNear, FitsSlot, FitsInstruction, FitsBody, FitsFunction, FitsKind, FitsFunclet, function_bodies, funclet_bodies, text_room, FitsProgram}
+use Rattle.image_link.specs.Words.{Local, Temporary, Instruction, LinearBody, LinearFunction, LinearFunclet, LinearProgram, Layout, IsBaseNear, IsSlotNear, IsInstructionNear, IsParentNear, code_room, FitsFrame, RoutineView, is_leaf, function_facts, function_frame, leaf_layout, function_layout, leaf, framed, leaf_if, functions_from, funclet_facts, funclet_frame, nothing, no_function, function_of_index, body_of_funclet, kept_by, HasParent, entry_of, funclet_layout, funclet, routines, IsEntryNear, IsRoutineNear, FitsSlot, FitsInstruction, FitsBody, FitsFunction, FitsKind, FitsFunclet, function_bodies, funclet_bodies, text_room, FitsProgram}
 use Rattle.linear_code.specs.declared.instruction.Instruction.TheVariants as instructions
 use Rattle.linear_code.specs.declared.program.FuncletKind.{FuncletKind}
 use Rattle.linear_code.specs.declared.program.FuncletKind.TheVariants.{Filter, Finally}
@@ -28,9 +26,10 @@ record IsLow (y : Layout) : Type 0 where
 
 -- ---- frames
 
-pub function_facts_fit : (b : LinearBody) → FitsBody b → FitsFrame (function_facts b)
-function_facts_fit b fits =
-    let w = fits.words in
+pub function_facts_fit : (f : LinearFunction) → FitsFunction f → FitsFrame (function_facts f)
+function_facts_fit f fits =
+    let r = fits.registers in
+    let w = fits.body.words in
     record { registers = omega arith; words = omega arith }
 
 pub funclet_facts_fit : (b : LinearBody) → FitsBody b → FitsFrame (funclet_facts b)
@@ -43,8 +42,9 @@ ending_near : (y : Layout) (h : IsFrame (frame_of_layout y)) → IsFrameNear y
 ending_near y h = subst (IsFrameIf y) (sym (ne_eqb y.size 0
     (λ z. (let e : y.size ≡ 0 = z in let some = h.some in absurd (omega arith))))) h
 
-function_ending : (f : FrameLayout) → IsFrame f → IsFrameNear (function_layout f)
-function_ending f h = ending_near (function_layout f) (record {
+function_ending : (f : FrameLayout) (registers : List ℕ) → IsFrame f
+    → IsFrameNear (function_layout f registers)
+function_ending f registers h = ending_near (function_layout f registers) (record {
   pushes = h.pushes;
   saves = h.saves;
   some = h.some;
@@ -113,7 +113,7 @@ leaf_near : (f : LinearFunction) → FitsFunction f → IsRoutineNear (leaf f)
 leaf_near f fits =
     let w = fits.body.words in
     let few = fits.parameters in
-    let low : IsLow (leaf_layout f.body) = record {
+    let low : IsLow (leaf_layout f) = record {
       base = tt;
       pointers = omega arith;
       locals = omega arith;
@@ -123,7 +123,7 @@ leaf_near f fits =
     record {
       frame = tt;
       entry = (few, record { locals = omega arith; stack = omega arith });
-      code = code_near (leaf_layout f.body) f.body f.body.code low fits.body fits.body.code;
+      code = code_near (leaf_layout f) f.body f.body.code low fits.body fits.body.code;
       regions = fits.body.regions;
     }
 
@@ -131,18 +131,19 @@ framed_near : (f : LinearFunction) → FitsFunction f → IsRoutineNear (framed 
 framed_near f fits =
     let w = fits.body.words in
     let few = fits.parameters in
-    let facts = function_facts_fit f.body fits.body in
-    let all = small (function_facts f.body) facts in
-    let y = function_layout (function_frame f.body) in
+    let r = fits.registers in
+    let facts = function_facts_fit f fits in
+    let all = small (function_facts f) facts in
+    let y = function_layout (function_frame f) f.registers in
     let low : IsLow y = record {
       base = tt;
       pointers = omega arith;
       locals = omega arith;
       temporaries = omega arith;
-      ending = function_ending (function_frame f.body) (parts (function_facts f.body) facts);
+      ending = function_ending (function_frame f) f.registers (parts (function_facts f) facts);
     } in
     record {
-      frame = (parts (function_facts f.body) facts, all);
+      frame = (parts (function_facts f) facts, all);
       entry = (few, record { locals = omega arith; stack = omega arith });
       code = code_near y f.body f.body.code low fits.body fits.body.code;
       regions = fits.body.regions;
@@ -156,7 +157,7 @@ functions_near : (main index : ℕ) (fs : List LinearFunction) → AllByRecursio
     → AllByRecursion IsRoutineNear (functions_from main index fs)
 functions_near main index [] all = tt
 functions_near main index (f ∷ fs) all = (
-  function_near (not (index == main) && is_leaf f.body) f
+  function_near (not (index == main) && is_leaf f) f
       all.0,
   functions_near main (suc index) fs all.1,
 )
@@ -169,9 +170,9 @@ funclet_at p index fits lt = (all_at (FitsFunclet p) p.funclets index
     (record { kind = Filter; function = 0; parent = None; body = nothing }) fits.funclets lt).body
 
 pub function_at : (p : LinearProgram) (index : ℕ) → FitsProgram p → index < length p.functions
-    → FitsBody (body_of_function p index)
-function_at p index fits lt = (all_at FitsFunction p.functions index
-    no_function fits.functions lt).body
+    → FitsFunction (function_of_index p index)
+function_at p index fits lt =
+    all_at FitsFunction p.functions index no_function fits.functions lt
 
 parent_near : (p : LinearProgram) (o : Option ℕ) → FitsProgram p → HasParent p o
     → IsParentNear (kept_by p o)
@@ -180,10 +181,11 @@ parent_near p (Some index) fits h = let b = funclet_at p index fits h in let w =
     omega arith
 
 funclet_low : (p : LinearProgram) (f : LinearFunclet) → FitsProgram p → FitsFunclet p f
-    → IsLow (funclet_layout (function_frame (body_of_function p f.function)) (funclet_frame f.body))
+    → IsLow (funclet_layout (function_frame (function_of_index p f.function))
+    (funclet_frame f.body))
 funclet_low p f fits h =
     let b = function_at p f.function fits h.function in
-    let v = b.words in
+    let v = b.body.words in
     let w = h.body.words in
     let all = small (funclet_facts f.body) (funclet_facts_fit f.body h.body) in
     record {
@@ -191,13 +193,13 @@ funclet_low p f fits h =
       pointers = omega arith;
       locals = omega arith;
       temporaries = omega arith;
-      ending = funclet_ending (function_frame (body_of_function p f.function))
+      ending = funclet_ending (function_frame (function_of_index p f.function))
           (funclet_frame f.body) (parts (funclet_facts f.body) (funclet_facts_fit f.body h.body));
     }
 
 entry_near : (p : LinearProgram) (f : LinearFunclet) (k : FuncletKind) → FitsProgram p
     → FitsFunclet p f → FitsKind f.body k → IsEntryNear
-    (funclet_layout (function_frame (body_of_function p f.function)) (funclet_frame f.body))
+    (funclet_layout (function_frame (function_of_index p f.function)) (funclet_frame f.body))
     (entry_of k (kept_by p f.parent))
 entry_near p f Filter fits h kind =
     let w = h.body.words in (
@@ -206,7 +208,7 @@ entry_near p f Filter fits h kind =
     )
 entry_near p f (Finally flag) fits h kind =
     let w = h.body.words in
-    let y = funclet_layout (function_frame (body_of_function p f.function))
+    let y = funclet_layout (function_frame (function_of_index p f.function))
     (funclet_frame f.body) in (
       record { parent_near = parent_near p f.parent fits h.parent; base_near = omega arith },
       slot_near y f.body (Local flag) (funclet_low p f fits h) h.body kind,
@@ -216,7 +218,7 @@ funclet_near : (p : LinearProgram) (f : LinearFunclet) → FitsProgram p → Fit
     → IsRoutineNear (funclet p f)
 funclet_near p f fits h =
     let facts = funclet_facts_fit f.body h.body in
-    let y = funclet_layout (function_frame (body_of_function p f.function))
+    let y = funclet_layout (function_frame (function_of_index p f.function))
     (funclet_frame f.body) in
     record {
       frame = (parts (funclet_facts f.body) facts, small (funclet_facts f.body) facts);
@@ -232,7 +234,8 @@ funclets_near p (f ∷ fs) fits all = (funclet_near p f fits all.0, funclets_nea
 
 -- ---- programs
 
-both : (P : RoutineView → Type 0) (a b : List RoutineView) → AllByRecursion P a
+-- what holds of the routines of two lists holds of those of both
+pub both : (P : RoutineView → Type 0) (a b : List RoutineView) → AllByRecursion P a
     → AllByRecursion P b → AllByRecursion P (a ++ b)
 both P [] b p q = q
 both P (r ∷ a) b p q = (p.0, both P a b p.1 q)
@@ -242,33 +245,6 @@ routines_near p fits = both IsRoutineNear (functions_from p.main 0 p.functions) 
     p.funclets)
     (functions_near p.main 0 p.functions fits.functions)
     (funclets_near p p.funclets fits fits.funclets)
-
--- ---- all locals stand in frames
-
-abbrev pub AreFramed : RoutineView → Type 0
-AreFramed r = (local : ℕ) → place_of r.layout local ≡ InFrame
-
-function_framed : (b : Bool) (f : LinearFunction) → AreFramed (leaf_if b f)
-function_framed true f = λ local. refl
-function_framed false f = λ local. refl
-
-functions_framed : (main index : ℕ) (fs : List LinearFunction)
-    → AllByRecursion AreFramed (functions_from main index fs)
-functions_framed main index [] = tt
-functions_framed main index (f ∷ fs) = (
-  function_framed (not (index == main) && is_leaf f.body) f,
-  functions_framed main (suc index) fs,
-)
-
-funclets_framed : (p : LinearProgram) (fs : List LinearFunclet)
-    → AllByRecursion AreFramed (map (funclet p) fs)
-funclets_framed p [] = tt
-funclets_framed p (f ∷ fs) = ((λ local. refl), funclets_framed p fs)
-
-pub routines_framed : (p : LinearProgram) → AllByRecursion AreFramed (routines p)
-routines_framed p = both AreFramed (functions_from p.main 0 p.functions)
-    (map (funclet p) p.funclets) (functions_framed p.main 0 p.functions)
-    (funclets_framed p p.funclets)
 
 -- ---- room
 
@@ -282,7 +258,7 @@ functions_room main index [] = refl
 functions_room main index (f ∷ fs) =
     let r = functions_room main (suc index) fs in
     let s = ap (λ (b : LinearBody). code_room b.code)
-    (same_body (not (index == main) && is_leaf f.body) f) in
+    (same_body (not (index == main) && is_leaf f) f) in
     omega arith
 
 funclets_room : (p : LinearProgram) (fs : List LinearFunclet)

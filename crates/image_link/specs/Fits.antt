@@ -10,6 +10,7 @@ use Rattle.linear_code.specs.declared.instruction.Instruction.TheVariants as ins
 use Rattle.linear_code.specs.declared.program.FuncletKind.{FuncletKind}
 use Rattle.linear_code.specs.declared.program.FuncletKind.TheVariants.{Filter, Finally}
 use Rattle.linear_code.specs.Program.{LinearBody, LinearFunction, LinearFunclet, LinearProgram}
+use Rattle.template_code.specs.declared.layout.TheConstants.{MOST_REGISTERS}
 use Rattle.x64_emit.specs.Near.{IsFieldNear}
 use Rattle.x64_emit.specs.Rooms.{code_room}
 use Rattle.image_link.specs.Routines.{HasParent}
@@ -48,6 +49,7 @@ pub record FitsBody (b : LinearBody) : Type 0 where
 
 pub record FitsFunction (f : LinearFunction) : Type 0 where
   pub parameters : f.parameters ≤ MOST_PARAMETERS
+  pub registers : length f.registers ≤ MOST_REGISTERS
   pub some : 0 < length f.body.code
   pub body : FitsBody f.body
 

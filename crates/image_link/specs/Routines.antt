@@ -1,16 +1,19 @@
 -- What a program has in its text, one after another: its functions, and then its funclets by their
 -- numbers.
-use Rattle.std.specs.Prelude.{ℕ, suc, ◌+◌, ◌*◌, ◌<◌, Bool, true, false, not, ◌&&◌, ◌||◌, ◌==◌, nat_le, List, [], ◌∷◌, ◌++◌, length, get_or, map, Option, Some, None}
+use Rattle.std.specs.Prelude.{ℕ, suc, ◌+◌, ◌-◌, ◌*◌, ◌<◌, Bool, true, false, not, ◌&&◌, ◌==◌, nat_le, List, [], ◌∷◌, ◌++◌, length, get_or, map, replicate, Option, Some, None}
 use Rattle.linear_code.specs.declared.instruction.Instruction.{Instruction}
 use Rattle.linear_code.specs.declared.instruction.Instruction.TheVariants as instructions
+use Rattle.linear_code.specs.declared.slot.Slot.{Slot}
+use Rattle.linear_code.specs.declared.slot.Slot.TheVariants.{Local, Temporary}
 use Rattle.linear_code.specs.declared.program.FuncletKind.{FuncletKind}
 use Rattle.linear_code.specs.declared.program.FuncletKind.TheVariants.{Filter, Finally}
 use Rattle.linear_code.specs.Program.{LinearBody, LinearFunction, LinearFunclet, LinearProgram}
 use Rattle.frame_layout.specs.declared.frame.Facts.{Facts}
 use Rattle.frame_layout.specs.declared.frame.FrameLayout.{FrameLayout}
 use Rattle.frame_layout.specs.Layout.{frame_of}
-use Rattle.template_code.specs.declared.layout.TheConstants.{NO_REGISTERS}
+use Rattle.template_code.specs.declared.layout.TheConstants.{MOST_REGISTERS, NO_REGISTERS}
 use Rattle.template_code.specs.declared.layout.Layout.{Layout}
+use Rattle.template_code.specs.Operands.{has_second}
 use Rattle.image_link.specs.declared.routine.Entry.{Entry}
 use Rattle.image_link.specs.declared.routine.Entry.TheVariants as entries
 
@@ -21,59 +24,76 @@ pub record RoutineView : Type 0 where
   pub layout : Layout
   pub body : LinearBody
 
--- ---- leaf functions: they call nothing, handle nothing, and their slots are in the home space
+-- ---- leaf functions
 
-abbrev pub is_call : Instruction → Bool
-is_call (instructions.Call f first count) = true
-is_call (instructions.CallBuiltIn f first) = true
-is_call (instructions.CallFinally f) = true
-is_call (instructions.LocalUnwind l) = true
-is_call i = false
+-- They call nothing, handle nothing, and of registers write RAX alone, since no operation of theirs
+-- reads a second operand and no result goes to a parameter. Their parameters stay in the registers
+-- in which they arrive, and their other slots are in the home space.
 
-abbrev pub has_call : List Instruction → Bool
-has_call [] = false
-has_call (i ∷ is) = is_call i || has_call is
+-- a slot that is no parameter, of so many
+abbrev pub is_kept : ℕ → Slot → Bool
+is_kept n (Temporary i) = true
+is_kept n (Local i) = nat_le n i
 
-abbrev pub is_leaf : LinearBody → Bool
-is_leaf b =
-    nat_le (b.locals + b.temporaries) 4 && ((length b.regions == 0) && not (has_call b.code))
+abbrev pub is_spare : ℕ → Instruction → Bool
+is_spare n (instructions.Compute to o first second) = not (has_second o) && is_kept n to
+is_spare n (instructions.Jump label) = true
+is_spare n (instructions.JumpIfZero slot label) = true
+is_spare n instructions.Separator = true
+is_spare n (instructions.Return from) = true
+is_spare n i = false
+
+abbrev pub all_spare : ℕ → List Instruction → Bool
+all_spare n [] = true
+all_spare n (i ∷ is) = is_spare n i && all_spare n is
+
+abbrev pub is_leaf : LinearFunction → Bool
+is_leaf f =
+    nat_le f.parameters f.body.locals && (nat_le (f.body.locals + f.body.temporaries) 4
+    && ((length f.body.regions == 0) && all_spare f.parameters f.body.code))
 
 -- ---- functions
 
--- no local stands in a register
-abbrev pub function_facts : LinearBody → Facts
-function_facts b =
+-- it writes a register for each local that stands in one
+abbrev pub function_facts : LinearFunction → Facts
+function_facts f =
     record {
-      passed = b.passed;
+      passed = f.body.passed;
       kept = 0;
-      temporaries = b.temporaries;
-      locals = b.locals;
-      registers = 0;
+      temporaries = f.body.temporaries;
+      locals = f.body.locals;
+      registers = length f.registers;
       frame_register = true;
     }
 
-abbrev pub function_frame : LinearBody → FrameLayout
-function_frame b = frame_of (function_facts b)
+abbrev pub function_frame : LinearFunction → FrameLayout
+function_frame f = frame_of (function_facts f)
 
--- the slots of a leaf are above its return address
-abbrev pub leaf_layout : LinearBody → Layout
-leaf_layout b =
+-- the locals of registers, which are at most seven, and no local of the other registers
+abbrev pub placed_locals : List ℕ → List (Option ℕ)
+placed_locals locals = map Some locals ++ replicate (MOST_REGISTERS - length locals) None
+
+-- the slots of a leaf are above its return address, but for its parameters
+abbrev pub leaf_layout : LinearFunction → Layout
+leaf_layout f =
     record {
       base = None;
       pointers = 0;
       locals = 8;
-      temporaries = 8 + 8 * b.locals;
+      temporaries = 8 + 8 * f.body.locals;
       slots = 0;
       frame = 0;
       registers = NO_REGISTERS;
+      arrivals = f.parameters;
       size = 0;
       pushes = 0;
       saves = 0;
       framed = false;
     }
 
-abbrev pub function_layout : FrameLayout → Layout
-function_layout f =
+-- with the locals that stand in registers
+abbrev pub function_layout : FrameLayout → List ℕ → Layout
+function_layout f registers =
     record {
       base = None;
       pointers = 0;
@@ -81,7 +101,8 @@ function_layout f =
       temporaries = f.temporaries;
       slots = f.slots;
       frame = f.depth;
-      registers = NO_REGISTERS;
+      registers = placed_locals registers;
+      arrivals = 0;
       size = f.size;
       pushes = f.pushes;
       saves = f.saves;
@@ -93,16 +114,16 @@ leaf f =
     record {
       entry = entries.Function f.parameters;
       frame = None;
-      layout = leaf_layout f.body;
+      layout = leaf_layout f;
       body = f.body;
     }
 
 abbrev pub framed : LinearFunction → RoutineView
 framed f =
-    let frame = function_frame f.body in record {
+    let frame = function_frame f in record {
       entry = entries.Function f.parameters;
       frame = Some frame;
-      layout = function_layout frame;
+      layout = function_layout frame f.registers;
       body = f.body;
     }
 
@@ -114,7 +135,7 @@ leaf_if false f = framed f
 abbrev pub functions_from : ℕ → ℕ → List LinearFunction → List RoutineView
 functions_from main index [] = []
 functions_from main index (f ∷ fs) =
-    leaf_if (not (index == main) && is_leaf f.body) f ∷ functions_from main (suc index) fs
+    leaf_if (not (index == main) && is_leaf f) f ∷ functions_from main (suc index) fs
 
 -- ---- funclets: they keep the base of their function's frame and the address of EXCEPTION_POINTERS
 
@@ -140,8 +161,8 @@ nothing = record { locals = 0; temporaries = 0; passed = 0; code = []; regions =
 abbrev pub no_function : LinearFunction
 no_function = record { name = []; parameters = 0; registers = []; body = nothing }
 
-abbrev pub body_of_function : LinearProgram → ℕ → LinearBody
-body_of_function p index = (get_or p.functions index no_function).body
+abbrev pub function_of_index : LinearProgram → ℕ → LinearFunction
+function_of_index p index = get_or p.functions index no_function
 
 abbrev pub body_of_funclet : LinearProgram → ℕ → LinearBody
 body_of_funclet p index =
@@ -176,6 +197,7 @@ funclet_layout function own =
       slots = own.slots;
       frame = own.depth;
       registers = NO_REGISTERS;
+      arrivals = 0;
       size = own.size;
       pushes = own.pushes;
       saves = own.saves;
@@ -188,7 +210,7 @@ funclet p f =
     record {
       entry = entry_of f.kind (kept_by p f.parent);
       frame = Some own;
-      layout = funclet_layout (function_frame (body_of_function p f.function)) own;
+      layout = funclet_layout (function_frame (function_of_index p f.function)) own;
       body = f.body;
     }
 

@@ -33,7 +33,7 @@ pub use Rattle.image_link.specs.Linked.{total, first, text_size, xdata_begin, Is
 pub use Rattle.image_link.specs.Walks.{has_walk, functions_walk, funclets_walk, calls_walk, services_if, IsImported, IsImportedIf, named_if, named_functions, IsName, IsNamed, function_rows, names_room}
 unfoldable pub use Rattle.image_link.specs.Walks.{services_of}
 pub use Rattle.image_link.specs.Near.{IsRoutineNear, IsFrameNear, IsEntryNear, IsSiteNear, AreFew, HasRoom, HasNames, HasPlaces}
-pub use Rattle.image_link.specs.Routines.{RoutineView, function_facts, function_frame, framed, is_leaf, leaf_if, functions_from, funclet, routines, leaf_layout, function_layout, leaf, funclet_facts, funclet_frame, nothing, no_function, body_of_function, body_of_funclet, kept_by, HasParent, entry_of, funclet_layout, has_call}
+pub use Rattle.image_link.specs.Routines.{RoutineView, function_facts, function_frame, placed_locals, framed, is_leaf, leaf_if, functions_from, funclet, routines, leaf_layout, function_layout, leaf, funclet_facts, funclet_frame, nothing, no_function, function_of_index, body_of_funclet, kept_by, HasParent, entry_of, funclet_layout, is_kept, is_spare, all_spare}
 pub use Rattle.image_link.specs.Places.{PlaceView, place_at, places_from}
 pub use Rattle.image_link.specs.Tables.{infos_room, infos, range_if, range_of, ranges, trailer, scope_record, scope_records, scope_table, info_if, info_room, has_except, has_finally}
 unfoldable pub use Rattle.image_link.specs.Tables.{info_bytes}

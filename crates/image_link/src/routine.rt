@@ -1,6 +1,6 @@
 //! Routines: what a program has in its text, one after another.
 
-ghost use Rattle.std.specs.Prelude.{◌≡◌, ◌≤◌, ◌+◌, ◌∷◌, ◌++◌, not, ◌&&◌, OnOk, IfOk};
+ghost use Rattle.std.specs.Prelude.{◌≡◌, ◌≤◌, ◌+◌, ◌∷◌, ◌++◌, length, not, ◌&&◌, OnOk, IfOk};
 ghost use Rattle.linear_code.specs.Program.{linear_body, linear_function, linear_funclet, linear_program};
 ghost use Rattle.image_link.specs.Fits.{FitsBody, FitsFunction, FitsFunclet, FitsProgram};
 ghost use Rattle.image_link.specs.Routines as spec;
@@ -8,9 +8,11 @@ ghost use Rattle.image_link.specs.Routines as spec;
 use frame_layout::{Facts, FrameLayout, plan};
 use linear_code::instruction::Instruction;
 use linear_code::program::{FuncletKind, IrBody, IrFunclet, IrFunction, IrProgram, Region};
+use linear_code::slot::Slot;
 use std::alloc::{AllocError, Global};
 use std::marker::Model;
-use template_code::layout::{Layout, NO_REGISTERS};
+use template_code::layout::{Layout, MOST_REGISTERS, NO_REGISTERS};
+use template_code::operands::has_second;
 
 /// The words of the home space, which a leaf function uses for its slots.
 const HOME_WORDS: u64 = 4;
@@ -74,38 +76,55 @@ impl<'a> Routine<'a> {
     }
 }
 
-/// Whether an instruction is a call.
-fn is_call(instruction: &Instruction) -> bool
-    ensures { result ≡ spec.is_call instruction.now }
+/// Whether a slot is no parameter, of so many.
+fn is_kept(parameters: u64, slot: Slot) -> bool
+    ensures { result ≡ spec.is_kept parameters slot }
+{
+    match slot {
+        Slot::Temporary(_) => true,
+        Slot::Local(local) => parameters <= local,
+    }
+}
+
+/// Whether the code of an instruction writes RAX alone, and no parameter, of so many.
+fn is_spare(parameters: u64, instruction: &Instruction) -> bool
+    ensures { result ≡ spec.is_spare parameters instruction.now }
 {
     match *instruction {
-        Instruction::Call { .. }
-        | Instruction::CallBuiltIn { .. }
-        | Instruction::CallFinally { .. }
-        | Instruction::LocalUnwind { .. } => true,
+        Instruction::Compute { to, operation, .. } => {
+            !has_second(operation) && is_kept(parameters, to)
+        }
+        Instruction::Jump { .. }
+        | Instruction::JumpIfZero { .. }
+        | Instruction::Separator
+        | Instruction::Return { .. } => true,
         _ => false,
     }
 }
 
-fn has_call(code: &[Instruction]) -> bool
-    ensures { result ≡ spec.has_call code.now }
+fn all_spare(parameters: u64, code: &[Instruction]) -> bool
+    ensures { result ≡ spec.all_spare parameters code.now }
 {
     for instruction in code {
-        if is_call(instruction) {
-            return true;
+        if !is_spare(parameters, instruction) {
+            return false;
         }
     }
-    false
+    true
 }
 
-/// Whether a function needs no stack of its own: it calls nothing, handles nothing, and its slots
-/// find place in the home space that its caller has made.
-fn is_leaf(body: &IrBody) -> bool
-    requires { FitsBody (linear_body body.now) }
-    ensures { result ≡ spec.is_leaf (linear_body body.now) }
+/// Whether a function needs no stack of its own: it calls nothing, handles nothing, its parameters
+/// can stay in the registers in which they arrive, and its other slots find place in the home
+/// space that its caller has made.
+fn is_leaf(function: &IrFunction) -> bool
+    requires { FitsFunction (linear_function function.now) }
+    ensures { result ≡ spec.is_leaf (linear_function function.now) }
 {
+    let body = &function.body;
     let words = body.locals + body.temporaries;
-    words <= HOME_WORDS && (body.regions.len() == 0 && !has_call(&body.code))
+    function.parameters <= body.locals
+        && (words <= HOME_WORDS
+            && (body.regions.len() == 0 && all_spare(function.parameters, &body.code)))
 }
 
 fn leaf<'a>(function: &'a IrFunction) -> Routine<'a>
@@ -125,6 +144,7 @@ fn leaf<'a>(function: &'a IrFunction) -> Routine<'a>
             slots: 0,
             frame: 0,
             registers: NO_REGISTERS,
+            arrivals: function.parameters,
             size: 0,
             pushes: 0,
             saves: 0,
@@ -134,25 +154,38 @@ fn leaf<'a>(function: &'a IrFunction) -> Routine<'a>
     }
 }
 
-fn function_frame(body: &IrBody) -> FrameLayout
-    requires { FitsBody (linear_body body.now) }
-    ensures { result ≡ spec.function_frame (linear_body body.now) }
+fn function_frame(function: &IrFunction) -> FrameLayout
+    requires { FitsFunction (linear_function function.now) }
+    ensures { result ≡ spec.function_frame (linear_function function.now) }
 {
+    let body = &function.body;
     plan(&Facts {
         passed: body.passed,
         kept: 0,
         temporaries: body.temporaries,
         locals: body.locals,
-        registers: 0,
+        registers: function.registers.len() as u64,
         frame_register: true,
     })
+}
+
+/// Each register with its local, where one stands in it.
+fn placed_locals(locals: &[u64]) -> [Option<u64>; MOST_REGISTERS]
+    requires { length locals.now ≤ MOST_REGISTERS }
+    ensures { result ≡ spec.placed_locals locals.now }
+{
+    let mut places = NO_REGISTERS;
+    for index in 0..locals.len() {
+        places[index] = Some(locals[index]);
+    }
+    places
 }
 
 fn framed<'a>(function: &'a IrFunction) -> Routine<'a>
     requires { FitsFunction (linear_function function.now) }
     ensures { result ≡ spec.framed (linear_function function.now) }
 {
-    let frame = function_frame(&function.body);
+    let frame = function_frame(function);
     Routine {
         entry: Entry::Function {
             parameters: function.parameters,
@@ -165,7 +198,8 @@ fn framed<'a>(function: &'a IrFunction) -> Routine<'a>
             temporaries: frame.temporaries,
             slots: frame.slots,
             frame: frame.depth,
-            registers: NO_REGISTERS,
+            registers: placed_locals(function.registers.as_slice()),
+            arrivals: 0,
             size: frame.size,
             pushes: frame.pushes,
             saves: frame.saves,
@@ -178,10 +212,10 @@ fn framed<'a>(function: &'a IrFunction) -> Routine<'a>
 /// The routine of a function. `main` always has a frame.
 fn function_routine<'a>(function: &'a IrFunction, is_main: bool) -> Routine<'a>
     requires { FitsFunction (linear_function function.now) }
-    ensures { result ≡ spec.leaf_if (not is_main && spec.is_leaf (linear_body function.now.body))
+    ensures { result ≡ spec.leaf_if (not is_main && spec.is_leaf (linear_function function.now))
         (linear_function function.now) }
 {
-    if !is_main && is_leaf(&function.body) {
+    if !is_main && is_leaf(function) {
         leaf(function)
     } else {
         framed(function)
@@ -229,7 +263,7 @@ fn funclet_routine<'a>(program: &IrProgram, funclet: &'a IrFunclet) -> Routine<'
     ensures { result ≡ spec.funclet (linear_program program.now) (linear_funclet funclet.now) }
 {
     let own = funclet_frame(&funclet.body);
-    let function = function_frame(&program.functions[funclet.function as usize].body);
+    let function = function_frame(&program.functions[funclet.function as usize]);
     Routine {
         entry: entry_of(funclet.kind, kept_by(program, funclet.parent)),
         frame: Some(own),
@@ -241,6 +275,7 @@ fn funclet_routine<'a>(program: &IrProgram, funclet: &'a IrFunclet) -> Routine<'
             slots: own.slots,
             frame: own.depth,
             registers: NO_REGISTERS,
+            arrivals: 0,
             size: own.size,
             pushes: own.pushes,
             saves: own.saves,

@@ -1,6 +1,6 @@
 -- The unwind info of a frame is written as octets.
 use Rattle.std.proofs.Common.{◌≡◌, ℕ, ◌-◌, ◌/◌, ◌%◌, ◌<◌, ◌≤◌, Bool, true, false, cond, List, [], ◌∷◌, ◌++◌, length, replicate, refl, arith}
-use Rattle.std.specs.Prelude.{◌+◌, ◌&&◌, ◌==◌, nat_lt, nat_le}
+use Rattle.std.specs.Prelude.{◌&&◌, ◌==◌, nat_lt, nat_le}
 use Rattle.std.specs.List.{AllByRecursion}
 use Rattle.std.proofs.lemmas.Bool.{leb-true, and_parts}
 use Rattle.seh_num.specs.Widths.{if_set}
@@ -9,8 +9,8 @@ use Rattle.eh_tables.specs.Written.{slot, is_short, is_small, operation_bytes, c
 use Rattle.eh_tables.specs.declared.unwind_info.Trailer.{Trailer}
 use Rattle.eh_tables.specs.declared.unwind_info.Trailer.TheVariants.{Nothing, Handler, Parent}
 use Rattle.frame_layout.specs.declared.frame.FrameLayout.{FrameLayout}
-use Rattle.frame_layout.specs.Plans.{frame_register_if, frame_distance_if}
 use Rattle.frame_layout.specs.Infos.{info_of, codes_of}
+use Rattle.frame_layout.proofs.Planned.{frame_small}
 use Rattle.frame_layout.proofs.Steps.{HasRegisters, IsShort}
 use Rattle.frame_layout.proofs.Sizes.{prologue_few}
 use Rattle.frame_layout.proofs.Codes.{codes_few, codes_short, codes_offsets}
@@ -81,10 +81,6 @@ flags_small : (t : Trailer) → trailer_flags t < 8
 flags_small Nothing = omega arith
 flags_small (Handler s u rva) = let a = flag_small s 1 in let b = flag_small u 2 in omega arith
 flags_small (Parent r) = omega arith
-
-frame_small : (b : Bool) → frame_register_if b + frame_distance_if b < 256
-frame_small true = omega arith
-frame_small false = omega arith
 
 pub info_octets : (f : FrameLayout) (t : Trailer) → HasRegisters f
     → AreOctets (unwind_bytes (info_of f t))

@@ -11,6 +11,7 @@ use Rattle.frame_layout.proofs.Counts.{all_both}
 use Rattle.frame_layout.proofs.Steps.{HasRegisters}
 use Rattle.frame_layout.proofs.Frames.{registers_few}
 use Rattle.template_code.specs.Bytes.{spelled}
+use Rattle.image_link.specs.Fits.{FitsFunction}
 use Rattle.image_link.specs.Routines.{RoutineView, is_leaf, function_facts, leaf_if, functions_from, funclet_facts, funclet, routines}
 use Rattle.image_link.specs.Text.{SiteView, own_addresses, routine_size, front_code, first_routine_at, routine_code, routine_bytes, routines_bytes, text_bytes, thunk_at, bounds}
 use Rattle.image_link.specs.Tables.{trailer, scope_records, scope_table, info_if, info_bytes, infos, ranges}
@@ -81,16 +82,16 @@ infos_octets s at (r ∷ rs) all =
     joined (info_bytes s at r) (infos s (at + routine_size r) rs)
     (one_octets s at r all.0) (infos_octets s (at + routine_size r) rs all.1)
 
-function_few : (b : Bool) (f : LinearFunction) → RoutineHasFew (leaf_if b f)
-function_few true f = tt
-function_few false f = registers_few (function_facts f.body) (omega arith)
+function_few : (b : Bool) (f : LinearFunction) → FitsFunction f → RoutineHasFew (leaf_if b f)
+function_few true f fits = tt
+function_few false f fits = registers_few (function_facts f) fits.registers
 
-functions_few : (main index : ℕ) (fs : List LinearFunction)
+functions_few : (main index : ℕ) (fs : List LinearFunction) → AllByRecursion FitsFunction fs
     → AllByRecursion RoutineHasFew (functions_from main index fs)
-functions_few main index [] = tt
-functions_few main index (f ∷ fs) = (
-  function_few (not (index == main) && is_leaf f.body) f,
-  functions_few main (suc index) fs,
+functions_few main index [] all = tt
+functions_few main index (f ∷ fs) all = (
+  function_few (not (index == main) && is_leaf f) f all.0,
+  functions_few main (suc index) fs all.1,
 )
 
 funclets_few : (p : LinearProgram) (fs : List LinearFunclet)
@@ -98,9 +99,11 @@ funclets_few : (p : LinearProgram) (fs : List LinearFunclet)
 funclets_few p [] = tt
 funclets_few p (f ∷ fs) = (registers_few (funclet_facts f.body) (omega arith), funclets_few p fs)
 
-routines_few : (p : LinearProgram) → AllByRecursion RoutineHasFew (routines p)
-routines_few p = all_both RoutineHasFew (functions_from p.main 0 p.functions)
-    (map (funclet p) p.funclets) (functions_few p.main 0 p.functions) (funclets_few p p.funclets)
+routines_few : (p : LinearProgram) → AllByRecursion FitsFunction p.functions
+    → AllByRecursion RoutineHasFew (routines p)
+routines_few p fit = all_both RoutineHasFew (functions_from p.main 0 p.functions)
+    (map (funclet p) p.funclets) (functions_few p.main 0 p.functions fit)
+    (funclets_few p p.funclets)
 
 -- ---- the names of functions
 
@@ -121,11 +124,12 @@ row_names index b (f ∷ fs) all = (name_octets f.name all.0, row_names (index +
 -- ---- the image
 
 pub linked_are_octets : LinkedAreOctets
-linked_are_octets p globals names =
+linked_are_octets p fits globals =
     let rs = routines p in
     let s = site (services_of p) p.globals rs (length p.functions) in
     let at = first (services_of p) p.globals in
-    program_octets (linked p) globals (text_octets s rs) (infos_octets s at rs (routines_few p))
+    program_octets (linked p) globals (text_octets s rs)
+    (infos_octets s at rs (routines_few p fits.functions))
     (table_octets (ranges s (xdata_begin (services_of p) p.globals rs) at rs))
     (row_names 0 (bounds at rs) (named_functions p)
-    (named_octets (calls_walk p) p.functions names))
+    (named_octets (calls_walk p) p.functions fits.names))

@@ -6,17 +6,17 @@ use Rattle.c_resolved.specs.Program.{resolve}
 use Rattle.linear_code.specs.Program.{LinearProgram}
 use Rattle.pe_write.specs.Program.{parts_of}
 use Rattle.pe_write.specs.Written.{written}
+use Rattle.image_link.specs.Fits.{FitsProgram}
 use Rattle.image_link.specs.Linked.{linked}
-use Rattle.image_link.specs.Walks.{IsNamed}
 
 -- the list can be the bytes of a file
 abbrev pub AreOctets : List ℕ → Type 0
 AreOctets bytes = AllByRecursion (λ b. b < 256) bytes
 
--- the image of a linked program
+-- the image of a program that can be linked
 abbrev pub LinkedAreOctets : Type 0
 LinkedAreOctets =
-    (p : LinearProgram) → AreOctets p.globals → AllByRecursion IsNamed p.functions
+    (p : LinearProgram) → FitsProgram p → AreOctets p.globals
     → AreOctets (written (parts_of (linked p)))
 
 -- the globals of the program that a text is resolved to

@@ -2,8 +2,8 @@
 
 ghost use Rattle.image_octets.specs.OctetLaws.{LinkedAreOctets, ResolvedAreOctets};
 
-/// The image of a linked program is written as octets, where its globals and the names of its
-/// functions are octets; and the globals of a program that a text is resolved to are.
+/// The image of a program that can be linked is written as octets, where its globals are octets;
+/// and the globals of a program that a text is resolved to are.
 pub fn laws()
     ensures linked { LinkedAreOctets }
     ensures resolved { ResolvedAreOctets }

@@ -3,26 +3,33 @@ use Rattle.std.proofs.Common.{◌≡◌, ℕ, ◌+◌, ◌-◌, ◌*◌, ◌^◌
 use Rattle.std.specs.Prelude.{slice_get}
 use Rattle.std.proofs.lemmas.List.{append-nil}
 use Rattle.std.proofs.lemmas.Option.{slice_get_within}
-use Rattle.image_runs.specs.Words.{STACK_START, STACK_END, Memory, number_at, Protection, Rsp, State, register, word, Functions, distance, Funclet, LinearProgram, LinearBody, LinearFunction, FunctionBody, body_of, Layout, Instr, parameters_code, context_below, ImagePlan, IsWellFormed, Sites, arguments_code, function_arguments, IsLayoutIf, IsMachineMemory, IsProgramImage, slots_end, RepresentsAt, LARGEST_FRAME, arrivals, home_end, HoldsWords, Comes, begun, machine}
-use Rattle.image_runs.proofs.Lemmas.{Keeps, enters_keeps, stays_well_formed, may_read_written, word_of, words_at, words_count, words_small, arguments_then_words}
+use Rattle.image_runs.specs.Words.{STACK_START, STACK_END, Memory, Protection, Rsp, State, register, word, Functions, distance, Funclet, LinearProgram, LinearBody, LinearFunction, FunctionBody, body_of, Layout, Instr, parameters_code, context_below, ImagePlan, IsWellFormed, Sites, arguments_code, function_arguments, IsLayoutIf, IsMachineMemory, IsProgramImage, slots_end, RepresentsAt, LARGEST_FRAME, arrivals, home_end, Comes, begun, machine}
+use Rattle.image_runs.proofs.Lemmas.{Keeps, enters_keeps, stays_well_formed, may_read_written, word_of}
 use Rattle.match_stack.specs.StackRecords.{On}
 use Rattle.lowering_invariants.specs.SmallNumbers.{AreSmall}
 use Rattle.match_bodies.proofs.SilentTurns.{enters_silently, none_inside}
 use Rattle.match_bodies.specs.CodeSites.{making_size}
 use Rattle.x64_machine.specs.Contexts.{context_of}
+use Rattle.match_bodies.specs.LocalRegisters.{now_of}
+use Rattle.template_code.specs.Places.{place_of}
+use Rattle.x64_templates.specs.Straight.{LocalRegisters, local_registers}
+use Rattle.x64_templates.specs.Frames.{number_placed}
+use Rattle.match_bodies.specs.BodyViews.{arrived_in}
+use Rattle.match_stack.specs.ItemMatches.{HoldsPlaces}
+use Rattle.match_turns.proofs.FunctionLocals.{numbers_placed, numbers_count, numbers_small, arguments_then_places}
 use Rattle.seh_records.specs.Laws.{AllSmall}
 use Rattle.match_bodies.specs.Bodies.{HasFrame}
-use Rattle.match_bodies.specs.Callers.{nothing_owed}
+use Rattle.match_bodies.specs.Callers.{nothing_owed, owed_of}
 use Rattle.match_bodies.specs.ProgramImages.{frame_of}
 use Rattle.match_bodies.specs.Setting.{setting_of}
-use Rattle.match_bodies.proofs.BodyFrames.{frame_from, small_others as small_registers}
+use Rattle.match_bodies.proofs.BodyFrames.{frame_from, locals_own, small_others as small_registers}
 use Rattle.match_bodies.proofs.OwedCallers.{returns_alone}
 use Rattle.match_bodies.proofs.InstructionEffects.{others_of}
-use Rattle.match_bodies.proofs.RoutineWalks.{enters_steps, Beneath, AllPlain}
-use Rattle.match_bodies.proofs.EntryKeeping.{parameters_plain, EntryRan, entry_ran}
+use Rattle.match_bodies.proofs.RoutineWalks.{enters_steps, Beneath, AllSteady}
+use Rattle.match_bodies.proofs.EntryKeeping.{parameters_steady, EntryRan, entry_ran}
 use Rattle.match_bodies.proofs.ProgramKeeping.{KeepsImage}
 use Rattle.match_bodies.proofs.MemoryKeeping.{memory_stays}
-use Rattle.match_bodies.proofs.BodyViews.{is_machine}
+use Rattle.match_bodies.proofs.BodyViews.{is_machine, locals_small, arrived_small}
 use Rattle.match_turns.proofs.FunctionFrame.{function_begins}
 use Rattle.image_runs.proofs.FunctionEntry.{IsCalled}
 use Rattle.image_runs.proofs.FunctionEntry as entering
@@ -106,17 +113,18 @@ module _ (t : Functions) (fs : List Funclet) (program : LinearProgram) (p : Imag
   arguments_are = ap (λ x. function_arguments layout x) h.function
 
   arguments_stored : (leaf : Bool) → IsLayoutIf program p layout o leaf
-      → AllPlain layout.slots layout.frame 40 (parameters_code layout 0 fn.parameters)
-      × (layout.frame + 8 ≤ LARGEST_FRAME)
+      → AllSteady (owed_of p (FunctionBody f)) layout.slots layout.frame 40
+      (parameters_code layout 0 fn.parameters) × (layout.frame + 8 ≤ LARGEST_FRAME)
   arguments_stored true l =
       let e = l.frame in
       let a = l.locals in
       let n = l.few in
       let fits = h.fits in
       let few = h.few in (
-        parameters_plain layout.slots layout.frame 40 layout 0 fn.parameters
-            (image.in_frames (FunctionBody f)) (omega arith)
-            (omega arith) (λ j lt. inr (omega arith, omega arith)),
+        parameters_steady (owed_of p (FunctionBody f)) layout.slots layout.frame 40 layout 0
+            fn.parameters
+            (locals_own (setting_of t fs program p q image) (FunctionBody f) o there)
+            (omega arith) (omega arith) (λ j lt. inr (omega arith, omega arith)),
         omega arith,
       )
   arguments_stored false l =
@@ -125,20 +133,21 @@ module _ (t : Functions) (fs : List Funclet) (program : LinearProgram) (p : Imag
       let z = l.small in
       let fits = h.fits in
       let few = h.few in (
-        parameters_plain layout.slots layout.frame 40 layout 0 fn.parameters
-            (image.in_frames (FunctionBody f)) (omega arith)
-            (omega arith) (λ j lt. inl (omega arith)),
+        parameters_steady (owed_of p (FunctionBody f)) layout.slots layout.frame 40 layout 0
+            fn.parameters
+            (locals_own (setting_of t fs program p q image) (FunctionBody f) o there)
+            (omega arith) (omega arith) (λ j lt. inl (omega arith)),
         l.small,
       )
 
-  abbrev registers : List ℕ
-  registers = others_of first.cpu.registers
+  abbrev kept : List ℕ
+  kept = others_of first.cpu.registers
 
-  small_there : AllSmall registers
+  small_there : AllSmall kept
   small_there = small_registers first (subst IsWellFormed first_is well_formed)
 
   entry_run : EntryRan t fs program p q image (FunctionBody f) o there some top (top + 40) 0
-      registers [] inside.turns first after (arguments_code program p (FunctionBody f))
+      kept [] inside.turns first after (arguments_code program p (FunctionBody f))
   entry_run =
       let stored = arguments_stored (p.leaf (FunctionBody f))
       (image.laid_out (FunctionBody f) o there) in
@@ -146,20 +155,20 @@ module _ (t : Functions) (fs : List Funclet) (program : LinearProgram) (p : Imag
       let at : register first.cpu Rsp ≡ top = subst (λ (x : State). register x.cpu Rsp ≡ top)
       first_is h.stack in
       entry_ran t fs program p q image (FunctionBody f) o there some top (top + 40) 0
-      registers [] inside.turns first after
+      kept [] inside.turns first after
       (arguments_code program p (FunctionBody f)) [] 40
       (sym (append-nil (arguments_code program p (FunctionBody f)))) inside.exact
       (enters_steps from to inside.turns first after inside.comes) refl at beneath_main small_there
       h.memory.code stored.1 (omega arith) refl
-      (subst (λ (xs : List Instr). AllPlain layout.slots layout.frame 40 xs) (sym arguments_are)
-      stored.0)
+      (subst (λ (xs : List Instr). AllSteady (owed_of p (FunctionBody f)) layout.slots layout.frame
+      40 xs) (sym arguments_are) stored.0)
 
   -- its frame is there, with the registers that the host gave
-  frame_there : HasFrame after (p.leaf (FunctionBody f)) (frame_of p (FunctionBody f) 0 registers)
+  frame_there : HasFrame after (p.leaf (FunctionBody f)) (frame_of p (FunctionBody f) 0 kept)
   frame_there =
       let e = entry_run.beneath in
       frame_from (setting_of t fs program p q image) (FunctionBody f) o there after e.size 0
-      registers e.owed
+      kept e.owed
 
   pub comes : Comes t fs inside.turns s [] after
   comes = subst (λ (x : State). Comes t fs inside.turns x [] after) (sym first_is)
@@ -171,18 +180,31 @@ module _ (t : Functions) (fs : List Funclet) (program : LinearProgram) (p : Imag
   pub soon : inside.turns ≤ 25
   soon = inside.soon
 
-  -- what the stack held is in the other locals
+  well_formed_after : IsWellFormed after
+  well_formed_after =
+      stays_well_formed first after keeps rip_small (subst IsWellFormed first_is well_formed)
+
+  abbrev registers : LocalRegisters
+  registers = local_registers after.cpu.registers
+
+  -- what the stack and the registers held is in the other locals
   abbrev pub others : List ℕ
-  others = words_at after.memory (inside.sp + layout.locals + 8 * length arguments)
+  others = numbers_placed layout inside.sp (arrived_in after.cpu) registers after.memory
+      (length arguments)
       (o.locals - fn.parameters)
 
   pub counted_others : length others ≡ o.locals - fn.parameters
-  counted_others = words_count after.memory (inside.sp + layout.locals + 8 * length arguments)
+  counted_others = numbers_count layout inside.sp (arrived_in after.cpu) registers after.memory
+      (length arguments)
       (o.locals - fn.parameters)
 
   pub small_others : AreSmall others
-  small_others = words_small after.memory (inside.sp + layout.locals + 8 * length arguments)
-      (o.locals - fn.parameters) inside.bytes
+  small_others = numbers_small layout inside.sp (arrived_in after.cpu) registers after.memory
+      (length arguments)
+      (o.locals - fn.parameters)
+      (arrived_small after.cpu well_formed_after.count well_formed_after.small)
+      (locals_small after.cpu.registers well_formed_after.count well_formed_after.small)
+      inside.bytes
 
   -- ---- memory
 
@@ -227,16 +249,19 @@ module _ (t : Functions) (fs : List Funclet) (program : LinearProgram) (p : Imag
       let n = frame_small (p.leaf (FunctionBody f)) planned in omega arith
 
   argument_there : (i v : ℕ) → slice_get arguments i ≡ Some v
-      → number_at after.memory.byte 8 (inside.sp + layout.locals + 8 * i) ≡ v
+      → number_placed layout inside.sp (arrived_in after.cpu) registers after.memory i
+      (place_of layout i) ≡ v
   argument_there i v e =
       let lt = slice_get_within arguments i v e in
       let n = counted in
-      let z : inside.sp + layout.locals + 8 * i
-      ≡ inside.sp + (layout.locals + 8 * i) = omega arith in
-      ap (number_at after.memory.byte 8) z ∙ inside.locals i (omega arith) ∙ same i v e
+      inside.locals i (omega arith) ∙ same i v e
 
-  numbers : HoldsWords after.memory (inside.sp + layout.locals)
-      (inside.sp + slots_end layout (p.leaf (FunctionBody f))) (arguments ++ others)
+  abbrev HasNumbers : ℕ → Type 0
+  HasNumbers sp = HoldsPlaces after.memory (now_of (p.leaf (FunctionBody f)) after.cpu)
+      (p.register (FunctionBody f)) 0 (sp + layout.locals)
+      (sp + slots_end layout (p.leaf (FunctionBody f))) (arguments ++ others)
+
+  numbers : HasNumbers inside.sp
   numbers =
       let r = slots_fit (p.leaf (FunctionBody f)) planned in
       let r0 = r.0 in
@@ -244,8 +269,8 @@ module _ (t : Functions) (fs : List Funclet) (program : LinearProgram) (p : Imag
       let n = counted in
       let lo = sp_low in
       let fits = h.fits in
-      arguments_then_words after.memory (inside.sp + layout.locals)
-      (inside.sp + slots_end layout (p.leaf (FunctionBody f))) arguments
+      arguments_then_places (setting_of t fs program p q image) f o there inside.sp
+      (inside.sp + slots_end layout (p.leaf (FunctionBody f))) after.cpu after.memory arguments
       (o.locals - fn.parameters) (omega arith) argument_there
       (λ a v l u e. word_of after.memory a v (omega arith)
       (λ x g z. may_read_written after.memory x (memory.stack x (omega arith) (omega arith))) e)
@@ -259,16 +284,14 @@ module _ (t : Functions) (fs : List Funclet) (program : LinearProgram) (p : Imag
       let stack = inside.stack in
       let up : register after.cpu Rsp + layout.frame + 8 ≡ top + 8 = omega arith in
       function_begins t fs program p q image after source f o there [] [] 0 [] (arguments ++ others)
-      (stays_well_formed first after keeps rip_small (subst IsWellFormed first_is well_formed))
-      memory inside.rip some
+      well_formed_after memory inside.rip some
       (record { space = omega arith; shallow = omega arith }) tt
       (λ leaf. subst (λ x. x + home_end ≤ STACK_END) (sym stack)
       (at_home (p.leaf (FunctionBody f)) planned leaf))
-      0 refl registers refl small_there frame_there
-      (subst (λ x. HoldsWords after.memory (x + layout.locals)
-      (x + slots_end layout (p.leaf (FunctionBody f))) (arguments ++ others)) (sym stack) numbers)
+      0 refl kept refl small_there frame_there
+      (subst HasNumbers (sym stack) numbers)
       [] (subst (λ x. On t fs program p after.memory
-      (context_below 0 x registers) [] [] []) (sym up)
+      (context_below 0 x kept) [] [] []) (sym up)
       (record {
         is_there = record {
           stack = refl;

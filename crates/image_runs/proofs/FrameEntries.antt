@@ -1,8 +1,12 @@
 -- The function is entered, whatever its frame is.
-use Rattle.std.proofs.Common.{◌≡◌, ℕ, ◌+◌, ◌-◌, ◌<◌, ◌≤◌, Bool, true, false, Some, List, length, refl, sym, ap, subst, ◌∙◌, arith, inl, inr, length-drop}
-use Rattle.std.specs.Prelude.{slice_index, nat_le, if◌then◌else◌}
-use Rattle.image_runs.specs.Words.{Memory, State, Functions, Funclet, LinearProgram, LinearBody, LinearFunction, FunctionBody, body_of, Layout, sizes, parameters_code, MachineView, HasCode, ImagePlan, Sites, IsLayoutIf, IsFunctionLayout, IsLeafLayout, IsProgramImage, seen_by_templates, STACK_START, STACK_END, Instr}
-use Rattle.match_bodies.specs.CodeSites.{body_plan}
+use Rattle.std.proofs.Common.{◌≡◌, ℕ, ◌+◌, ◌-◌, ◌<◌, Bool, true, false, Some, List, [], length, refl, sym, ap, subst, ◌∙◌, arith, inl, inr}
+use Rattle.std.specs.Prelude.{slice_index}
+use Rattle.image_runs.specs.Words.{Memory, State, Functions, Funclet, LinearProgram, LinearBody, LinearFunction, FunctionBody, body_of, Layout, sizes, parameters_code, MachineView, ImagePlan, Sites, IsLayoutIf, IsFunctionLayout, IsLeafLayout, IsProgramImage, seen_by_templates, Enters}
+use Rattle.match_bodies.specs.CodeSites.{body_plan, making_size}
+use Rattle.match_bodies.specs.BodyViews.{arrived_in}
+use Rattle.x64_templates.specs.Frames.{number_placed}
+use Rattle.x64_templates.specs.Straight.{local_registers}
+use Rattle.match_bodies.proofs.LocalRegisters.{place_early}
 use Rattle.match_bodies.specs.Setting.{Setting, setting_of}
 use Rattle.seh_records.specs.Laws.{AllSmall}
 use Rattle.frame_rules.specs.Plan.{FramePlan}
@@ -12,8 +16,7 @@ use Rattle.match_bodies.proofs.BodyViews.{is_machine}
 use Rattle.match_bodies.proofs.FrameCode.{few_turns, plan_depth}
 use Rattle.match_bodies.proofs.PlannedPrologues.{body_planned, body_probed}
 use Rattle.match_bodies.proofs.PrologueSteps.{small_at}
-use Rattle.image_runs.proofs.Lemmas.{may_read_written, with_home, home_parameters, Made, no_frame, planned_frame, making_steps}
-use Rattle.std.proofs.lemmas.Bool.{cases_lt, le-leb, leb-true}
+use Rattle.image_runs.proofs.Lemmas.{may_read_written, parameters_stay, arguments_arrive, Made, planned_frame}
 use Rattle.match_turns.proofs.FunctionEntryCode.{making_frame, HasEntry, has_entry}
 use Rattle.image_runs.proofs.FunctionEntry as entering
 use Rattle.image_runs.proofs.FunctionEntry.{IsCalled}
@@ -55,59 +58,34 @@ module _ (t : Functions) (fs : List Funclet) (program : LinearProgram) (p : Imag
 
   leaf_entered : p.leaf (FunctionBody f) ≡ true → IsLeafLayout layout o → Goal
   leaf_entered leaf l =
-      let x = h.low in
-      let z = h.high in
       let e = l.frame in
-      let m = l.locals in
-      let k = l.temporaries in
       let n = l.few in
-      let fits = h.fits in
-      let small : 0 + count ≤ 4 = omega arith in
-      let none : target + sizes (making_frame p q f true) ≡ target = omega arith in
-      let same = home_parameters layout 0 count small in
-      let made = no_frame view target s.cpu.flags top arguments
-      (entering.view_stack t fs program p q image s source f fn top arguments h)
-      h.registers in
-      entering.entered t fs program p q image s source f fn top arguments h top target 0 made
-      (with_home layout) (image.in_frames (FunctionBody f))
-      (record {
-        none = l.none;
-        low = omega arith;
-        temporaries = omega arith;
-        locals = omega arith;
-        temporaries_small = omega arith;
-        locals_small = omega arith;
-        apart = inl (omega arith);
-      })
-      (record {
-        base = refl;
-        temporaries = omega arith;
-        locals = omega arith;
-        within = omega arith;
-      }) refl (omega arith)
-      (omega arith)
-      (subst (λ code. HasCode s.memory target code) (sym same)
-      (subst (λ a. HasCode s.memory a (parameters_code layout 0 count)) none
-      (entry true leaf).storing))
-      (ap (λ code. target + sizes code) same ∙ (let y = (entry true leaf).ends in omega arith))
-      (λ a out i. elim i [
-        | inl w ↦ (let g = w.0 in let u = w.1 in
-            elim out [
-              | inl o1 ↦ absurd (omega arith)
-              | inr (inl o1) ↦ absurd (omega arith)
-              | inr
-                  (inr o1) ↦ (let o2 = o1.0 in let o3 = o1.1 in absurd (omega arith))
-            ])
-        | inr w ↦ (let g = w.0 in let u = w.1 in
-            elim out [
-              | inl o1 ↦ absurd (omega arith)
-              | inr (inl o1) ↦ absurd (omega arith)
-              | inr
-                  (inr o1) ↦ (let o2 = o1.0 in let o3 = o1.1 in absurd (omega arith))
-            ])
-      ])
-      (ap (λ code. 0 + length code) same ∙ (entry true leaf).turns)
-      (omega (arith, ap (λ x. sizes (making_frame p q f x)) leaf))
+      let all : layout.arrivals ≡ count = image.arrivals f fn h.function leaf in
+      let few = l.arrive in
+      let none : parameters_code layout 0 count ≡ [] = parameters_stay layout 0 count (omega arith)
+      in
+      let begin = entry true leaf in
+      let first : State = entering.first t fs program p q image s source f fn top arguments h in
+      record {
+        sp = top;
+        place = omega arith;
+        state = first;
+        turns = 0;
+        exact = omega (arith, ap length none, begin.turns);
+        soon = omega arith;
+        comes = (let at : target ≡ target + making_size p q (FunctionBody f) =
+            omega (arith, ap (λ x. sizes (making_frame p q f x)) leaf) in
+            subst (λ a. Enters target a 0 first first) at refl);
+        rip = (let y = begin.ends in omega (arith, ap sizes none));
+        stack = entering.view_stack t fs program p q image s source f fn top arguments h;
+        locals = λ i lt.
+            ap (number_placed layout top (arrived_in first.cpu)
+            (local_registers first.cpu.registers) s.memory i) (place_early layout i (omega arith))
+            ∙ arguments_arrive view arguments h.registers i (omega arith);
+        bytes = h.memory.data_alone.bytes;
+        agrees = h.memory.agrees;
+        same = λ a own_byte out. refl;
+      }
 
   -- ---- a function with a frame
 
@@ -161,8 +139,8 @@ module _ (t : Functions) (fs : List Funclet) (program : LinearProgram) (p : Imag
         let j = l.within in
         let k = l.small in
         entering.entered t fs program p q image s source f fn top arguments h sp
-        (target + sizes (making_frame p q f false)) (prologue_turns plan) made layout
-        (image.in_frames (FunctionBody f)) (record {
+        (target + sizes (making_frame p q f false)) (prologue_turns plan) made
+        (record {
           none = l.none;
           low = omega arith;
           temporaries = omega arith;
@@ -172,11 +150,12 @@ module _ (t : Functions) (fs : List Funclet) (program : LinearProgram) (p : Imag
           apart = inr (omega arith);
         })
         (record {
+          none_arrive = l.none_arrive;
           base = refl;
           temporaries = omega arith;
           locals = omega arith;
           within = l.within;
-        }) refl k
+        }) k
         (omega arith) (entry false leaf).storing (entry false leaf).ends
         (λ a out i. elim i [
           | inl w ↦ (let g = w.0 in let u = w.1 in

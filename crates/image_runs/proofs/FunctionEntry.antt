@@ -1,23 +1,23 @@
 -- A function with at most four parameters is entered from its first byte: once its frame is made,
 -- the parameters go to their locals.
-use Rattle.std.proofs.Common.{◌≡◌, ℕ, ◌+◌, ◌*◌, ◌^◌, ◌<◌, ◌≤◌, true, Some, List, length, sym, ap, subst, ◌∙◌, arith, inl, inr, refl}
+use Rattle.std.proofs.Common.{◌≡◌, ℕ, ◌+◌, ◌^◌, ◌<◌, ◌≤◌, true, Some, List, length, ap, subst, ◌∙◌, arith, inl, inr, refl}
 use Rattle.std.specs.Prelude.{◌⊎◌, slice_get}
-use Rattle.image_runs.specs.Words.{STACK_START, STACK_END, Memory, number_at, may_write, Protection, Rsp, State, register, Functions, Funclet, Local, LinearProgram, LinearBody, LinearFunction, FunctionBody, body_of, function_body, Layout, sizes, spelled, parameters_code, stack_parameter, MachineView, InRegisters, with_arguments, OnStack, IsFunctionFrame, body_in_memory, HasCode, Enters, ReachesBody, ImagePlan, Sites, arguments_code, IsMachineMemory, IsProgramImage, OtherRegisters, seen_by_templates, counts_of, LARGEST_FRAME, is_reserved, machine}
+use Rattle.image_runs.specs.Words.{STACK_START, STACK_END, Memory, may_write, Protection, Rsp, State, register, Functions, Funclet, Local, LinearProgram, LinearBody, LinearFunction, FunctionBody, body_of, function_body, Layout, sizes, spelled, parameters_code, stack_parameter, MachineView, InRegisters, with_arguments, OnStack, IsFunctionFrame, body_in_memory, HasCode, Enters, ReachesBody, ImagePlan, Sites, arguments_code, IsMachineMemory, IsProgramImage, OtherRegisters, seen_by_templates, counts_of, LARGEST_FRAME, is_reserved, machine}
 use Rattle.flat_memory.specs.Protections.{is_writable}
 use Rattle.x64_templates.specs.CallStates.{sp_of}
 use Rattle.match_bodies.specs.CodeSites.{body_plan, making_size}
 use Rattle.seh_records.specs.Laws.{AllSmall}
 use Rattle.x64_templates.specs.Frames.{InTemporaries, InLocals, IsBytes, Agrees}
 use Rattle.x64_instr.specs.declared.register.Reg.{Reg}
-use Rattle.template_code.specs.declared.layout.Place.TheVariants.{InFrame}
 use Rattle.template_code.specs.Places.{place_of}
-use Rattle.x64_templates.specs.Straight.{registers_of}
+use Rattle.x64_templates.specs.Straight.{local_registers, registers_of}
 use Rattle.x64_templates.specs.Locals.{local_in}
 use Rattle.x64_templates.specs.Frames.{number_placed}
+use Rattle.match_bodies.specs.BodyViews.{arrived_in}
 use Rattle.match_bodies.proofs.BodyViews.{locals_small}
 use Rattle.x64_templates.proofs.PrologueParts.{registers_are}
 use Rattle.match_bodies.proofs.ChainKeeping.{all_are, are_all}
-use Rattle.image_runs.proofs.Lemmas.{bytes_kept, enters_then, making_steps, stack_is_reserved, Keeps, enters_keeps, own_frame, IsOwn, roomy_own, fresh_own, parameters_soon, argument_is, Made}
+use Rattle.image_runs.proofs.Lemmas.{bytes_kept, enters_then, making_steps, stack_is_reserved, Keeps, enters_keeps, own_frame, IsOwn, roomy_own, fresh_own, parameters_soon, number_unarrived, argument_is, Made}
 use Rattle.x64_templates.proofs.Ranges.{within_agrees}
 use Rattle.x64_templates.proofs.Entering.{fresh_holds, parameters_run}
 
@@ -83,8 +83,8 @@ module _ (t : Functions) (fs : List Funclet) (program : LinearProgram) (p : Imag
     pub comes : Enters target (target + making_size p q (FunctionBody f)) turns first state
     pub rip : state.cpu.rip ≡ p.address (FunctionBody f) 0
     pub stack : register state.cpu Rsp ≡ sp
-    pub locals : (i : ℕ) → i < count → number_at state.memory.byte 8 (sp + (layout.locals + 8 * i))
-        ≡ arguments i
+    pub locals : (i : ℕ) → i < count → number_placed layout sp (arrived_in state.cpu)
+        (local_registers state.cpu.registers) state.memory i (place_of layout i) ≡ arguments i
     pub bytes : IsBytes state.memory
     pub agrees : Agrees (is_reserved program.globals) state.memory source
     pub same : (a : ℕ) → is_reserved program.globals a ≡ true → Outside a
@@ -92,19 +92,21 @@ module _ (t : Functions) (fs : List Funclet) (program : LinearProgram) (p : Imag
 
   -- ---- once the frame is made, the parameters
 
-  module _ (sp to n : ℕ) (made : Made view target to s.cpu.flags top sp arguments n) (y : Layout)
-      (framed : (i : ℕ) → place_of y i ≡ InFrame) (own : IsOwn program.globals y o sp) (whole :
-      IsFunctionFrame
-      (own_frame program.globals y o sp)) (same_locals : y.locals ≡ layout.locals)
-      (short : y.frame + 8 ≤ LARGEST_FRAME)
-      (place : sp + layout.frame ≡ top) (code : HasCode s.memory to (parameters_code y 0 count))
-      (ends : to + sizes (parameters_code y 0 count) ≡ p.address (FunctionBody f) 0)
-      (outside : (a : ℕ) → Outside a → InTemporaries y (counts_of o) sp a
-      ⊎ InLocals y (counts_of o) sp a → ⊥)
-      (counted_turns : n + length (parameters_code y 0 count)
+  module _ (sp to n : ℕ) (made : Made view target to s.cpu.flags top sp arguments n)
+      (own : IsOwn program.globals layout o sp)
+      (whole : IsFunctionFrame (own_frame program.globals layout o sp))
+      (short : layout.frame + 8 ≤ LARGEST_FRAME) (place : sp + layout.frame ≡ top)
+      (code : HasCode s.memory to (parameters_code layout 0 count))
+      (ends : to + sizes (parameters_code layout 0 count) ≡ p.address (FunctionBody f) 0)
+      (outside : (a : ℕ) → Outside a → InTemporaries layout (counts_of o) sp a
+      ⊎ InLocals layout (counts_of o) sp a → ⊥)
+      (counted_turns : n + length (parameters_code layout 0 count)
       ≡ making_steps (p.leaf (FunctionBody f)) (body_plan p q (FunctionBody f))
       + length (arguments_code program p (FunctionBody f)))
       (prologue : to ≡ target + making_size p q (FunctionBody f)) where
+    abbrev y : Layout
+    y = layout
+
     abbrev k : State
     k = machine made.after to made.flags
 
@@ -144,14 +146,14 @@ module _ (t : Functions) (fs : List Funclet) (program : LinearProgram) (p : Imag
     run : ReachesBody (own_frame program.globals y o sp) (length (parameters_code y 0 count)) k
         (to + sizes (parameters_code y 0 count)) made.after.rest made.after.locals
         (record {
-          slots = with_arguments (body_in_memory y sp sp made.after.locals made.after.memory
-              source).slots
+          slots = with_arguments (body_in_memory y sp sp (λ i. 0) made.after.locals
+              made.after.memory source).slots
               arguments 0 count;
           memory = source;
         })
     run =
         parameters_run (own_frame program.globals y o sp) count arguments made.after to made.flags
-        (body_in_memory y sp sp made.after.locals made.after.memory source) (roomy_own
+        (body_in_memory y sp sp (λ i. 0) made.after.locals made.after.memory source) (roomy_own
         program.globals y o sp own)
         whole h.fits made.stack
         (fresh_holds (own_frame program.globals y o sp) made.after.locals made.after.memory source
@@ -185,11 +187,11 @@ module _ (t : Functions) (fs : List Funclet) (program : LinearProgram) (p : Imag
           rip = ends;
           stack = ap (λ (r : OtherRegisters). r.rsp) run.rest ∙ made.stack;
           locals = λ i lt. (let fits = h.fits in
-              let w : sp + (layout.locals + 8 * i) ≡ sp + (y.locals + 8 * i) = omega arith in
-              ap (number_at run.after.memory.byte 8) w
-              ∙ sym (ap (number_placed y sp run.after.locals run.after.memory i) (framed i))
+              number_unarrived y sp
+              (arrived_in (machine run.after (to + sizes (parameters_code y 0 count))
+              run.flags).cpu) (λ j. 0) run.after.locals run.after.memory i whole.none_arrive
               ∙ run.holds.slot (Local i) (let z : i < o.locals = omega arith in z)
-              ∙ argument_is (body_in_memory y sp sp made.after.locals made.after.memory
+              ∙ argument_is (body_in_memory y sp sp (λ i. 0) made.after.locals made.after.memory
               source).slots arguments 0
               count i (omega arith) (omega arith));
           bytes = run.changes.bytes made_bytes;

@@ -1,9 +1,10 @@
 -- The linear code of a sound program is as its image needs it.
-use Rattle.std.proofs.Common.{◌≡◌, ℕ, ◌+◌, ◌<◌, ◌==◌, Bool, true, false, not, length, Some, refl, ap, ◌∙◌, arith}
+use Rattle.std.proofs.Common.{◌≡◌, ℕ, ◌+◌, ◌<◌, ◌==◌, Bool, true, false, length, Some, refl, ap, ◌∙◌, arith}
 use Rattle.std.specs.Prelude.{◌&&◌, nat_le, slice_get}
 use Rattle.std.proofs.lemmas.Bool.{ne_eqb}
-use Rattle.image_runs.specs.Words.{Program, LinearBody, LinearFunclet, function_body, lowered, IsLinkable, IsSmallFunclet, has_call, IsFuncletSized, LoweredIsCompiled, is_leaf}
+use Rattle.image_runs.specs.Words.{Program, LinearFunction, LinearFunclet, lowered, IsLinkable, IsSmallFunclet, all_spare, IsFuncletSized, LoweredIsCompiled, is_leaf}
 use Rattle.lowering_invariants.proofs.Small.{lowered_is_small}
+use Rattle.lowering_invariants.proofs.SparedRegisters.{lowered_spares}
 use Rattle.image_runs.proofs.Lemmas.{lowered_is_whole, all_at, images_are_small, lowered_has_regions, lowered_names_funclets}
 use Rattle.image_runs.proofs.FuncletOwners.{is_owned}
 use Rattle.image_runs.proofs.FuncletRegions.{all_named}
@@ -13,12 +14,15 @@ and_false true = refl
 and_false false = refl
 
 -- what has a region is no leaf
-framed : (b : LinearBody) → 0 < length b.regions → is_leaf b ≡ false
-framed b some =
+framed : (f : LinearFunction) → 0 < length f.body.regions → is_leaf f ≡ false
+framed f some =
+    let b = f.body in
+    let few = nat_le (b.locals + b.temporaries) 4 in
     let none : (length b.regions == 0) ≡ false = ne_eqb (length b.regions) 0
     (λ e. (let q : length b.regions ≡ 0 = e in omega arith)) in
-    ap (λ (x : Bool). nat_le (b.locals + b.temporaries) 4 && (x && not (has_call b.code))) none
-    ∙ and_false (nat_le (b.locals + b.temporaries) 4)
+    ap (λ (x : Bool). nat_le f.parameters b.locals && (few && (x && all_spare f.parameters b.code)))
+    none ∙ ap (λ (x : Bool). nat_le f.parameters b.locals && x) (and_false few)
+    ∙ and_false (nat_le f.parameters b.locals)
 
 sized : (program : Program) → IsLinkable program → (k : ℕ) (f : LinearFunclet)
     → slice_get (lowered program).funclets k ≡ Some f → IsFuncletSized (lowered program) f
@@ -29,9 +33,9 @@ sized program l k f e =
     let passed = small.body.passed in
     let temporaries = small.body.temporaries in
     record {
-      function = owned.function.body;
-      there = ap function_body owned.there;
-      framed = framed owned.function.body owned.some;
+      function = owned.function;
+      there = owned.there;
+      framed = framed owned.function owned.some;
       locals = owned.locals;
       words = omega arith;
     }
@@ -45,4 +49,5 @@ lowered_is_compiled program l = record {
   all_named = all_named program l.sound;
   whole = lowered_is_whole program l.sound;
   funclets = sized program l;
+  spares = lowered_spares program;
 }

@@ -2,6 +2,7 @@
 -- began.
 use Rattle.std.proofs.Common.{◌≡◌, ℕ, ◌+◌, ◌^◌, ◌<◌, ◌≤◌, false, Some, List, [], ◌∷◌, length, refl, sym, ap, subst, arith}
 use Rattle.std.specs.List.{AllByRecursion}
+use Rattle.virtual_unwind.specs.Contexts.{get}
 use Rattle.image_runs.specs.Words.{STACK_START, Memory, Context, context_of, State, rsp, Functions, Funclet, LinearProgram, LinearBody, Frame, body_of, Item, Waits, Configuration, StackItem, Framed, Leaf, FrameIsAt, IsStack, StackFrame, ImagePlan, InCode, Activation, BodyWaits, Linked, HasSpace, below_end, Sites, HasProgram, IsResumed, IsProgramImage, IsWithinInstruction, WalkGives, WalksGiveTheFramesWithin, frame_of}
 use Rattle.linear_code.specs.declared.program.Region.{Region}
 use Rattle.linear_machine.specs.Regions.{holds, regions_of}
@@ -42,9 +43,9 @@ module _ (t : Functions) (fs : List Funclet) (program : LinearProgram) (p : Imag
     abbrev to : Context
     to = record { rip = rip; kept = c.kept }
 
-    waits_there : (size end : ℕ) → BodyWaits t fs program p m c size end b acts
-        → BodyWaits t fs program p m to size end b acts
-    waits_there size end w = record {
+    waits_there : (now : ℕ → ℕ) (size end : ℕ) → BodyWaits t fs program p m c now size end b acts
+        → BodyWaits t fs program p m to now size end b acts
+    waits_there now size end w = record {
       code = w.code;
       body = w.body;
       label = b.next;
@@ -83,7 +84,7 @@ module _ (t : Functions) (fs : List Funclet) (program : LinearProgram) (p : Imag
           entry = l.0.entry;
           slots = l.0.slots;
           small = l.0.small;
-          waits = waits_there f.slots _ l.0.waits;
+          waits = waits_there (get c) f.slots _ l.0.waits;
           pointers = l.0.pointers;
           returns = l.0.returns;
         },
@@ -102,7 +103,8 @@ module _ (t : Functions) (fs : List Funclet) (program : LinearProgram) (p : Imag
           leaf = l.0.leaf;
           home = l.0.home;
           none = l.0.none;
-          waits = waits_there _ _ l.0.waits;
+          now = l.0.now;
+          waits = waits_there l.0.now _ _ l.0.waits;
           returns = l.0.returns;
         },
         l.1,

@@ -18,10 +18,9 @@ pub use Rattle.match_bodies.proofs.StackWords.{word_is, may_read_written, word_o
 pub use Rattle.match_bodies.proofs.StepNeeds.{label_in}
 pub use Rattle.match_bodies.proofs.TemplateRuns.{get_or_is}
 pub use Rattle.match_bodies.proofs.TemplateSizes.{template_some, first_in_code, address_next}
-pub use Rattle.match_turns.proofs.FunctionLocals.{words_count, words_small, arguments_then_words, argument_is}
-unfoldable pub use Rattle.match_turns.proofs.FunctionLocals.{words_at}
-pub use Rattle.match_turns.proofs.FunctionParameters.{with_home, home_parameters, own_frame, IsOwn, roomy_own, fresh_own, parameters_soon}
-pub use Rattle.match_turns.proofs.FunctionPrologue.{Made, no_frame, planned_frame}
+pub use Rattle.match_turns.proofs.FunctionLocals.{argument_is}
+pub use Rattle.match_turns.proofs.FunctionParameters.{parameters_stay, arguments_arrive, number_unarrived, own_frame, IsOwn, roomy_own, fresh_own, parameters_soon}
+pub use Rattle.match_turns.proofs.FunctionPrologue.{Made, planned_frame}
 pub use Rattle.match_turns.proofs.OperationCode.{is_some, IsSome, template_is_at, some_finish}
 pub use Rattle.image_link.proofs.Images.{images_are_small}
 pub use Rattle.image_tables.proofs.FuncletNumbers.{sum_of, sum_from_one, sums_agree, counts, lowered_names_funclets}

@@ -1,6 +1,8 @@
 -- The frames of a stack that linear code's list describes are the live ones.
 use Rattle.std.proofs.Common.{◌≡◌, ℕ, ◌+◌, Bool, Some, List, [], ◌∷◌, length, drop, refl, sym, ap, subst, ◌∙◌, arith}
 use Rattle.std.specs.Prelude.{slice_set}
+use Rattle.std.proofs.lemmas.Bool.{false≢true}
+use Rattle.virtual_unwind.specs.Contexts.{get}
 use Rattle.image_runs.specs.Words.{Memory, Context, context_of, rsp, Functions, Funclet, LinearProgram, Item, Waits, Searches, Unwinds, StackItem, Framed, Leaf, Searching, Unwinding, IsStack, after_frame, after_leaf, ImagePlan, Activation, activations_below, BodyWaits, Linked, temporaries_end, ReturnsTo, Sites, IsProgramImage, slots_end, last_temporary, back_to, AreFrames}
 use Rattle.image_runs.proofs.Lemmas.{set_head, leaf_layout, frame_size, frame_is}
 use Rattle.match_stack.specs.Stack.{IsAsTold}
@@ -51,10 +53,12 @@ module _ (t : Functions) (fs : List Funclet) (program : LinearProgram) (p : Imag
         s.0 in
         let caller = after_frame c f in (
           record {
-            waits = subst (λ (leaf : Bool). BodyWaits t fs program p m c (slots_end y leaf)
+            now = get c;
+            found = λ e. refl;
+            waits = subst (λ (leaf : Bool). BodyWaits t fs program p m c (get c) (slots_end y leaf)
                 (last_temporary y b.body leaf) b acts) (sym l.0.framed)
-                (subst (λ n. BodyWaits t fs program p m c n (temporaries_end y b.body n) b acts)
-                l.0.slots w);
+                (subst (λ n. BodyWaits t fs program p m c (get c) n (temporaries_end y b.body n) b
+                acts) l.0.slots w);
             at = refl;
             back = back m (after_frame c f) is below (activations_below b.body acts) s.1 l.2
                 l.0.returns;
@@ -73,7 +77,9 @@ module _ (t : Functions) (fs : List Funclet) (program : LinearProgram) (p : Imag
         (image.laid_out b.body w.code w.body) in
         let next = rsp c + 8 in (
           record {
-            waits = subst (λ (leaf : Bool). BodyWaits t fs program p m c (slots_end y leaf)
+            now = l.0.now;
+            found = λ e. absurd (false≢true (sym e ∙ l.0.leaf));
+            waits = subst (λ (leaf : Bool). BodyWaits t fs program p m c l.0.now (slots_end y leaf)
                 (last_temporary y b.body leaf) b acts) (sym l.0.leaf) w;
             at = refl;
             back = back m (after_leaf c up) is below (activations_below b.body acts) s.1 l.2

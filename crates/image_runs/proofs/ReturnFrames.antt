@@ -18,11 +18,10 @@ use Rattle.image_tables.specs.CodeInMemory.{image_base, template_at, links}
 use Rattle.image_tables.proofs.CodeInMemory.{executable_split, code_split, IsThere, template_there}
 use Rattle.image_tables.proofs.BodyInstructions.{AllInner, inner_at, fetch_inner}
 use Rattle.template_code.specs.declared.layout.Place.{Place}
-use Rattle.template_code.specs.declared.layout.Place.TheVariants.{InRegister, InFrame}
+use Rattle.template_code.specs.declared.layout.Place.TheVariants.{InRegister, InFrame, Arriving}
 use Rattle.template_code.specs.Places.{place_of}
 use Rattle.template_code.specs.Slots.{fetch_placed}
-use Rattle.image_tables.proofs.Layouts.{size_of, sized, slots_of, slots_placed}
-use Rattle.image_tables.proofs.BodyFrames.{near_at, HasItem, frame_at, leaf_at}
+use Rattle.image_tables.proofs.BodyFrames.{near_at, operations_by, HasItem, frame_at, leaf_at}
 use Rattle.image_runs.proofs.Lemmas.{template_some, IsSome}
 use Rattle.image_states.proofs.Addresses.{place, here}
 use Rattle.image_states.proofs.Entering.{code_same}
@@ -37,6 +36,7 @@ local_some (Some b) d = record { item = _; left = _; parts = refl }
 placed_some : (y : Layout) (i : ℕ) (p : Place) → IsSome (fetch_placed y Rax i p)
 placed_some y i (InRegister r) = record { item = _; left = []; parts = refl }
 placed_some y i InFrame = local_some y.base (local_at y i)
+placed_some y i Arriving = record { item = _; left = []; parts = refl }
 
 fetch_some : (y : Layout) (from : Slot) → IsSome (fetch y Rax from)
 fetch_some y (Temporary i) = record { item = _; left = []; parts = refl }
@@ -79,7 +79,9 @@ module _ (p : LinearProgram) (m : Memory) (x : Placed) (number : ℕ) (from : Sl
       ≡ image_base + template_at x number = omega arith in
       record {
         item = f.item;
-        inner = inner_at [] f.left f.item (subst AllInner f.parts (fetch_inner y from near.0));
+        inner = inner_at (operations_by x) [] f.left f.item
+            (subst (AllInner (operations_by x)) f.parts
+            (fetch_inner (operations_by x) y from near.0));
         past = omega arith;
         inside = omega arith;
         is_there = subst (λ (n : ℕ). IsExecutableAt m n (chosen f.item)) here'

@@ -5,7 +5,7 @@ use Rattle.flat_memory.specs.Memory.{Memory}
 use Rattle.x64_machine.specs.declared.context.Context.{Context}
 use Rattle.x64_machine.specs.Contexts.{context_of}
 use Rattle.x64_machine.specs.Effect.{State}
-use Rattle.virtual_unwind.specs.Contexts.{rsp}
+use Rattle.virtual_unwind.specs.Contexts.{get, rsp}
 use Rattle.virtual_unwind.specs.CallerOf.{Functions}
 use Rattle.seh_records.specs.declared.dispatch.DispatchRecord.{DispatchRecord}
 use Rattle.seh_records.specs.Record.{fetched}
@@ -45,7 +45,10 @@ module _ (t : Functions) (fs : List Funclet) (program : LinearProgram) (p : Imag
   -- them are the registers of its caller that it saved, and its return address
   pub record IsFrameOf (m : Memory) (c : Context) (b : linear.Frame) (below : List Item)
       (acts : List Activation) (f : LiveFrame) : Type 0 where
-    pub waits : BodyWaits t fs program p m c (slots_end (p.layout b.body) (p.leaf b.body))
+    -- a walk finds the nonvolatile registers, in which locals of a body with a frame may stand
+    pub now : ℕ → ℕ
+    pub found : p.leaf b.body ≡ false → now ≡ get c
+    pub waits : BodyWaits t fs program p m c now (slots_end (p.layout b.body) (p.leaf b.body))
         (last_temporary (p.layout b.body) b.body (p.leaf b.body)) b acts
     pub at : f.at ≡ rsp c
     pub back : back_to below ≡ Some f.caller.rip

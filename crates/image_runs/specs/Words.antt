@@ -83,7 +83,7 @@ pub use Rattle.match_bodies.specs.StepLaws.{turns_per_step, IsWithinBody}
 pub use Rattle.match_turns.specs.CallOutcome.{CallBegins, begun, FunctionsApart}
 pub use Rattle.match_turns.specs.DispatchOutcome.{Represents, WorksOn}
 pub use Rattle.image_link.specs.Linked.{text_begin, linked}
-pub use Rattle.image_link.specs.Routines.{RoutineView, routines, has_call, is_leaf, no_function}
+pub use Rattle.image_link.specs.Routines.{RoutineView, routines, all_spare, is_leaf, no_function}
 pub use Rattle.image_link.specs.Text.{bounds, entry_code, check_stack_at, routine_code}
 unfoldable pub use Rattle.image_link.specs.Text.{entry_size}
 pub use Rattle.image_tables.specs.FrameLaws.{stack_frame}

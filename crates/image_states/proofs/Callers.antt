@@ -5,10 +5,11 @@ use Rattle.std.specs.List.{AllByRecursion}
 use Rattle.image_states.specs.Words.{Memory, Rax, Instr, chosen, Entry, Functions, distance, entry_of, IsExecutableAt, Slot, Instruction, LinearBody, LinearProgram, BodyName, body_of, FrameLayout, Layout, spelled, size, sizes, offset_of, fetch, code_from, IsInstructionNear, IsFrameNear, argument_code, entry_size, routine_code, Placed, body_begin, end_of, site_of, image_base, template_at, links, begin_of, making_size, code_of, HasProgram, FindsReturn, FindsOwed, Owed, owed_after, owed_by, is_leaf, or_none, functions_of, funclets_of, routine_of, plan_of, sites_of, HasWholeImage, return_code, placed, probe_begin}
 use Rattle.template_code.specs.Frames.{frame_plan, plan_of_layout, probe_end}
 use Rattle.template_code.specs.Jumps as jumps
+use Rattle.eh_tables.specs.declared.code.UnwindOperation.{UnwindOperation}
 use Rattle.frame_rules.specs.Plan.{FramePlan, Saved, epilogue, loads_then}
 use Rattle.frame_layout.specs.Plans as layouts
 use Rattle.frame_layout.proofs.Planned.{probe_end_few}
-use Rattle.image_states.proofs.Lemmas.{never_empty, sizes_append, template_sizes, entry_sizes, routine_small, some_same, none_some, entry_least, executable_split, code_split, IsTemplate, template_there, Inner, AllInner, inner_at, inner_role, fetch_inner, away, found_in, none_in, described, prologue_some, prologue_sizes, laid_plan, laid_epilogue, leaf_laid}
+use Rattle.image_states.proofs.Lemmas.{never_empty, sizes_append, template_sizes, entry_sizes, routine_small, some_same, none_some, entry_least, executable_split, code_split, IsTemplate, template_there, operations_by, Inner, AllInner, inner_at, inner_role, fetch_inner, away, found_in, none_in, described, prologue_some, prologue_sizes, laid_plan, laid_epilogue, leaf_laid}
 use Rattle.linear_code.specs.declared.instruction.Instruction.TheVariants as instructions
 use Rattle.image_link.specs.Text as texts
 use Rattle.image_tables.specs.Entries as tables
@@ -26,9 +27,9 @@ use Rattle.image_states.proofs.PlanWalks.{IsPlannedAt, making_found, entered_fou
 
 -- ---- sizes
 
-item_some : (i : Instr) → Inner i → 0 < size i
+item_some : (ops : List UnwindOperation) (i : Instr) → Inner ops i → 0 < size i
 unfolding size
-item_some i inner = never_empty i inner.0
+item_some ops i inner = never_empty i inner.0
 
 -- what a leaf function ends in
 return_some : 0 < sizes (epilogue (frame_plan 0 0))
@@ -168,11 +169,12 @@ module _ (program : LinearProgram) (c : HasWholeImage program) (name : BodyName)
     entered_at = entered_found t m begin end framing e.info planned_at
 
     -- at an instruction of the body
-    inner_at' : (d : ℕ) (i : Instr) → e.info.prologue_size ≤ d → begin + d < end → Inner i
+    inner_at' : (d : ℕ) (i : Instr) → e.info.prologue_size ≤ d → begin + d < end
+        → Inner (operations_by x) i
         → IsExecutableAt m (begin + d) (chosen i) → FindsOwed t m (begin + d) (owed_by e.info false)
     inner_at' d i past lt inner is_there =
         instruction_found t m begin end framing e.info planned_at d i past lt inner.0
-        (inner_role e.info.frame_register i inner) is_there
+        (inner_role (operations_by x) e.info.frame_register i inner) is_there
 
   -- what is to be undone in it, by its frame
   abbrev pub owed_if : Option FrameLayout → Owed
@@ -241,16 +243,16 @@ module _ (program : LinearProgram) (c : HasWholeImage program) (name : BodyName)
   -- ---- arguments
 
   module _ (done left : List Instr) (item : Instr) (parts : arguments ≡ done ++ (item ∷ left)) where
-    item_inner : Inner item
-    item_inner = inner_at done left item (subst AllInner parts
-        (arguments_inner y x.routine.entry (here program c name b is).framed
+    item_inner : Inner (operations_by x) item
+    item_inner = inner_at (operations_by x) done left item (subst (AllInner (operations_by x)) parts
+        (arguments_inner (operations_by x) y x.routine.entry (here program c name b is).saves
         (here program c name b is).near.entry))
 
     abbrev pub argument_at : ℕ
     argument_at = begin + (sizes making + sizes done)
 
     argument_high : argument_at < end
-    argument_high = let e = entry_is in let some = item_some item item_inner in
+    argument_high = let e = entry_is in let some = item_some (operations_by x) item item_inner in
         omega (arith, ap sizes parts, sizes_append done (item ∷ left))
 
     argument_is_at : HasProgram t (funclets_of program) program (plan_of program) (sites_of program)
@@ -335,14 +337,15 @@ module _ (program : LinearProgram) (c : HasWholeImage program) (name : BodyName)
 
     module _ (done left : List Instr) (item : Instr) (parts : fetching ≡ done ++ (item ∷ left))
       where
-        fetch_is_inner : Inner item
-        fetch_is_inner = inner_at done left item
-            (subst AllInner parts (fetch_inner y from near_return.0))
+        fetch_is_inner : Inner (operations_by x) item
+        fetch_is_inner = inner_at (operations_by x) done left item
+            (subst (AllInner (operations_by x)) parts
+            (fetch_inner (operations_by x) y from near_return.0))
 
         fetch_high : template_at x label + sizes done < end_of x
         fetch_high =
             let f = fits in
-            let some = item_some item fetch_is_inner in
+            let some = item_some (operations_by x) item fetch_is_inner in
             omega (arith, ap sizes parts, sizes_append done (item ∷ left))
 
         fetch_is_at : HasProgram t (funclets_of program) program (plan_of program)

@@ -100,7 +100,7 @@ module _ (program : LinearProgram) (c : HasWholeImage program) where
   arguments_by_function f None b e h = absurd (none_some h)
   arguments_by_function f (Some fn) b e h =
       let g = is_function program c.fits f fn e in
-      let leaf = not (f == program.main) && link.is_leaf fn.body in
+      let leaf = not (f == program.main) && link.is_leaf fn in
       subst (λ (r : RoutineView). parameters_code r.layout 0 fn.parameters
       ≡ argument_code r.layout r.entry) (sym g.routine) (function_same leaf fn)
 

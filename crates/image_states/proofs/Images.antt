@@ -2,10 +2,10 @@
 use Rattle.std.proofs.Common.{◌≡◌, ℕ, ◌+◌, ◌<◌, length, Some, refl, sym, ap, subst, ◌∙◌, arith}
 use Rattle.std.proofs.lemmas.Bool.{lt-ltb, ltb-true}
 use Rattle.image_states.specs.Words.{LinearBody, LinearProgram, BodyName, body_of, sizes, body_size, offset_of, Placed, end_of, image_base, begin_of, entry_code, functions_of, funclets_of, routine_of, address_of, plan_of, sites_of, HasWholeImage, HasAddresses, ImagesArePrograms, probe_begin}
-use Rattle.image_states.proofs.Framing.{all_framed}
+use Rattle.image_states.proofs.SparedLocals.{spared}
 use Rattle.image_states.proofs.Lemmas.{entry_sizes}
 use Rattle.image_states.proofs.Addresses.{InImage, check_stack_inside, place, here, label_rises, body_inside, not_first, no_funclet_inside}
-use Rattle.image_states.proofs.Slots.{laid_out}
+use Rattle.image_states.proofs.Slots.{laid_out, parameters_arrive}
 use Rattle.image_states.proofs.Entering.{entry_same}
 use Rattle.image_states.proofs.Framed.{frames_are_at, leaves_are_at', planned}
 use Rattle.image_states.proofs.Funclets.{funclets_begin}
@@ -75,8 +75,9 @@ images_are_programs program c = record {
   laid_out = laid_out program c;
   addresses = λ name b is. addresses program c name b is;
   check_stack = check_stack_inside program c;
-  no_registers = λ name local. refl;
-  in_frames = all_framed program;
+  registers = λ f x. refl;
+  arrivals = parameters_arrive program c;
+  spares = spared program c;
   lands = λ name b label is lt. lt-ltb label (length (routine_of program name).routine.body.code)
       (let e = same_length program c name b is in omega arith);
   landings = λ name b label is l. (let lt = ltb-true label
@@ -86,7 +87,7 @@ images_are_programs program c = record {
   frames = frames_are_at program c;
   leaves = leaves_are_at' program c;
   funclets = funclets_begin program c;
-  resumptions = λ resumption b saved. resumptions program b saved resumption;
+  resumptions = λ resumption b values saved. resumptions program b values saved resumption;
   callers = λ name b is. callers program c name b is;
   callers_outside = callers_outside program c;
   names = λ called. names_are_functions program c (called_is_named program called);

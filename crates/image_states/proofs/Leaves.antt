@@ -1,47 +1,33 @@
 -- Leaf functions call nothing, and functions begin elsewhere than funclets.
 use Rattle.std.proofs.Common.{◌≡◌, ◌≢◌, ℕ, zero, suc, ◌+◌, ◌<◌, ◌==◌, Bool, true, false, not, List, [], ◌∷◌, length, get_or, Option, Some, None, refl, sym, ap, ◌∙◌, arith}
-use Rattle.std.specs.Prelude.{slice_get, ◌&&◌, nat_le}
+use Rattle.std.specs.Prelude.{slice_get, ◌&&◌}
 use Rattle.std.proofs.lemmas.Option.{slice_get_within}
-use Rattle.std.proofs.lemmas.Bool.{and_parts, or_parts, true≢false, false≢true}
-use Rattle.image_states.specs.Words.{Instruction, LinearBody, LinearFunction, LinearFunclet, LinearProgram, BodyName, FunctionBody, FuncletBody, function_body, funclet_body, body_of, RoutineView, leaf_if, routines, has_call, bounds, routine_size, first, site_of, image_base, address_or, funclet_begin, is_leaf, routine_of, plan_of, HasWholeImage, LeavesCallNothing, FunctionsApart, routines_begin}
+use Rattle.std.proofs.lemmas.Bool.{and_parts, false≢true}
+use Rattle.image_states.specs.Words.{Instruction, LinearBody, LinearFunction, LinearFunclet, LinearProgram, BodyName, FunctionBody, FuncletBody, function_body, funclet_body, body_of, RoutineView, leaf_if, routines, is_spare, all_spare, bounds, routine_size, first, site_of, image_base, address_or, funclet_begin, is_leaf, routine_of, plan_of, HasWholeImage, LeavesCallNothing, FunctionsApart, routines_begin}
 use Rattle.linear_code.specs.declared.instruction.Instruction.TheVariants as instructions
 use Rattle.lowering_invariants.specs.ReturnRegions.{is_call}
 use Rattle.image_link.specs.Routines as link
+use Rattle.image_states.proofs.LeafCode.{leaf_facts}
 use Rattle.image_states.proofs.Lemmas.{no_routine, some_same, none_some, bounds_rise, as_long, begin_is}
 use Rattle.image_states.proofs.Places.{is_function, is_funclet}
 use Rattle.image_states.proofs.Addresses.{place, label_below}
 
--- ---- the two words for calls
+-- ---- code that writes RAX alone calls nothing
 
-calls_same : (i : Instruction) → link.is_call i ≡ false → is_call i ≡ false
-calls_same (instructions.Compute to o first second) e = refl
-calls_same (instructions.Information to field) e = refl
-calls_same (instructions.Jump label) e = refl
-calls_same (instructions.JumpIfZero slot label) e = refl
-calls_same (instructions.Call f first count) e = absurd (true≢false e)
-calls_same (instructions.CallBuiltIn f first) e = absurd (true≢false e)
-calls_same (instructions.CallFinally f) e = absurd (true≢false e)
-calls_same (instructions.LocalUnwind l) e = absurd (true≢false e)
-calls_same (instructions.Landing to) e = refl
-calls_same instructions.Separator e = refl
-calls_same (instructions.Return from) e = refl
+spare_call : (n : ℕ) (i : Instruction) → is_spare n i ≡ true → is_call i ≡ false
+spare_call n (instructions.Call f first count) e = absurd (false≢true e)
+spare_call n (instructions.CallBuiltIn f first) e = absurd (false≢true e)
+spare_call n (instructions.CallFinally f) e = absurd (false≢true e)
+spare_call n (instructions.LocalUnwind l) e = absurd (false≢true e)
+spare_call n i e = refl
 
-no_call : (code : List Instruction) → has_call code ≡ false → (label : ℕ) (i : Instruction)
-    → slice_get code label ≡ Some i → is_call i ≡ false
-no_call [] h label i e = absurd (none_some e)
-no_call (j ∷ code) h zero i e = calls_same i (ap link.is_call (sym (some_same e))
-    ∙ (or_parts (link.is_call j) (has_call code) h).0)
-no_call (j ∷ code) h (suc label) i e = no_call code (or_parts (link.is_call j) (has_call code) h).1
-    label i e
-
-not_then : (b : Bool) → not b ≡ true → b ≡ false
-not_then true e = absurd (false≢true e)
-not_then false e = refl
-
-leaf_code : (b : LinearBody) → link.is_leaf b ≡ true → has_call b.code ≡ false
-leaf_code b e = not_then (has_call b.code) (and_parts (length b.regions == 0)
-    (not (has_call b.code)) (and_parts (nat_le (b.locals + b.temporaries) 4)
-    ((length b.regions == 0) && not (has_call b.code)) e).1).1
+no_call : (n : ℕ) (code : List Instruction) → all_spare n code ≡ true → (label : ℕ)
+    (i : Instruction) → slice_get code label ≡ Some i → is_call i ≡ false
+no_call n [] h label i e = absurd (none_some e)
+no_call n (j ∷ code) h zero i e = spare_call n i (ap (is_spare n) (sym (some_same e))
+    ∙ (and_parts (is_spare n j) (all_spare n code) h).0)
+no_call n (j ∷ code) h (suc label) i e =
+    no_call n code (and_parts (is_spare n j) (all_spare n code) h).1 label i e
 
 leaf_then : (b : Bool) (fn : LinearFunction) → is_leaf (leaf_if b fn).frame ≡ true → b ≡ true
 leaf_then true fn e = refl
@@ -58,13 +44,13 @@ module _ (program : LinearProgram) (c : HasWholeImage program) where
       → (plan_of program).leaf (FunctionBody f) ≡ true → Silent b
   function_calls f None b e h leaf = absurd (none_some h)
   function_calls f (Some fn) b e h leaf = λ label i there. (
-      let flag = not (f == program.main) && link.is_leaf fn.body in
+      let flag = not (f == program.main) && link.is_leaf fn in
       let is : is_leaf (leaf_if flag fn).frame
       ≡ true = sym (ap (λ (r : RoutineView). is_leaf r.frame)
       (is_function program c.fits f fn e).routine) ∙ leaf in
-      let own = (and_parts (not (f == program.main)) (link.is_leaf fn.body)
+      let own = (and_parts (not (f == program.main)) (link.is_leaf fn)
       (leaf_then flag fn is)).1 in
-      no_call fn.body.code (leaf_code fn.body own) label i
+      no_call fn.parameters fn.body.code (leaf_facts fn own).spare label i
       (ap (λ (d : LinearBody). slice_get d.code label) (some_same h) ∙ there))
 
   funclet_calls : (k : ℕ) (o : Option LinearFunclet) (b : LinearBody)

@@ -6,7 +6,7 @@ pub use Rattle.host_model.proofs.Slots.{slots_read, slots-beside}
 pub use Rattle.x64_emit.proofs.Nearby.{some_instruction, all_at, test_small, arguments_small, passing_small, instruction_in_room}
 pub use Rattle.image_link.proofs.Entries.{entry_sizes, routine_small, entry_small}
 pub use Rattle.image_link.proofs.Images.{no_routine}
-pub use Rattle.image_tables.proofs.BodyFrames.{no_epilogue, away, found_in, none_in, frame_is_at, leaves_are_at}
+pub use Rattle.image_tables.proofs.BodyFrames.{operations_by, no_epilogue, away, found_in, none_in, frame_is_at, leaves_are_at}
 pub use Rattle.image_tables.proofs.BodyInstructions.{Inner, AllInner, inner_at, inner_role, fetch_inner, signed}
 pub use Rattle.image_tables.proofs.CodeInMemory.{IsThere, there, routine_length, executable_split, code_split, IsTemplate, template_there, code_length}
 pub use Rattle.image_tables.proofs.FramePlans.{described, prologue_some, prologue_sizes, laid_plan, laid_epilogue, leaf_laid}

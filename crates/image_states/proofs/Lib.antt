@@ -3,6 +3,7 @@ pub mod Places
 pub mod Shifts
 pub mod Addresses
 pub mod FunctionNames
+mod LeafCode
 pub mod Slots
 pub mod Entering
 pub mod Framed
@@ -15,7 +16,7 @@ pub mod Inserting
 pub mod Funclets
 pub mod Giving
 pub mod Resuming
-mod Framing
+mod SparedLocals
 pub mod Images
 pub mod Leaves
 pub mod Sections

@@ -26,17 +26,17 @@ slice_drop (x ∷ xs) (suc n) i (suc j) e = slice_drop xs n i j (omega arith)
 function_from : (main index f : ℕ) (fs : List LinearFunction) (fn : LinearFunction)
     (d : RoutineView) → slice_get fs f ≡ Some fn
     → get_or (functions_from main index fs) f d
-    ≡ leaf_if (not (index + f == main) && link.is_leaf fn.body) fn
+    ≡ leaf_if (not (index + f == main) && link.is_leaf fn) fn
 function_from main index f [] fn d e = absurd (none_some e)
 function_from main index zero (g ∷ fs) fn d e =
     let z : index ≡ index + 0 = omega arith in
-    ap (λ (h : LinearFunction). leaf_if (not (index == main) && link.is_leaf h.body) h)
+    ap (λ (h : LinearFunction). leaf_if (not (index == main) && link.is_leaf h) h)
     (some_same e)
-    ∙ ap (λ (n : ℕ). leaf_if (not (n == main) && link.is_leaf fn.body) fn) z
+    ∙ ap (λ (n : ℕ). leaf_if (not (n == main) && link.is_leaf fn) fn) z
 function_from main index (suc f) (g ∷ fs) fn d e =
     let z : suc index + f ≡ index + suc f = omega arith in
     function_from main (suc index) f fs fn d e
-    ∙ ap (λ (n : ℕ). leaf_if (not (n == main) && link.is_leaf fn.body) fn) z
+    ∙ ap (λ (n : ℕ). leaf_if (not (n == main) && link.is_leaf fn) fn) z
 
 -- ---- functions
 
@@ -50,7 +50,7 @@ module _ (program : LinearProgram) (fits : FitsProgram program) where
   pub record IsFunction (f : ℕ) (fn : LinearFunction) : Type 0 where
     pub at : slice_get (placed program) f ≡ Some (routine_of program (FunctionBody f))
     pub routine : (routine_of program (FunctionBody f)).routine
-        ≡ leaf_if (not (f == program.main) && link.is_leaf fn.body) fn
+        ≡ leaf_if (not (f == program.main) && link.is_leaf fn) fn
     pub begin : address_or (site_of program).functions f 0
         ≡ (routine_of program (FunctionBody f)).begin
     pub bound : (routine_of program (FunctionBody f)).begin
@@ -69,12 +69,12 @@ module _ (program : LinearProgram) (fits : FitsProgram program) where
       ≡ h.placed = ap or_nowhere (slice_take (placed program) n f lt ∙ h.there) in
       let zero-more : 0 + f ≡ f = omega arith in
       let count = functions_count program.main 0 program.functions in
-      let own : get_or rs f no_routine ≡ leaf_if (not (f == program.main) && link.is_leaf fn.body)
+      let own : get_or rs f no_routine ≡ leaf_if (not (f == program.main) && link.is_leaf fn)
       fn =
       get_or_append_left (functions_from program.main 0 program.functions)
       (map (funclet program) program.funclets) no_routine f (omega arith)
       ∙ function_from program.main 0 f program.functions fn no_routine e
-      ∙ ap (λ (k : ℕ). leaf_if (not (k == program.main) && link.is_leaf fn.body) fn) zero-more in
+      ∙ ap (λ (k : ℕ). leaf_if (not (k == program.main) && link.is_leaf fn) fn) zero-more in
       record {
         at = h.there ∙ ap (λ (x : Placed). Some x) (sym is);
         routine = ap (λ (x : Placed). x.routine) is ∙ h.routine ∙ own;
@@ -141,7 +141,7 @@ module _ (program : LinearProgram) (fits : FitsProgram program) where
         index = f;
         at = g.at;
         body = ap (λ (r : RoutineView). r.body) g.routine
-            ∙ same_body (not (f == program.main) && link.is_leaf fn.body) fn ∙ some_same h;
+            ∙ same_body (not (f == program.main) && link.is_leaf fn) fn ∙ some_same h;
         begin = ap (λ (a : ℕ). image_base + a) g.begin;
         bound = g.bound;
         own = g.own;

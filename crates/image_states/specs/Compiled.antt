@@ -1,9 +1,9 @@
 -- Linear programs whose image is what they mean.
 use Rattle.std.specs.Prelude.{◌≡◌, ℕ, ◌+◌, ◌<◌, ◌≤◌, ◌⊎◌, false, List, [], ◌∷◌, length, slice_get, Some}
 use Rattle.pe_write.specs.Program.{sizes_of, end_at}
-use Rattle.linear_code.specs.Program.{LinearBody, LinearFunclet, LinearProgram}
-use Rattle.linear_machine.specs.Frames.{FunctionBody, body_of}
+use Rattle.linear_code.specs.Program.{LinearFunction, LinearFunclet, LinearProgram}
 use Rattle.lowering_invariants.specs.Bodies.{IsWhole}
+use Rattle.lowering_invariants.specs.Registers.{SparesRegisters}
 use Rattle.image_link.specs.Fits.{FitsProgram}
 use Rattle.image_link.specs.Routines.{is_leaf}
 use Rattle.image_link.specs.Linked.{linked}
@@ -18,14 +18,14 @@ IsMember k (x ∷ xs) = (k ≡ x) ⊎ IsMember k xs
 -- a funclet's function has a frame, which has the locals that the funclet works on; its own is
 -- below a page
 pub record IsFuncletSized (program : LinearProgram) (f : LinearFunclet) : Type 0 where
-  pub function : LinearBody
-  pub there : body_of program (FunctionBody f.function) ≡ Some function
+  pub function : LinearFunction
+  pub there : slice_get program.functions f.function ≡ Some function
   pub framed : is_leaf function ≡ false
-  pub locals : f.body.locals ≡ function.locals
+  pub locals : f.body.locals ≡ function.body.locals
   pub words : f.body.passed + f.body.temporaries ≤ 500
 
 -- it can be linked, into an image within its limit; its regions are ranges, which name each
--- funclet once
+-- funclet once; its funclets name no local that stands in a register
 pub record HasWholeImage (program : LinearProgram) : Type 0 where
   pub fits : FitsProgram program
   pub small : end_at (sizes_of (linked program)) ≤ MOST_IMAGE
@@ -35,3 +35,5 @@ pub record HasWholeImage (program : LinearProgram) : Type 0 where
   pub whole : IsWhole program
   pub funclets : (k : ℕ) (f : LinearFunclet) → slice_get program.funclets k ≡ Some f
       → IsFuncletSized program f
+  pub spares : (k : ℕ) (f : LinearFunclet) → slice_get program.funclets k ≡ Some f
+      → SparesRegisters program f

@@ -1,5 +1,5 @@
 -- Where the image of a linked program has the code of its bodies.
-use Rattle.std.specs.Prelude.{ℕ, ◌+◌, Bool, true, false, ◌&&◌, ◌==◌, nat_lt, List, length, take, drop, slice_get, Option, Some, None}
+use Rattle.std.specs.Prelude.{ℕ, ◌+◌, Bool, true, false, ◌&&◌, ◌==◌, nat_lt, if◌then◌else◌, List, [], ◌∷◌, length, take, drop, slice_get, slice_index, Option, Some, None}
 use Rattle.seh_num.specs.Widths.{low}
 use Rattle.x64_instr.specs.declared.register.Reg.TheVariants.{Rax, Rcx}
 use Rattle.x64_machine.specs.declared.cpu.Cpu.{Cpu}
@@ -16,13 +16,15 @@ use Rattle.c_operations.specs.Numbers.{width}
 use Rattle.linear_code.specs.declared.slot.Slot.TheVariants.{Temporary}
 use Rattle.linear_code.specs.declared.instruction.Instruction.{Instruction}
 use Rattle.linear_code.specs.declared.instruction.Instruction.TheVariants as instructions
-use Rattle.linear_code.specs.Program.{LinearProgram}
+use Rattle.linear_code.specs.Program.{LinearProgram, LinearFunclet}
 use Rattle.linear_machine.specs.Frames as linear
 use Rattle.linear_machine.specs.Frames.{BodyName, FunctionBody, FuncletBody, body_of, Resumption, AfterCall, SameOperation}
 use Rattle.linear_machine.specs.Run.{instruction_in}
 use Rattle.frame_layout.specs.declared.frame.FrameLayout.{FrameLayout}
 use Rattle.template_code.specs.declared.layout.Layout.{Layout}
 use Rattle.template_code.specs.Bytes.{sizes}
+use Rattle.template_code.specs.Places.{register_of}
+use Rattle.template_code.specs.Operands.{has_first, has_second}
 use Rattle.template_code.specs.Slots.{operands_code}
 use Rattle.template_code.specs.Calls.{return_at}
 use Rattle.x64_templates.specs.Straight.{MachineView}
@@ -64,6 +66,7 @@ no_layout =
       slots = 0;
       frame = 0;
       registers = NO_REGISTERS;
+      arrivals = 0;
       size = 0;
       pushes = 0;
       saves = 0;
@@ -95,6 +98,20 @@ routine_if program (FuncletBody k) = slice_get (drop (length program.functions) 
 -- the routine of a body
 abbrev pub routine_of : LinearProgram → BodyName → Placed
 routine_of program name = or_nowhere (routine_if program name)
+
+-- ---- the registers of locals
+
+-- of a function's own locals; a funclet has those of its function
+abbrev pub register_if : LinearProgram → Option LinearFunclet → ℕ → Option ℕ
+register_if program None local = None
+register_if program (Some f) local =
+    register_of (routine_of program (FunctionBody f.function)).routine.layout local
+
+abbrev pub register_by : LinearProgram → BodyName → ℕ → Option ℕ
+register_by program (FunctionBody f) local =
+    register_of (routine_of program (FunctionBody f)).routine.layout local
+register_by program (FuncletBody k) local =
+    register_if program (slice_get program.funclets k) local
 
 -- ---- frames
 
@@ -139,29 +156,45 @@ returns_there y at saved (Some (instructions.CallBuiltIn RaiseException first)) 
     (saved.rip == return_at y first (at + 5)) && (register saved Rax == 0)
 returns_there y at saved i = false
 
--- at the machine instruction that faulted, with both operands in their registers
+-- the number of an operand that is read
+abbrev pub is_some_if : Bool → Option ℕ → ℕ → Bool
+is_some_if read o v = if read then is_some o v else true
+
+-- at the machine instruction that faulted, with the operands that it reads in their registers
 abbrev pub works_again : Layout → ℕ → List ℕ → Cpu → Option Instruction → Bool
 works_again y at temporaries saved
     (Some (instructions.Compute to o (Temporary first) (Temporary second))) =
     (saved.rip == at + sizes (operands_code y o (Temporary first) (Temporary second)))
-    && (is_some (slice_get temporaries first) (register saved Rax) &&
-    (is_some (slice_get temporaries second) (register saved Rcx) && is_ready o
-    (view_of saved)))
+    && (is_some_if (has_first o) (slice_get temporaries first) (register saved Rax)
+    && (is_some_if (has_second o) (slice_get temporaries second) (register saved Rcx)
+    && is_ready o (view_of saved)))
 works_again y at temporaries saved i = false
 
-abbrev pub resumes_by : Layout → ℕ → List ℕ → Cpu → Option Instruction → Resumption → Bool
-resumes_by y at temporaries saved i AfterCall = returns_there y at saved i
-resumes_by y at temporaries saved i SameOperation = works_again y at temporaries saved i
+-- with the locals that stand in registers, from the one of a number on
+abbrev pub is_in_register : List ℕ → ℕ → Option ℕ → Bool
+is_in_register registers v None = true
+is_in_register registers v (Some r) = slice_index registers r == v
+
+abbrev pub registers_hold : List ℕ → (ℕ → Option ℕ) → ℕ → List ℕ → Bool
+registers_hold registers register i [] = true
+registers_hold registers register i (v ∷ vs) =
+    is_in_register registers v (register i) && registers_hold registers register (i + 1) vs
+
+abbrev pub resumes_by : Layout → ℕ → List ℕ → Cpu → Option Instruction → Bool → Resumption → Bool
+resumes_by y at temporaries saved i hold AfterCall = returns_there y at saved i
+resumes_by y at temporaries saved i hold SameOperation =
+    works_again y at temporaries saved i && hold
 
 -- where the code of an instruction begins
 abbrev pub address_of : LinearProgram → BodyName → ℕ → ℕ
 address_of program name label = image_base + template_at (routine_of program name) label
 
-abbrev pub resumes : LinearProgram → Resumption → linear.Frame → Cpu → Bool
-resumes program resumption b saved =
+abbrev pub resumes : LinearProgram → Resumption → linear.Frame → List ℕ → Cpu → Bool
+resumes program resumption b values saved =
     resumes_by (routine_of program b.body).routine.layout
     (address_of program b.body b.next) b.temporaries saved
-    (instruction_in (body_of program b.body) b.next) resumption
+    (instruction_in (body_of program b.body) b.next)
+    (registers_hold saved.registers (register_by program b.body) 0 values) resumption
 
 -- ---- the plan
 
@@ -175,7 +208,7 @@ plan_of program = record {
       λ name. tables.entry_of (site_of program) (routine_of program name)
       (or_none (routine_of program name).routine.frame);
   layout = λ name. (routine_of program name).routine.layout;
-  register = λ name local. None;
+  register = register_by program;
   lands = λ name label. nat_lt label (length (routine_of program name).routine.body.code);
   resumes = resumes program;
 }

@@ -72,7 +72,7 @@ pub use Rattle.image_link.specs.Fits.{FitsProgram, FitsFunclet, function_bodies,
 pub use Rattle.image_link.specs.Linked.{text_begin, first, total, linked, data_size}
 pub use Rattle.image_link.specs.Walks.{services_of}
 pub use Rattle.image_link.specs.Near.{IsFrameNear}
-pub use Rattle.image_link.specs.Routines.{RoutineView, funclet_frame, funclet, routines, leaf_if, nothing, no_function, has_call, kept_by, HasParent, functions_from, function_frame}
+pub use Rattle.image_link.specs.Routines.{RoutineView, funclet_frame, funclet, routines, leaf_if, nothing, no_function, is_kept, is_spare, all_spare, kept_by, HasParent, functions_from, function_frame}
 pub use Rattle.image_link.specs.Tables.{has_except, has_finally, handler_address, jump_target, scope_record}
 unfoldable pub use Rattle.image_link.specs.Tables.{info_bytes}
 pub use Rattle.image_link.specs.Text.{routine_size, check_stack_at, bounds, argument_code, routine_code, SiteView, own_addresses, thunk_at, service_thunk, front_code, routines_bytes, thunks_at}
@@ -81,6 +81,7 @@ pub use Rattle.image_tables.specs.CodeInMemory.{image_base, template_at, links, 
 pub use Rattle.image_tables.specs.RegionRows.{funclet_begin, rows_of, regions_in, regions, funclet_in, named, IsRow, AreRows}
 pub use Rattle.image_tables.specs.RoutinePlaces.{Placed, end_of, site_of, body_begin, placed, infos_begin, placed_from, routines_begin, thunk_begin, probe_begin}
 pub use Rattle.image_states.specs.Compiled.{HasWholeImage, IsMember, IsFuncletSized}
-pub use Rattle.image_states.specs.Plans.{functions_of, funclets_of, routine_of, address_of, plan_of, sites_of, is_leaf, or_none, or_nowhere, is_some, is_ready, returns_there, works_again}
+pub use Rattle.image_states.specs.Plans.{functions_of, funclets_of, routine_of, register_if, address_of, plan_of, sites_of, is_leaf, or_none, or_nowhere, is_some, is_some_if, is_ready, returns_there, works_again, register_by, is_in_register, registers_hold}
+pub use Rattle.match_bodies.specs.LocalRegisters.{now_of, IsInRegister, RegistersHold}
 pub use Rattle.image_states.specs.StartLaws.{HasBytes, ImagesStart, ImagesLoad}
 pub use Rattle.image_states.specs.StateLaws.{ImagesArePrograms, LeavesCallNothing, FunctionsApart}

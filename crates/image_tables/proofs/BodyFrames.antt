@@ -4,7 +4,7 @@ use Rattle.std.specs.Prelude.{slice_get}
 use Rattle.std.specs.List.{AllByRecursion}
 use Rattle.std.proofs.lemmas.Bool.{and_from, ne_eqb, le-ltb}
 use Rattle.std.proofs.lemmas.List.{append-nil}
-use Rattle.image_tables.specs.Words.{Memory, Instr, chosen, Table, Entry, holding, or_none, Other, FetchedInstr, role_of, spell, IsExecutableAt, image_of, Instruction, LinearProgram, FrameLayout, spelled, size, sizes, template, code_from, IsInstructionNear, FitsProgram, IsFrameNear, entry_code, entry_size, check_stack_at, routine_code, text_begin, linked, Placed, end_of, body_begin, site_of, placed, HasRegions, entries, image_base, links, fetched_at, by_role, from_item, tail, tail_at, template_at, IsInBody, stack_frame, BodiesHaveFrames, LeavesHaveReturns}
+use Rattle.image_tables.specs.Words.{Memory, Instr, UnwindOperation, operations_of, chosen, Table, Entry, holding, or_none, Other, FetchedInstr, role_of, spell, IsExecutableAt, image_of, Instruction, LinearProgram, FrameLayout, spelled, size, sizes, template, code_from, IsInstructionNear, FitsProgram, IsFrameNear, entry_code, entry_size, check_stack_at, routine_code, text_begin, linked, Placed, end_of, body_begin, site_of, placed, HasRegions, entries, image_base, links, fetched_at, by_role, from_item, tail, tail_at, template_at, IsInBody, stack_frame, BodiesHaveFrames, LeavesHaveReturns}
 use Rattle.x64_machine.specs.declared.context.Context.{Context}
 use Rattle.x64_encode.proofs.Lengths.{longest}
 use Rattle.virtual_unwind.specs.CallerOf.{distance, entry_of}
@@ -15,6 +15,7 @@ use Rattle.seh_walk.specs.Walk.{filter_return, finally_return}
 use Rattle.host_model.specs.Machine.{functions_in}
 use Rattle.match_stack.specs.Stack.{FrameIsAt, LeafIsAt, IsAsTold}
 use Rattle.image_tables.proofs.Lemmas.{never_empty, items_are_at, sizes_append, template_sizes, entry_sizes, routine_small}
+use Rattle.template_code.specs.Frames.{plan_of_layout}
 use Rattle.image_tables.specs.Entries as tables
 use Rattle.image_tables.proofs.Lookups.{some_same, none_some, entries_are_held, leaves_are_held_by_none}
 use Rattle.image_tables.proofs.Layouts.{size_of, sized, slots_of, slots_placed}
@@ -39,17 +40,17 @@ tail_none (suc n) f at first m x e r =
     ap (from_item (λ k. tail n false f m ((at + k) % 2 ^ 64)) f first) e
     ∙ other_none (λ k. tail n false f m ((at + k) % 2 ^ 64)) first x (role_of f x.plain x.instr) r
 
-pub no_epilogue : (f at : ℕ) (m : Memory) (i : Instr) → Inner i → IsExecutableAt m at (chosen i)
-    → at + 15 < 2 ^ 63 → tail_at f m at ≡ None
+pub no_epilogue : (ops : List UnwindOperation) (f at : ℕ) (m : Memory) (i : Instr) → Inner ops i
+    → IsExecutableAt m at (chosen i) → at + 15 < 2 ^ 63 → tail_at f m at ≡ None
 unfolding tail_at
-no_epilogue f at m i inner is_there lt =
+no_epilogue ops f at m i inner is_there lt =
     let one = append-nil (chosen i) in
     let few = longest i in
     let l = ap length one in
     let has = items_are_at m at (i ∷ []) (and_from _ true inner.0 refl) (omega arith)
     (subst (IsExecutableAt m at) (sym one) is_there) in
     tail_none 0xFFFF_FFFF_FFFF_FFFF f at true m (spell i) has.0
-    (inner_role f i inner (spell i).plain)
+    (inner_role ops f i inner (spell i).plain)
 
 -- ---- the instruction at an address of a body
 
@@ -60,13 +61,17 @@ near_at P [] number i all e = absurd (none_some e)
 near_at P (j ∷ is) zero i all e = subst P (some_same e) all.0
 near_at P (j ∷ is) (suc number) i all e = near_at P is number i all.1 e
 
-size_some : (i : Instr) → Inner i → 0 < size i
+size_some : (ops : List UnwindOperation) (i : Instr) → Inner ops i → 0 < size i
 unfolding size
-size_some i inner = never_empty i inner.0
+size_some ops i inner = never_empty i inner.0
+
+-- what the frame of a routine saves
+abbrev pub operations_by : Placed → List UnwindOperation
+operations_by x = operations_of (plan_of_layout x.routine.layout 0)
 
 -- an instruction of a body
 pub record IsItem (x : Placed) (rva : ℕ) (item : Instr) : Type 0 where
-  pub inner : Inner item
+  pub inner : Inner (operations_by x) item
   pub past : body_begin x ≤ rva
   pub inside : rva < end_of x
 
@@ -87,11 +92,13 @@ item_there p x rva fits h b =
     let whole = ap sizes b.parts in
     let near = near_at (IsInstructionNear y) r.body.code b.number b.instruction h.near.code
     b.there in
-    let all = template_inner k y (template_at x b.number) b.instruction (links_near p x fits h)
-    h.framed near
+    let ops = operations_by x in
+    let all = template_inner ops k y (template_at x b.number) b.instruction (links_near p x fits h)
+    h.saves near
     (omega arith) b.continues in
-    let inner : Inner b.item = inner_at b.done b.left b.item (subst AllInner b.parts all) in
-    let some = size_some b.item inner in
+    let inner : Inner ops b.item = inner_at ops b.done b.left b.item
+    (subst (AllInner ops) b.parts all) in
+    let some = size_some ops b.item inner in
     record {
       inner = inner;
       past = omega arith;
@@ -151,7 +158,7 @@ found_in p index x f rva fits regions e framed le lt small =
 -- there is a machine instruction of a routine's body, which is no part of an epilogue
 pub record HasItem (m : Memory) (x : Placed) (rva : ℕ) : Type 0 where
   pub item : Instr
-  pub inner : Inner item
+  pub inner : Inner (operations_by x) item
   pub past : body_begin x ≤ rva
   pub inside : rva < end_of x
   pub is_there : IsExecutableAt m (image_base + rva) (chosen item)
@@ -184,8 +191,9 @@ frame_at p m index x f c rva back others fits regions e framed first here kept e
           ∙ found_in p index x f rva fits regions e framed (omega arith) inside far;
       past_prologue = le-ltb (distance image_base c.rip - x.begin) info.prologue_size
           (omega arith);
-      not_epilogue = ap (tail_at info.frame_register m) here ∙ no_epilogue info.frame_register
-          (image_base + rva) m first.item first.inner first.is_there (omega arith);
+      not_epilogue = ap (tail_at info.frame_register m) here ∙ no_epilogue
+          (operations_by x) info.frame_register (image_base + rva) m first.item first.inner
+          first.is_there (omega arith);
       no_parents = refl;
       kept = kept;
       eight = eight;

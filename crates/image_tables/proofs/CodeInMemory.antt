@@ -4,7 +4,7 @@ use Rattle.std.specs.Prelude.{slice_get}
 use Rattle.std.specs.List.{AllByRecursion}
 use Rattle.std.proofs.lemmas.Grind.{flat_map-append}
 use Rattle.image_tables.specs.Words.{Memory, Instr, chosen, IsExecutableAt, Instruction, LinearProgram, Layout, spelled, sizes, Links, template, template_size, body_size, code_from, FitsProgram, RoutineView, routines, IsRoutineNear, SiteView, routine_size, entry_code, entry_size, check_stack_at, routine_code, routines_bytes, info_bytes, text_begin, linked, Placed, placed_from, site_of, infos_begin, placed, image_base, HasText, IsNear, offset_of, links_of, routine_room, room, addresses, front_code, routine_bytes, routines_begin}
-use Rattle.image_link.proofs.Nearness.{AreFramed, routines_framed}
+use Rattle.image_link.proofs.SavedLocals.{RoutineSaves, routines_save}
 use Rattle.image_tables.proofs.Lemmas.{sizes_spelled, sizes_append, template_sizes, body_sizes, entry_sizes, routine_small, has_places, routines_near, front_sizes, services_few}
 use Rattle.image_tables.proofs.Lookups.{some_same, none_some}
 
@@ -55,7 +55,7 @@ routine_length s at r near = code_length s at r near
 -- a routine in a text that begins at an address: it is near, has room, and its bytes are there
 pub record IsThere (s : SiteView) (text : List ℕ) (begin : ℕ) (x : Placed) : Type 0 where
   pub near : IsRoutineNear x.routine
-  pub framed : AreFramed x.routine
+  pub saves : RoutineSaves x.routine
   pub room : IsNear (x.begin + routine_room x.routine)
   pub before : List ℕ
   pub after : List ℕ
@@ -65,28 +65,28 @@ pub record IsThere (s : SiteView) (text : List ℕ) (begin : ℕ) (x : Placed) :
 module _ (s : SiteView) (text : List ℕ) (begin : ℕ) where
   there_from : (info at : ℕ) (rs : List RoutineView) (before : List ℕ) (index : ℕ) (x : Placed)
       → slice_get (placed_from s info at rs) index ≡ Some x
-      → AllByRecursion IsRoutineNear rs → AllByRecursion AreFramed rs → IsNear (at + room rs)
+      → AllByRecursion IsRoutineNear rs → AllByRecursion RoutineSaves rs → IsNear (at + room rs)
       → text ≡ before ++ routines_bytes s at rs → begin + length before ≡ at
       → IsThere s text begin x
-  there_from info at [] before index x e near framed lt is here = absurd (none_some e)
-  there_from info at (r ∷ rs) before zero x e near framed lt is here =
+  there_from info at [] before index x e near saves lt is here = absurd (none_some e)
+  there_from info at (r ∷ rs) before zero x e near saves lt is here =
       let y : Placed = record { routine = r; begin = at; info = info } in
       subst (IsThere s text begin) (some_same e)
       (record {
         near = near.0;
-        framed = framed.0;
+        saves = saves.0;
         room = omega arith;
         before = before;
         after = routines_bytes s (at + routine_size r) rs;
         bytes = is;
         here = here;
       })
-  there_from info at (r ∷ rs) before (suc index) x e near framed lt is here =
+  there_from info at (r ∷ rs) before (suc index) x e near saves lt is here =
       let small = routine_small r near.0 in
       let bytes = routine_bytes s at r in
       let long = routine_length s at r near.0 in
       there_from (info + length (info_bytes s at r)) (at + routine_size r) rs (before ++ bytes)
-      index x e near.1 framed.1 (omega arith) (is ∙ sym
+      index x e near.1 saves.1 (omega arith) (is ∙ sym
       (append_assoc before bytes (routines_bytes s (at + routine_size r) rs)))
       (omega (arith, length-append before bytes))
 
@@ -103,7 +103,7 @@ there p index x fits e =
     let f = front_sizes s.imports s.text s.rdata in
     there_from s (linked p).text (text_begin p.globals) (infos_begin p) (routines_begin p)
     (routines p) (spelled (front_code s.imports s.text s.rdata)) index x e near
-    (routines_framed p) (omega arith) refl
+    (routines_save p fits) (omega arith) refl
     (omega (arith, sizes_spelled (front_code s.imports s.text s.rdata)))
 
 -- its instructions are at its address

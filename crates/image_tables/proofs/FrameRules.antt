@@ -8,11 +8,12 @@ use Rattle.virtual_unwind.specs.Undone.{operations}
 use Rattle.frame_rules.specs.Codes.{are_allowed, is_ordered}
 use Rattle.frame_rules.specs.Prologue.{ArePrologueSteps}
 use Rattle.frame_rules.proofs.Planning.{codes_plan}
-use Rattle.frame_rules.specs.Plan.{epilogue, turned}
+use Rattle.frame_rules.specs.Plan.{turned}
 use Rattle.image_tables.proofs.Lemmas.{spells_all, items_are_at, plans_are_encodable, plans_are_right, entry_small, routine_small, site_near, has_places, routines_near, services_few}
 use Rattle.image_tables.proofs.CodeInMemory.{IsThere, there, code_length, routine_is_at}
 use Rattle.image_tables.proofs.Arguments.{arguments_inner}
-use Rattle.image_tables.proofs.FramePlans.{plan_near, described, spelled_steps, laid_epilogue, leaf_plan, leaf_laid}
+use Rattle.image_tables.proofs.BodyInstructions.{AreSaved}
+use Rattle.image_tables.proofs.FramePlans.{plan_near, described, spelled_steps, laid_plan, leaf_plan, leaf_laid}
 use Rattle.image_tables.proofs.Links.{links_near}
 use Rattle.frame_layout.specs.Plans.{plan_of}
 use Rattle.frame_layout.proofs.Planned.{probe_end_few}
@@ -21,21 +22,22 @@ use Rattle.image_tables.proofs.Rest.{IsFine, fine_inner, fine_both, body_fine, e
 
 -- ---- what comes after the prologue
 
--- where its returns end in the epilogue of a plan
+-- by the plan of its layout
 pub rest_fine : (p : LinearProgram) (x : Placed) (q : FramePlan) (is_plan : IsPlan q)
-    → epilogue (plan_of_layout x.routine.layout 0) ≡ epilogue q → FitsProgram p
+    → plan_of_layout x.routine.layout q.probe ≡ q → FitsProgram p
     → IsThere (site_of p) (linked p).text (text_begin p.globals) x
     → IsFine q is_plan (rest_of p x)
-rest_fine p x q is_plan ends fits h =
+rest_fine p x q is_plan planned fits h =
     let r = x.routine in
     let entry = entry_small r h.near in
     let room = h.room in
+    let saved = subst (λ (f : FramePlan). AreSaved (operations_of f) r.layout) planned h.saves in
     fine_both q is_plan (argument_code r.layout r.entry)
     (code_from (links p x) r.layout (body_begin x) r.body.code)
-    (fine_inner q is_plan (argument_code r.layout r.entry)
-    (arguments_inner r.layout r.entry h.framed h.near.entry))
-    (body_fine q is_plan (links p x) r.layout (body_begin x) r.body.code ends
-    (links_near p x fits h) h.framed h.near.code (omega arith))
+    (fine_inner q is_plan r.layout (argument_code r.layout r.entry) planned
+    (arguments_inner (operations_of q) r.layout r.entry saved h.near.entry))
+    (body_fine q is_plan (links p x) r.layout (body_begin x) r.body.code planned
+    (links_near p x fits h) saved h.near.code (omega arith))
 
 -- that of a leaf function
 pub leaf_fine : (p : LinearProgram) (index : ℕ) (x : Placed) → FitsProgram p
@@ -43,7 +45,7 @@ pub leaf_fine : (p : LinearProgram) (index : ℕ) (x : Placed) → FitsProgram p
     → IsThere (site_of p) (linked p).text (text_begin p.globals) x
     → IsFine (frame_plan 0 0) leaf_plan (rest_of p x)
 leaf_fine p index x fits e none h =
-    rest_fine p x (frame_plan 0 0) leaf_plan (ap epilogue (leaf_laid p index x e none)) fits h
+    rest_fine p x (frame_plan 0 0) leaf_plan (leaf_laid p index x e none) fits h
 
 module _ (p : LinearProgram) (index : ℕ) (x : Placed) (f : FrameLayout)
     (framed : IsFramed p index x f) where
@@ -67,7 +69,7 @@ module _ (p : LinearProgram) (index : ℕ) (x : Placed) (f : FrameLayout)
   rest : IsFine (plan p x f) is_plan (rest_of p x)
   rest =
       rest_fine p x (plan p x f) is_plan
-      (laid_epilogue p index x f (plan p x f).probe framed.there framed.framed) framed.fits here
+      (laid_plan p index x f (plan p x f).probe framed.there framed.framed) framed.fits here
 
   pub right : IsRight (function_of p x f)
   right =

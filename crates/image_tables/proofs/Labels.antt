@@ -1,14 +1,14 @@
 -- Where the instructions of a body begin: each takes some bytes.
-use Rattle.std.proofs.Common.{ℕ, zero, suc, ◌+◌, ◌<◌, ◌≤◌, List, [], ◌∷◌, ◌++◌, length, Option, Some, None, arith}
+use Rattle.std.proofs.Common.{ℕ, zero, suc, ◌+◌, ◌<◌, ◌≤◌, List, [], ◌∷◌, length, Option, Some, None, arith}
 use Rattle.x64_emit.proofs.Rooms.{copied_size}
 use Rattle.seh_num.specs.declared.width.Width.TheVariants.{W64}
 use Rattle.x64_instr.specs.declared.register.Reg.{Reg}
 use Rattle.template_code.specs.Operations.{move}
 use Rattle.template_code.specs.declared.layout.Place.{Place}
-use Rattle.template_code.specs.declared.layout.Place.TheVariants.{InRegister, InFrame}
-use Rattle.template_code.specs.Places.{place_of}
+use Rattle.template_code.specs.declared.layout.Place.TheVariants.{InRegister, InFrame, Arriving}
+use Rattle.template_code.specs.Places.{parameter_register, place_of}
 use Rattle.template_code.specs.Slots.{fetch_placed, keep_placed}
-use Rattle.image_tables.specs.Words.{Rax, Rcx, Rsp, modrm, opcode_register, Slot, Local, Temporary, Instruction, Layout, size, sizes, before, fetched, temporary_at, local_at, fetch_local, keep_local, fetch, keep, operands_code, finish_code, compare_zero, jump_equal, test_code, finally_arguments, template_size, body_size, label_list, address_or, put_back, separator_code, clear_result}
+use Rattle.image_tables.specs.Words.{Rax, Rcx, Rsp, modrm, opcode_register, Slot, Local, Temporary, Instruction, Layout, size, sizes, work, fetched, temporary_at, local_at, fetch_local, keep_local, fetch, keep, operands_code, finish_code, compare_zero, jump_equal, test_code, finally_arguments, template_size, body_size, label_list, address_or, put_back, separator_code, clear_result}
 use Rattle.linear_code.specs.declared.instruction.Instruction.TheVariants as instructions
 use Rattle.frame_rules.specs.Plan.{epilogue}
 use Rattle.template_code.specs.Frames.{plan_of_layout}
@@ -37,6 +37,7 @@ move_some to from = let s = copied_size to from in omega arith
 
 fetch_placed_some : (y : Layout) (i : ℕ) (p : Place) → 0 < sizes (fetch_placed y Rax i p)
 fetch_placed_some y i (InRegister r) = let s = move_some Rax r in omega arith
+fetch_placed_some y i Arriving = let s = move_some Rax (parameter_register i) in omega arith
 fetch_placed_some y i InFrame = fetch_local_some y.base (local_at y i)
 
 fetch_some : (y : Layout) (x : Slot) → 0 < sizes (fetch y Rax x)
@@ -49,6 +50,7 @@ keep_local_some (Some b) d = let s = fetched_rcx b in omega arith
 
 keep_placed_some : (y : Layout) (i : ℕ) (p : Place) → 0 < sizes (keep_placed y i p)
 keep_placed_some y i (InRegister r) = let s = move_some r Rax in omega arith
+keep_placed_some y i Arriving = let s = move_some (parameter_register i) Rax in omega arith
 keep_placed_some y i InFrame = keep_local_some y.base (local_at y i)
 
 keep_some : (y : Layout) (x : Slot) → 0 < sizes (keep y x)
@@ -66,11 +68,11 @@ nop_some = omega arith
 pub template_some : (y : Layout) (i : Instruction) → 0 < template_size y i
 unfolding template_size
 template_some y (instructions.Compute to o first second) =
-    let s = fetch_some y first in
+    let s = keep_some y to in
     omega (
       arith,
       sizes_append (operands_code y o first second) (finish_code y o to),
-      sizes_append (fetch y Rax first) (fetch y Rcx second ++ before o),
+      sizes_append (work o) (keep y to),
     )
 template_some y (instructions.Information to field) = let s = fetched_rax y.pointers in omega arith
 template_some y (instructions.Landing to) = keep_some y to

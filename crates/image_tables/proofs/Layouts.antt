@@ -30,7 +30,7 @@ module _ (Holds : RoutineView → Type 0) (function : (b : Bool) (f : LinearFunc
         → AllByRecursion Holds (functions_from main index fs)
     all_functions main index [] = tt
     all_functions main index (f ∷ fs) = (
-      function (not (index == main) && is_leaf f.body) f,
+      function (not (index == main) && is_leaf f) f,
       all_functions main (suc index) fs,
     )
 

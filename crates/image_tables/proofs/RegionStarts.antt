@@ -79,7 +79,7 @@ functions_started : (main index : ℕ) (fs : List Function)
     → AllByRecursion IsStarted (functions_from main index (map lowered_function fs))
 functions_started main index [] = tt
 functions_started main index (f ∷ fs) = (
-  function_started (not (index == main) && is_leaf (lowered_function f).body) f,
+  function_started (not (index == main) && is_leaf (lowered_function f)) f,
   functions_started main (suc index) fs,
 )
 

@@ -3,7 +3,7 @@ use Rattle.std.proofs.Common.{◌≡◌, ◌≢◌, ℕ, zero, suc, ◌+◌, ◌
 use Rattle.std.specs.Prelude.{slice_get, ◌&&◌, nat_le}
 use Rattle.std.specs.List.{AllByRecursion}
 use Rattle.std.proofs.lemmas.Bool.{and_parts, ne_eqb, eqb-true}
-use Rattle.image_tables.specs.Words.{Entry, Region, RegionKind, Instruction, LinearFunction, LinearFunclet, LinearProgram, FrameLayout, Layout, body_size, label_list, address_or, function_bodies, funclet_bodies, RoutineView, is_leaf, leaf_if, functions_from, funclet, routines, IsRoutineNear, SiteView, routine_size, entry_size, bounds, is_finally, handler_address, jump_target, scope_records, info_bytes, Placed, end_of, placed_from, site_of, scopes_of, entry_if, rows_of, regions_in, regions, is_always, AreRows, LinearBody, has_call, AreInOrder}
+use Rattle.image_tables.specs.Words.{Entry, Region, RegionKind, Instruction, LinearFunction, LinearFunclet, LinearProgram, FrameLayout, Layout, body_size, label_list, address_or, function_bodies, funclet_bodies, RoutineView, is_leaf, leaf_if, functions_from, funclet, routines, IsRoutineNear, SiteView, routine_size, entry_size, bounds, is_finally, handler_address, jump_target, scope_records, info_bytes, Placed, end_of, placed_from, site_of, scopes_of, entry_if, rows_of, regions_in, regions, is_always, AreRows, LinearBody, all_spare, AreInOrder}
 use Rattle.image_tables.specs.Entries.{entries_of}
 use Rattle.linear_code.specs.declared.program.RegionKind.TheVariants as kinds
 use Rattle.image_tables.proofs.Lemmas.{bounds_least, all_append}
@@ -65,14 +65,16 @@ abbrev is_some : {A : Type 0} → Option A → ℕ
 is_some (Some x) = 1
 is_some None = 0
 
-function_bare : (f : LinearFunction) (other leaf : Bool) → (other && is_leaf f.body) ≡ leaf
+function_bare : (f : LinearFunction) (other leaf : Bool) → (other && is_leaf f) ≡ leaf
     → IsBare (leaf_if leaf f)
 function_bare f other true e none =
-    let p = and_parts other (is_leaf f.body) e in
-    let q = and_parts (nat_le (f.body.locals + f.body.temporaries) 4)
-    ((length f.body.regions == 0) && not (has_call f.body.code)) p.1 in
-    none_left f.body.regions (and_parts (length f.body.regions == 0) (not (has_call f.body.code))
-    q.1).0
+    let b = f.body in
+    let bare = (length b.regions == 0) && all_spare f.parameters b.code in
+    let few = nat_le (b.locals + b.temporaries) 4 in
+    let p = and_parts other (is_leaf f) e in
+    let q = and_parts (nat_le f.parameters b.locals) (few && bare) p.1 in
+    let r = and_parts few bare q.1 in
+    none_left b.regions (and_parts (length b.regions == 0) (all_spare f.parameters b.code) r.1).0
 function_bare f other false e none = let q = ap is_some none in absurd (omega arith)
 
 functions_bare : (main index : ℕ) (fs : List LinearFunction)
@@ -80,7 +82,7 @@ functions_bare : (main index : ℕ) (fs : List LinearFunction)
 functions_bare main index [] = tt
 functions_bare main index (f ∷ fs) = (
   function_bare f (not (index == main))
-      (not (index == main) && is_leaf f.body) refl,
+      (not (index == main) && is_leaf f) refl,
   functions_bare main (suc index) fs,
 )
 
@@ -110,7 +112,7 @@ same_body false f = refl
 functions_regions : (main index : ℕ) (fs : List LinearFunction)
     → regions_in (bodies (functions_from main index fs)) ≡ regions_in (function_bodies fs)
 functions_regions main index [] = refl
-functions_regions main index (f ∷ fs) = λ i. (same_body (not (index == main) && is_leaf f.body) f
+functions_regions main index (f ∷ fs) = λ i. (same_body (not (index == main) && is_leaf f) f
     i).regions ++ functions_regions main (suc index) fs i
 
 funclets_regions : (p : LinearProgram) (fs : List LinearFunclet)

@@ -122,7 +122,7 @@ functions_have : (main index : ℕ) (fs : List LinearFunction)
 functions_have main index [] all = tt
 functions_have main index (f ∷ fs) all = (
   subst HasRanges
-      (sym (same_body (not (index == main) && is_leaf f.body) f)) all.0,
+      (sym (same_body (not (index == main) && is_leaf f) f)) all.0,
   functions_have main (suc index) fs all.1,
 )
 

@@ -1,6 +1,6 @@
 -- The routines of a program as functions of the rules: the unwind info, the steps of the prologue,
 -- and the instructions after it.
-use Rattle.std.specs.Prelude.{◌+◌, List, [], ◌∷◌, ◌++◌}
+use Rattle.std.specs.Prelude.{List, [], ◌∷◌, ◌++◌}
 use Rattle.x64_instr.specs.declared.instruction.Instr.{Instr}
 use Rattle.virtual_unwind.specs.Tail.{FetchedInstr}
 use Rattle.frame_rules.specs.Rules.{FramedFunction}

@@ -72,7 +72,7 @@ pub use Rattle.image_link.specs.Fits.{FitsProgram, function_bodies, funclet_bodi
 pub use Rattle.image_link.specs.Linked.{text_begin, linked, first, total}
 pub use Rattle.image_link.specs.Walks.{services_of}
 pub use Rattle.image_link.specs.Near.{IsEntryNear, IsFrameNear, IsRoutineNear}
-pub use Rattle.image_link.specs.Routines.{RoutineView, routines, is_leaf, leaf_if, functions_from, funclet, has_call, nothing, funclet_frame}
+pub use Rattle.image_link.specs.Routines.{RoutineView, routines, is_leaf, leaf_if, functions_from, funclet, all_spare, nothing, funclet_frame}
 pub use Rattle.image_link.specs.Tables.{is_finally, has_except, has_finally, trailer, scope_records, scope_table, info_if, handler_address, jump_target, scope_record, info_bytes_of, infos, infos_room, range_if, ranges}
 unfoldable pub use Rattle.image_link.specs.Tables.{info_bytes}
 pub use Rattle.image_link.specs.Text.{argument_code, base_of, entry_code, check_stack_at, routine_code, thunk_at, SiteView, routine_size, routines_bytes, routine_room, room, addresses, front_code, frame_code, own_addresses, thunks_at, bounds, service_thunk, front_size}

@@ -1,8 +1,10 @@
 -- Other numbers in the locals of one activation leave the others as they are.
 use Rattle.std.proofs.Common.{◌≡◌, ℕ, suc, ◌+◌, ◌<◌, Bool, true, false, Option, List, [], ◌∷◌, length, refl, sym, ap, subst, ◌∙◌, arith, inl, inr}
 use Rattle.std.specs.Prelude.{◌==◌}
-use Rattle.std.proofs.lemmas.Bool.{eq-eqb, ne_eqb}
-use Rattle.match_bodies.specs.Words.{Activation, IsActivation, HasSpace, with_values, with_values_if}
+use Rattle.std.proofs.lemmas.Bool.{eq-eqb, eqb-true, ne_eqb, false≢true}
+use Rattle.x64_machine.specs.declared.cpu.Cpu.{Cpu}
+use Rattle.linear_machine.specs.Frames.{Resumption}
+use Rattle.match_bodies.specs.Words.{Functions, Funclet, LinearProgram, Item, Waits, Searches, Unwinds, ImagePlan, Resumes, OwnerHasFrame, BodyName, FunctionBody, FuncletBody, Activation, IsActivation, activations_below, leaf_values, HasSpace, with_values, with_values_if}
 
 -- ---- activations
 
@@ -67,5 +69,33 @@ pub later_changes : (a : Activation) (outer : List Activation) (k : ℕ) (values
     → k < length outer → with_values (a ∷ outer) k values ≡ a ∷ with_values outer k values
 later_changes a outer k values lt = ap (λ b. with_values_if b a outer values
     (with_values outer k values)) (ne_eqb k (length outer) (λ e. absurd (omega arith)))
+
+-- a leaf function's own, where that is another one
+pub leaf_values_kept : (leaf : Bool) (name : BodyName) (acts : List Activation) (k : ℕ)
+    (values : List ℕ) → (k ≡ length (activations_below name acts) → leaf ≡ false)
+    → leaf_values leaf name (with_values acts k values) ≡ leaf_values leaf name acts
+leaf_values_kept false name acts k values owner = refl
+leaf_values_kept true (FuncletBody j) acts k values owner = refl
+leaf_values_kept true (FunctionBody f) [] k values owner = refl
+leaf_values_kept true (FunctionBody f) (a ∷ outer) k values owner = by (k == length outer) refl
+  where
+    by : (b : Bool) → (k == length outer) ≡ b → leaf_values true (FunctionBody f)
+        (with_values_if b a outer values (with_values outer k values)) ≡ a.values
+    by true e = absurd (false≢true (sym (owner (eqb-true k (length outer) e))))
+    by false e = refl
+
+-- so what a search continues continues as before: it is not the owner, or it has a frame
+module _ (t : Functions) (fs : List Funclet) (program : LinearProgram) (p : ImagePlan) (k : ℕ)
+    (values : List ℕ) where
+  pub resumes_kept : (resumption : Resumption) (below : List Item) (acts : List Activation)
+      (saved : Cpu) → OwnerHasFrame t fs program p k below acts
+      → Resumes t fs program p resumption below acts saved
+      → Resumes t fs program p resumption below (with_values acts k values) saved
+  resumes_kept resumption [] acts saved o h = tt
+  resumes_kept resumption (Waits b ∷ below) acts saved o h =
+      ap (λ (vs : List ℕ). p.resumes resumption b vs saved)
+      (leaf_values_kept (p.leaf b.body) b.body acts k values o.0) ∙ h
+  resumes_kept resumption (Searches exception other asked rest ∷ below) acts saved o h = tt
+  resumes_kept resumption (Unwinds rest target ∷ below) acts saved o h = tt
 
 -- ---- the list

@@ -135,7 +135,7 @@ module _ (t : Functions) (fs : List Funclet) (program : LinearProgram) (p : Imag
       let home = h.0.home in
       let w = words_fit m (rsp c + (p.layout b.body).temporaries) (rsp c + home_end) b.temporaries
       h.0.waits.temporaries in
-      in_body m (get c) (p.register b.body) (p.layout b.body) (rsp c)
+      in_body m h.0.now (p.register b.body) (p.layout b.body) (rsp c)
       (p.layout b.body).temporaries b.activation (rsp (after_leaf c back)) k base distance register
       acts b.body h.0.waits.activation i (omega arith) (omega arith)
       (λ j. are_there m (after_leaf c back) is below (activations_below b.body acts) k base distance

@@ -2,11 +2,14 @@
 use Rattle.std.proofs.Common.{◌≡◌, ℕ, suc, ◌+◌, ◌^◌, ◌<◌, ◌≤◌, Bool, true, false, Some, Ok, List, length, drop, refl, sym, ap, subst, ◌∙◌, arith}
 use Rattle.std.specs.Prelude.{slice_index}
 use Rattle.std.proofs.lemmas.Bool.{eqb-false, not-true}
-use Rattle.match_bodies.specs.Words.{Memory, Rsp, Context, context_of, kept_of, State, register, rsp, word, LinearBody, BodyName, FunctionBody, FuncletBody, body_of, Configuration, StackFrame, frame_of, HasFrame, IsFramed, Setting, Instr, Layout, IsWellFormed, AllSmall, IsAsTold, IsOwed, nothing_owed, owed_of, owed_by, caller_owed, get}
+use Rattle.match_bodies.specs.Words.{Memory, Rsp, Context, context_of, kept_of, State, register, rsp, word, LinearBody, BodyName, FunctionBody, FuncletBody, body_of, Configuration, StackFrame, frame_of, HasFrame, IsFramed, Setting, Layout, IsWellFormed, AllSmall, IsAsTold, IsOwed, nothing_owed, owed_of, owed_by, caller_owed, get, Reg, KeepsRegisters, InRegister, place_of}
 use Rattle.virtual_unwind.specs.CallerOf.{has_frame, sets_frame}
 use Rattle.virtual_unwind.specs.Undone.{operations}
 use Rattle.frame_rules.specs.Bytes.{spell}
-use Rattle.frame_rules.specs.Codes.{depth}
+use Rattle.frame_rules.specs.Codes.{depth, is_saved}
+use Rattle.x64_instr.specs.Registers.{number}
+use Rattle.x64_templates.specs.Locals.{is_of_local}
+use Rattle.x64_templates.proofs.Locals.{place_is_local}
 use Rattle.frame_rules.specs.Plan.{FramePlan, epilogue, operations_of}
 use Rattle.frame_rules.proofs.Order.{Ordered, ordered}
 use Rattle.frame_rules.proofs.Planning.{codes_plan, framed_plan, ordered_plan}
@@ -22,7 +25,8 @@ use Rattle.x64_machine.specs.declared.cpu.Cpu.{Cpu}
 use Rattle.match_bodies.proofs.InstructionEffects.{others_of}
 use Rattle.match_bodies.proofs.StackTop.{leaf_layout}
 use Rattle.match_bodies.proofs.FrameCode.{above_plan, epilogue_count, plan_depth}
-use Rattle.match_bodies.proofs.OwedCallers.{base_is, returns_alone, at_return}
+use Rattle.match_bodies.proofs.OwedCallers.{base_is, returns_alone, at_return, IsOwn}
+use Rattle.match_bodies.proofs.LocalRegisters.{SavesLocals, told_kept, all_kept, local_beside_frame, not_in_register, leaf_in_none}
 
 -- the caller's registers are small where all are
 pub small_others : (s : State) → IsWellFormed s → AllSmall (others_of s.cpu.registers)
@@ -142,6 +146,40 @@ module _ (setting : Setting) where
         → operations (p.entry name).info.codes ≡ operations_of framing
     codes_are e = ap operations (image.plans name b is e).codes ∙ codes_plan spell framing
 
+    -- and save the registers of its locals
+    locals_saved : p.leaf name ≡ false
+        → SavesLocals (p.layout name) (operations (p.entry name).info.codes)
+    locals_saved e x r at = subst (λ ops. is_saved (number r) ops ≡ true) (sym (codes_are e))
+        (by name (image.laid_out name b is) e x r at)
+      where
+        by : (n : BodyName) → IsLaidOut program p n b → p.leaf n ≡ false
+            → SavesLocals (p.layout n) (operations_of (plan_of_layout (p.layout n) 0))
+        by (FunctionBody f) h e =
+            let l = subst (λ (leaf : Bool). IsLayoutIf program p (p.layout (FunctionBody f)) b leaf)
+            e h in
+            l.saves
+        by (FuncletBody k) h e =
+            λ x r at. absurd (not_in_register r (sym (h.layout.in_frame x) ∙ at))
+
+    -- a register of a local is saved, and is no frame register
+    pub locals_own : (x : ℕ) (r : Reg) → place_of (p.layout name) x ≡ InRegister r
+        → IsOwn (owed_of p name) r
+    locals_own x r at = by (p.leaf name) refl
+      where
+        local : is_of_local r ≡ true
+        local = place_is_local (p.layout name) x r at
+
+        by : (leaf : Bool) → p.leaf name ≡ leaf → IsOwn (owed_by (p.entry name).info leaf) r
+        by false e = record {
+          local = local;
+          saved = locals_saved e x r at;
+          apart = λ z. local_beside_frame r (p.layout name).framed local
+              (z ∙ (image.plans name b is e).frame_register);
+        }
+        by true e =
+            let leaf = leaf_layout t fs program p q name b e (image.laid_out name b is) in
+            absurd (leaf_in_none (p.layout name) leaf.in_frame x r at)
+
     -- where it has a frame register, its codes set it
     sets : p.leaf name ≡ false → has_frame (p.entry name).info ≡ true
         → sets_frame (operations (p.entry name).info.codes) ≡ true
@@ -248,15 +286,15 @@ module _ (setting : Setting) where
             IsOwed s.memory (context_of s.cpu) (owed_by i leaf) size back others) e o) in
             record { returns = n.returns; others = n.others_are }
 
-    -- it is there in another memory that has its words, with the same nonvolatile registers
+    -- it is there in another memory that has its words, with the registers that templates keep
     pub frame_stays : (s u : State) (back : ℕ) (others : List ℕ)
-        → kept_of u.cpu.registers ≡ kept_of s.cpu.registers
+        → KeepsRegisters (p.layout name) s.cpu.registers u.cpu.registers
         → ((a v : ℕ) → register s.cpu Rsp + (p.layout name).slots ≤ a
         → a + 8 ≤ register s.cpu Rsp + (p.layout name).frame + 8 → word s.memory a ≡ Ok v
         → word u.memory a ≡ Ok v)
         → HasFrame s (p.leaf name) (frame_of p name back others)
         → HasFrame u (p.leaf name) (frame_of p name back others)
-    frame_stays s u back others same words h = by (p.leaf name) refl h
+    frame_stays s u back others keeps words h = by (p.leaf name) refl h
       where
         by : (leaf : Bool) → p.leaf name ≡ leaf → HasFrame s leaf (frame_of p name back others)
             → HasFrame u leaf (frame_of p name back others)
@@ -264,13 +302,17 @@ module _ (setting : Setting) where
             let sp = register s.cpu Rsp in
             let slots = (p.layout name).slots in
             let size = (p.layout name).frame in
-            told_with u.memory (context_of s.cpu) (context_of u.cpu) (frame_of p name back others)
-            same (told_above s.memory u.memory (sp + slots) (sp + size + 8) (context_of s.cpu)
+            told_kept (p.layout name) s.cpu u.cpu keeps u.memory (frame_of p name back others)
+            (p.layout name).framed (locals_saved e) (image.plans name b is e).frame_register
+            (told_above s.memory u.memory (sp + slots) (sp + size + 8) (context_of s.cpu)
             (frame_of p name back others)
             (λ a v l k w. is_word u.memory a v w.high (words a v l k (word-is s.memory a v w)))
             (omega arith) (omega arith) h)
         by true e h =
-            let none = (leaf_layout t fs program p q name b e (image.laid_out name b is)).slots in
+            let l = leaf_layout t fs program p q name b e (image.laid_out name b is) in
+            let none = l.slots in
+            let same = all_kept (p.layout name) (leaf_in_none (p.layout name) l.in_frame)
+            s.cpu.registers u.cpu.registers keeps in
             record {
               returns = ap (λ (ks : List ℕ). word u.memory (slice_index ks 0)) same
                   ∙ words (register s.cpu Rsp) back (omega arith) (omega arith) h.returns;

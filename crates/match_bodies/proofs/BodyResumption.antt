@@ -2,7 +2,7 @@
 use Rattle.std.proofs.Common.{◌≡◌, ℕ, ◌+◌, ◌≤◌, Bool, true, false, List, [], ◌∷◌, length, Option, Some, Ok, refl, sym, ap, subst, ◌∙◌, arith}
 use Rattle.std.specs.Prelude.{slice_set, slice_get, slice_index}
 use Rattle.std.specs.List.{AllByRecursion}
-use Rattle.match_bodies.specs.Words.{Event, STACK_END, Memory, Rsp, Context, context_of, State, register, rsp, Functions, word, Funclet, Layout, Region, LinearProgram, LinearBody, LinearFunclet, BodyName, FunctionBody, FuncletBody, Frame, Item, Waits, Searches, Unwinds, body_of, holds, regions_of, StackFrame, StackItem, Framed, Leaf, FrameIsAt, after_leaf, context_below, IsWellFormed, ImagePlan, InCode, Activation, activations_below, HoldsWords, HasActivation, temporaries_end, home_end, HasSpace, below_end, BodyWaits, HasPointers, IsAbove, FuncletIsAbove, On, Sites, IsLaidOut, IsProgramImage, frame_of, slots_end, last_temporary, HasFrame, InBody, setting_of, IsAsTold, get}
+use Rattle.match_bodies.specs.Words.{Event, STACK_END, Memory, Rsp, Context, context_of, State, register, rsp, Functions, word, Funclet, Layout, Region, LinearProgram, LinearBody, LinearFunclet, BodyName, FunctionBody, FuncletBody, Frame, Item, Waits, Searches, Unwinds, body_of, holds, regions_of, StackFrame, StackItem, Framed, Leaf, FrameIsAt, after_leaf, context_below, IsWellFormed, ImagePlan, InCode, Activation, activations_below, HoldsWords, HasActivation, temporaries_end, home_end, HasSpace, below_end, BodyWaits, HasPointers, IsAbove, FuncletIsAbove, On, Sites, IsLaidOut, IsProgramImage, frame_of, slots_end, last_temporary, HasFrame, InBody, setting_of, IsAsTold, get, now_of, RegistersHold, leaf_values}
 use Rattle.eh_tables.specs.Tables.{Entry}
 use Rattle.virtual_unwind.specs.Undone.{operations}
 use Rattle.frame_rules.specs.Codes.{depth}
@@ -12,6 +12,7 @@ use Rattle.match_bodies.proofs.Lemmas.{told_depth}
 use Rattle.match_bodies.proofs.InstructionEffects.{others_of}
 use Rattle.match_bodies.proofs.StackTop.{leaf_layout}
 use Rattle.match_bodies.proofs.FramePlaces.{activation_with}
+use Rattle.match_bodies.proofs.LeafRegisters.{leaf_with}
 use Rattle.match_bodies.proofs.BodyFrames.{codes_are, frame_plan_is, small_others, told_with}
 use Rattle.match_bodies.proofs.FrameCode.{plan_depth}
 
@@ -115,7 +116,7 @@ module _ (t : Functions) (fs : List Funclet) (program : LinearProgram) (p : Imag
           let sp : register u.cpu Rsp ≡ rsp c = ap (λ (ks : List ℕ). slice_index ks 0) same in
           let up : rsp c + f.size + 8 ≡ register u.cpu Rsp + y.frame + 8 =
           omega (arith, sp, size) in
-          let slots : BodyWaits t fs program p m (context_of u.cpu) y.slots
+          let slots : BodyWaits t fs program p m (context_of u.cpu) (get (context_of u.cpu)) y.slots
           (temporaries_end y name y.slots) b' acts = record {
             code = w.code;
             body = w.body;
@@ -138,7 +139,8 @@ module _ (t : Functions) (fs : List Funclet) (program : LinearProgram) (p : Imag
             acts = acts;
             store = refl;
             slots = subst (λ (leaf : Bool). BodyWaits t fs program p m (context_of u.cpu)
-                (slots_end y leaf) (last_temporary y name leaf) b' acts) (sym l.0.framed) slots;
+                (now_of leaf u.cpu) (slots_end y leaf) (last_temporary y name leaf) b' acts)
+                (sym l.0.framed) slots;
             pointers = subst (λ x. HasPointers t fs program p m y x y.frame below) (sym sp)
                 (subst (λ n. HasPointers t fs program p m y (rsp c) n below) size l.0.pointers);
             above = above_same b b' name below refl l.1;
@@ -169,8 +171,10 @@ module _ (t : Functions) (fs : List Funclet) (program : LinearProgram) (p : Imag
           → On t fs program p u.memory c (Leaf back ∷ is) (Waits b ∷ below) acts
           → (context_of u.cpu).kept ≡ c.kept → InCode p b.body label u.cpu.rip → IsWellFormed u
           → IsFront u.memory b.temporaries ts
+          → RegistersHold (now_of true u.cpu) (p.register b.body) 0
+          (leaf_values (p.leaf b.body) b.body acts)
           → InBody t fs program p q u (on_top (again b label ts landed) below source acts es)
-      leaf_again u c back is b below acts label ts landed source es on same inside well front =
+      leaf_again u c back is b below acts label ts landed source es on same inside well front hold =
           let m = u.memory in
           let name = b.body in
           let y = p.layout name in
@@ -189,7 +193,8 @@ module _ (t : Functions) (fs : List Funclet) (program : LinearProgram) (p : Imag
             is_there = record { stack = s.1; linked = l.2 };
             data_alone = on.data_alone;
           } in
-          let slots : BodyWaits t fs program p m (context_of u.cpu) y.temporaries home_end b'
+          let now = now_of true u.cpu in
+          let slots : BodyWaits t fs program p m (context_of u.cpu) now y.temporaries home_end b'
           acts = record {
             code = w.code;
             body = w.body;
@@ -197,8 +202,12 @@ module _ (t : Functions) (fs : List Funclet) (program : LinearProgram) (p : Imag
             instruction = record { low = inside.low; high = inside.high };
             same = all_same label (regions_of (body_of program name));
             small = well.rip_small;
-            activation = activation_with m (p.register name) y c (context_of u.cpu) y.temporaries
-                b.activation acts name same w.activation;
+            activation = subst (λ x. HasActivation m now (p.register name) y x y.temporaries
+                b.activation acts name) (sym sp)
+                (leaf_with m l.0.now now (p.register name) y (rsp c) y.temporaries b.activation
+                acts name w.activation
+                (subst (λ (leaf : Bool). RegistersHold now (p.register name) 0
+                (leaf_values leaf name acts)) l.0.leaf hold));
             temporaries = subst (λ x. HoldsWords m (x + y.temporaries) (x + home_end) ts) (sym sp)
                 (front (rsp c + y.temporaries) (rsp c + home_end) w.temporaries);
             space = subst (λ x. HasSpace x below_end (length acts + b.held)) (sym sp) w.space;
@@ -207,7 +216,8 @@ module _ (t : Functions) (fs : List Funclet) (program : LinearProgram) (p : Imag
             acts = acts;
             store = refl;
             slots = subst (λ (leaf : Bool). BodyWaits t fs program p m (context_of u.cpu)
-                (slots_end y leaf) (last_temporary y name leaf) b' acts) (sym l.0.leaf) slots;
+                (now_of leaf u.cpu) (slots_end y leaf) (last_temporary y name leaf) b' acts)
+                (sym l.0.leaf) slots;
             pointers = leaf_pointers m y (register u.cpu Rsp) y.frame b name below
                 (leaf_is_function name w.code l.0.leaf (image.laid_out name w.code w.body)) l.1;
             above = above_same b b' name below refl l.1;
@@ -238,15 +248,17 @@ module _ (t : Functions) (fs : List Funclet) (program : LinearProgram) (p : Imag
           → On t fs program p u.memory c is (Waits b ∷ below) acts
           → (context_of u.cpu).kept ≡ c.kept → InCode p b.body label u.cpu.rip → IsWellFormed u
           → IsFront u.memory b.temporaries ts
+          → RegistersHold (now_of true u.cpu) (p.register b.body) 0
+          (leaf_values (p.leaf b.body) b.body acts)
           → InBody t fs program p q u (on_top (again b label ts landed) below source acts es)
       waits_in_body u c (Framed f ∷ is) b below acts label ts landed source es on same inside well
-          front =
+          front hold =
           framed_again u c f is b below acts label ts landed source es on same inside well front
       waits_in_body u c (Leaf back ∷ is) b below acts label ts landed source es on same inside well
-          front =
-          leaf_again u c back is b below acts label ts landed source es on same inside well front
-      waits_in_body u c is b below acts label ts landed source es on same inside well front = absurd
-          on.is_there.linked
+          front hold = leaf_again u c back is b below acts label ts landed source es on same inside
+          well front hold
+      waits_in_body u c is b below acts label ts landed source es on same inside well front hold =
+          absurd on.is_there.linked
 
 -- no temporaries, or all of them
 words_end : (m : Memory) (at end : ℕ) (vs : List ℕ) → HoldsWords m at end vs → at ≤ end

@@ -1,12 +1,13 @@
 -- Each step within a body is matched.
 use Rattle.std.proofs.Common.{◌≡◌, ℕ, zero, ◌<◌, ◌^◌, Bool, true, false, Option, Some, None, refl, sym, ap, ◌∙◌, arith}
-use Rattle.match_bodies.specs.Words.{State, Operation, Gives, performed, is_reserved, Slot, Local, Instruction, LinearProgram, IsSlot, Configuration, is_constant, operand, act, instruction_at, exec, HasRule, Moves, turns_left, counts_of, IsWellMade, IsKnown, Setting, setting_of, RepresentsAt, LandsWell}
+use Rattle.match_bodies.specs.Words.{State, Operation, Gives, performed, is_reserved, Slot, Local, Instruction, LinearProgram, IsSlot, Configuration, is_constant, operand, act, instruction_at, exec, HasRule, Moves, turns_left, counts_of, IsWellMade, IsKnown, Setting, setting_of, RepresentsAt, LandsWell, IsReached}
 use Rattle.linear_code.specs.declared.instruction.Instruction.TheVariants as instructions
 use Rattle.lowering_invariants.specs.Ready as ready
+use Rattle.lowering_invariants.specs.Registers.{SlotHas}
 use Rattle.lowering_invariants.specs.SmallNumbers.{IsSmallCode}
 use Rattle.match_bodies.specs.StepLaws.{turns_per_step, Completes, IsWithinBody, StepsWithinBodiesAreMatched, SeparatorsAreMatched}
 use Rattle.match_bodies.proofs.TemplateRuns.{code, slots, has_slots}
-use Rattle.match_bodies.proofs.PlainSteps.{is_read, jump_step, separator_step, jump_if_zero_step}
+use Rattle.match_bodies.proofs.PlainSteps.{reached_here, is_read, jump_step, separator_step, jump_if_zero_step}
 use Rattle.match_bodies.proofs.ComputeStep.{same_constant, outcome_here, compute_step}
 use Rattle.match_bodies.proofs.LandingStep.{landing_step}
 use Rattle.match_bodies.proofs.StepNeeds.{counted_here, around_here, code_at, held_here, goes_inside, ready_here}
@@ -35,7 +36,7 @@ lands_at program c i (Some v) h e f =
 
 module _ (setting : Setting) (made : IsWellMade setting.program setting.plan) (s : State)
     (c : Configuration) (b : RepresentsAt setting s c) (known : IsKnown setting.program c) where
-  open setting use {functions as t, funclets as fs, program}
+  open setting use {functions as t, funclets as fs, program, plan as p}
 
   free : (i : Instruction) → instruction_at program c ≡ Some i → is_landing i ≡ false
       → c.frame.landed ≡ None
@@ -53,26 +54,33 @@ module _ (setting : Setting) (made : IsWellMade setting.program setting.plan) (s
       (code_at setting made s c b known (instructions.Compute to o first second) e) in
       let r = ready_here setting made s c b known
       (instructions.Compute to o first second) e in
-      by (is_constant o) refl there.1 there.2 r.0 r.1 d.reads_first d.reads_second
+      let reached = reached_here setting made.room s c b (counted_here setting made c known)
+      (around_here setting made s c b known) (instructions.Compute to o first second)
+      (code_at setting made s c b known (instructions.Compute to o first second) e) in
+      by (is_constant o) refl there.1 there.2 r.0 r.1 reached.1 reached.2 d.reads_first
+      d.reads_second
     where
       by : (constant : Bool) → is_constant o ≡ constant
           → IsSlot (counts_of (code setting made.room s c b (counted_here setting made c known)))
           first → IsSlot (counts_of (code setting made.room s c b
           (counted_here setting made c known))) second
           → ready.IsRead constant (ready.held c) first → ready.IsRead constant (ready.held c) second
+          → SlotHas (IsReached p c.frame.body) first → SlotHas (IsReached p c.frame.body) second
           → operand constant c first ≡ Some d.a → operand constant c second ≡ Some d.b
           → outcome_here setting made.room s c b (counted_here setting made c known)
           (around_here setting made s c b known) o first second ≡ Gives d.value d.memory
-      by true k f g hf hg rf rg =
+      by true k f g hf hg lf lg rf rg =
           same_constant (is_reserved program.globals) o
           ((slots setting made.room s c b (counted_here setting made c known)).slots first)
           ((slots setting made.room s c b (counted_here setting made c known)).slots second) d.a d.b
           c.store.memory k ∙ d.gives
-      by false k f g hf hg rf rg =
+      by false k f g hf hg lf lg rf rg =
           let x = is_read setting made.room s c b
-          (counted_here setting made c known) (around_here setting made s c b known) first f hf in
+          (counted_here setting made c known) (around_here setting made s c b known) first f hf lf
+          in
           let y = is_read setting made.room s c b
-          (counted_here setting made c known) (around_here setting made s c b known) second g hg in
+          (counted_here setting made c known) (around_here setting made s c b known) second g hg lg
+          in
           let a : x.value ≡ d.a = some_number x.value d.a (sym x.reads ∙ rf) in
           let e : y.value ≡ d.b = some_number y.value d.b (sym y.reads ∙ rg) in
           ap (λ z. performed (is_reserved program.globals) o z

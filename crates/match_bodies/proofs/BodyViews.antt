@@ -1,13 +1,16 @@
 -- The running body has a view: its slots as templates see them hold linear code's numbers.
-use Rattle.std.proofs.Common.{◌≡◌, ℕ, ◌+◌, ◌*◌, ◌^◌, ◌<◌, ◌≤◌, Bool, true, false, Some, None, List, [], ◌∷◌, length, refl, sym, ap, subst, ◌∙◌, arith, inl, inr}
-use Rattle.std.specs.Prelude.{◌⊎◌, slice_get, slice_index}
-use Rattle.match_bodies.specs.Words.{STACK_START, STACK_END, Rsp, State, context_of, get, register, LinearBody, BodyName, FunctionBody, FuncletBody, body_of, Configuration, machine, context_below, locals_of, activations_below, temporaries_end, HasActivation, IsLinkedStack, IsFunctionLayout, IsLeafLayout, IsFuncletLayout, IsLayoutIf, IsLaidOut, IsFuncletPlan, slots_end, last_temporary, FrameHolds, seen_by_templates, counts_of, frame_at, state_of, Setting, RepresentsAt, Roomy, HasSlotsOf, AllSmall, local_in, local_registers, number_placed}
+use Rattle.std.proofs.Common.{◌≡◌, ℕ, ◌+◌, ◌*◌, ◌^◌, ◌<◌, ◌≤◌, Bool, true, false, cond, Some, None, List, [], length, refl, sym, ap, subst, ◌∙◌, arith, inl, inr}
+use Rattle.std.specs.Prelude.{◌⊎◌, ◌==◌, slice_get, slice_index}
+use Rattle.match_bodies.specs.Words.{STACK_START, STACK_END, Rsp, State, register, LinearBody, BodyName, FunctionBody, FuncletBody, body_of, Configuration, machine, context_below, locals_of, activations_below, temporaries_end, HasActivation, IsLinkedStack, IsFunctionLayout, IsLeafLayout, IsFuncletLayout, IsLayoutIf, IsLaidOut, IsFuncletPlan, slots_end, last_temporary, FrameHolds, seen_by_templates, counts_of, frame_at, state_of, Setting, RepresentsAt, Roomy, HasSlotsOf, AllSmall, local_in, local_of, local_registers, IsReached, now_of, arrived_in}
+use Rattle.x64_instr.specs.Registers.{number}
+use Rattle.x64_machine.specs.declared.cpu.Cpu.{Cpu}
 use Rattle.x64_instr.specs.declared.register.Reg.{Reg}
 use Rattle.x64_instr.specs.declared.register.Reg.TheVariants.{Rax, Rcx, Rdx, Rbx, Rbp, Rsi, Rdi, R8, R9, R10, R11, R12, R13, R14, R15}
 use Rattle.linear_machine.specs.Frames as linear
 use Rattle.x64_templates.proofs.PrologueParts.{registers_are}
 use Rattle.match_bodies.proofs.Lemmas.{in_stack}
-use Rattle.match_bodies.proofs.SlotPlaces.{SlotsPlaced, function_placed, leaf_placed, funclet_placed, room_of, holds_of, local_is, temporary_is}
+use Rattle.match_bodies.proofs.LocalPlaces.{number_of_place}
+use Rattle.match_bodies.proofs.SlotPlaces.{SlotsPlaced, LocalsPlaced, function_placed, leaf_placed, funclet_placed, room_of, holds_of, local_is, temporary_is}
 
 -- each register of a state is a number of 64 bits
 pub locals_small : (rs : List ℕ) → length rs ≡ 16 → AllSmall rs
@@ -28,6 +31,18 @@ locals_small rs n small R8 = omega arith
 locals_small rs n small R9 = omega arith
 locals_small rs n small R10 = omega arith
 locals_small rs n small R11 = omega arith
+
+-- those in which parameters arrive too
+pub arrived_small : (c : Cpu) → length c.registers ≡ 16 → AllSmall c.registers
+    → (i : ℕ) → arrived_in c i < 2 ^ 64
+arrived_small c n small i = by (i == 0) (i == 1) (i == 2)
+  where
+    by : (x y z : Bool)
+        → slice_index c.registers (number (cond x Rcx (cond y Rdx (cond z R8 R9)))) < 2 ^ 64
+    by true y z = small 1 (omega arith)
+    by false true z = small 2 (omega arith)
+    by false false true = small 8 (omega arith)
+    by false false false = small 9 (omega arith)
 
 -- a state is made of its registers
 pub is_machine : (s : State) → length s.cpu.registers ≡ 16
@@ -55,6 +70,14 @@ module _ (setting : Setting) where
       abbrev sp : ℕ
       sp = register s.cpu Rsp
 
+      -- the registers in which its locals may stand
+      abbrev now : ℕ → ℕ
+      now = now_of (p.leaf c.frame.body) s.cpu
+
+      -- and those in which a leaf function's parameters arrive
+      abbrev arrived : ℕ → ℕ
+      arrived = arrived_in s.cpu
+
       pub sp_low : STACK_START + 196568 ≤ sp
       sp_low = let s = b.body.slots.space.space in let d = b.body.slots.space.shallow in omega arith
 
@@ -73,18 +96,23 @@ module _ (setting : Setting) where
           b.body.store ∙ ap (λ x. elim x [ Some locals ↦ locals | None ↦ [] ]) e in
           ap length (sym same) ∙ counted code b.body.slots.body
 
+      -- where its slots are, with the numbers of the locals that its code reaches
+      abbrev Placed : Type 0
+      Placed = LocalsPlaced s.memory now (p.register c.frame.body)
+          (IsReached p c.frame.body) (p.layout c.frame.body) code.temporaries sp
+          c.frame.activation b.body.acts
+
       by_leaf : (f : ℕ) (leaf : Bool) → c.frame.body ≡ FunctionBody f → p.leaf c.frame.body ≡ leaf
           → IsLaidOut program p (FunctionBody f) code
-          → HasActivation s.memory (get (context_of s.cpu)) (p.register c.frame.body)
+          → HasActivation s.memory now (p.register c.frame.body)
           (p.layout c.frame.body) sp
           (slots_end (p.layout c.frame.body) leaf)
           c.frame.activation b.body.acts (FunctionBody f)
-          → SlotsPlaced s.memory (p.layout c.frame.body) code.temporaries sp c.frame.activation
-          b.body.acts
+          → Placed
       by_leaf f true name is layouts h =
           let low = sp_low in
-          leaf_placed s.memory (get (context_of s.cpu)) (p.register c.frame.body)
-          (image.no_registers c.frame.body) (p.layout c.frame.body) code sp c.frame.activation f
+          leaf_placed s.memory now (p.register c.frame.body)
+          (IsReached p c.frame.body) (p.layout c.frame.body) code sp c.frame.activation f
           b.body.acts
           (subst (λ l. IsLayoutIf program p (p.layout c.frame.body) code l) is
           (subst (λ n. IsLayoutIf program p (p.layout n) code (p.leaf n)) (sym name) layouts))
@@ -92,19 +120,18 @@ module _ (setting : Setting) where
       by_leaf f false name is layouts h =
           let low = sp_low in
           let top = frame_top in
-          function_placed s.memory (get (context_of s.cpu)) (p.register c.frame.body)
-          (image.no_registers c.frame.body) (p.layout c.frame.body) code sp c.frame.activation f
+          function_placed s.memory now (p.register c.frame.body)
+          (IsReached p c.frame.body) (p.layout c.frame.body) code sp c.frame.activation f
           b.body.acts
           (subst (λ l. IsLayoutIf program p (p.layout c.frame.body) code l) is
           (subst (λ n. IsLayoutIf program p (p.layout n) code (p.leaf n)) (sym name) layouts))
           (omega arith) (omega arith) h
 
       by_funclet : (k : ℕ) → c.frame.body ≡ FuncletBody k → IsFuncletPlan program p k code
-          → HasActivation s.memory (get (context_of s.cpu)) (p.register c.frame.body)
+          → HasActivation s.memory now (p.register c.frame.body)
           (p.layout c.frame.body) sp (p.layout c.frame.body).slots
           c.frame.activation b.body.acts (FuncletBody k)
-          → SlotsPlaced s.memory (p.layout c.frame.body) code.temporaries sp c.frame.activation
-          b.body.acts
+          → Placed
       by_funclet k name plan h =
           let low = sp_low in
           let o = b.body.below in
@@ -118,8 +145,11 @@ module _ (setting : Setting) where
           let wide = function_layout.locals in
           let small = function_layout.small in
           let same = plan.same_locals in
-          funclet_placed t fs program p s.memory (get (context_of s.cpu)) (p.register c.frame.body)
-          (image.no_registers c.frame.body) y (p.layout (FunctionBody plan.funclet.function))
+          let spared : (i : ℕ) → IsReached p c.frame.body i → p.register c.frame.body i ≡ None =
+          subst (λ n. (i : ℕ) → IsReached p n i → p.register n i ≡ None) (sym name)
+          (λ i reached. reached) in
+          funclet_placed t fs program p s.memory now (p.register c.frame.body)
+          (IsReached p c.frame.body) spared y (p.layout (FunctionBody plan.funclet.function))
           code sp c.frame.activation k b.body.acts
           (context_below b.body.back (sp + y.frame + 8) b.body.others) b.body.is c.below
           (subst (λ n. IsFuncletLayout (p.layout n) (p.layout (FunctionBody plan.funclet.function))
@@ -130,12 +160,11 @@ module _ (setting : Setting) where
           (λ values e. let n = values_count values e in omega arith) (omega arith)
 
       by_name : (name : BodyName) → c.frame.body ≡ name
-          → HasActivation s.memory (get (context_of s.cpu)) (p.register c.frame.body)
+          → HasActivation s.memory now (p.register c.frame.body)
           (p.layout c.frame.body) sp
           (slots_end (p.layout c.frame.body) (p.leaf c.frame.body)) c.frame.activation b.body.acts
           name
-          → SlotsPlaced s.memory (p.layout c.frame.body) code.temporaries sp c.frame.activation
-          b.body.acts
+          → Placed
       by_name (FunctionBody f) name h = by_leaf f (p.leaf c.frame.body) name refl
           (subst (λ n. IsLaidOut program p n code) name
           (image.laid_out c.frame.body code b.body.slots.body)) h
@@ -143,38 +172,44 @@ module _ (setting : Setting) where
           let plan : IsFuncletPlan program p k code = subst (λ n. IsLaidOut program p n code) name
           (image.laid_out c.frame.body code b.body.slots.body) in
           by_funclet k name plan
-          (subst (λ l. HasActivation s.memory (get (context_of s.cpu)) (p.register c.frame.body)
+          (subst (λ l. HasActivation s.memory now (p.register c.frame.body)
           (p.layout c.frame.body) sp
           (slots_end (p.layout c.frame.body) l) c.frame.activation b.body.acts (FuncletBody k))
           (ap p.leaf name ∙ plan.framed) h)
 
-      pub placed : SlotsPlaced s.memory (p.layout c.frame.body) code.temporaries sp
+      pub locals_placed : Placed
+      locals_placed = by_name c.frame.body refl b.body.slots.activation
+
+      abbrev pub placed : SlotsPlaced s.memory (p.layout c.frame.body) code.temporaries sp
           c.frame.activation
           b.body.acts
-      placed = by_name c.frame.body refl b.body.slots.activation
+      placed = locals_placed.slots
 
       pub count : length placed.values ≡ code.locals
       count = values_count placed.values placed.number
 
-      pub room_here : Roomy (frame_at program p c.frame.body code sp placed.base)
+      pub room_here : Roomy (frame_at program p c.frame.body code sp placed.base arrived)
       room_here = room_of s.memory (p.layout c.frame.body) (counts_of code) sp c.frame.activation
           b.body.acts placed count
 
-      pub holds_here : FrameHolds (frame_at program p c.frame.body code sp placed.base)
+      pub holds_here : FrameHolds (frame_at program p c.frame.body code sp placed.base arrived)
           (local_registers s.cpu.registers) s.memory (state_of program p s c placed.base)
       holds_here = holds_of program.globals s.memory c.store.memory (p.layout c.frame.body)
-          (counts_of code) sp c.frame.activation b.body.acts (local_registers s.cpu.registers)
-          placed count (locals_small s.cpu.registers b.well_formed.count b.well_formed.small)
+          (counts_of code) sp c.frame.activation b.body.acts arrived
+          (local_registers s.cpu.registers) placed count
+          (arrived_small s.cpu b.well_formed.count b.well_formed.small)
+          (locals_small s.cpu.registers b.well_formed.count b.well_formed.small)
           b.memory.data_alone.bytes
           b.memory.stack b.memory.agrees
 
       pub slots_here : HasSlotsOf program p c code (state_of program p s c placed.base)
       slots_here = record {
-        locals = λ i lt. ap (number_placed (p.layout c.frame.body) placed.base
-            (local_registers s.cpu.registers) s.memory i) (image.in_frames c.frame.body i)
-            ∙ local_is s.memory (p.layout c.frame.body) code.temporaries sp i b.body.acts
-            c
-            b.body.store placed (let n = count in omega arith);
+        locals = λ i lt reached. number_of_place setting c.frame.body code b.body.slots.body s.cpu
+            s.memory placed.base i (local_of c.store c.frame.activation i) arrived (λ lt. refl)
+            reached
+            (local_is s.memory now (p.register c.frame.body)
+            (IsReached p c.frame.body) (p.layout c.frame.body) code.temporaries sp i b.body.acts c
+            b.body.store locals_placed (let n = count in omega arith) reached);
         temporaries = λ i v e. temporary_is s.memory (p.layout c.frame.body) sp _ i v
             c.frame.temporaries b.body.slots.temporaries e;
         source = refl;
@@ -187,7 +222,7 @@ module _ (setting : Setting) where
         pub name : c.frame.body ≡ FunctionBody number
         pub framed : p.leaf c.frame.body ≡ false
         pub layout : IsFunctionLayout (p.layout c.frame.body) code
-        pub activation : HasActivation s.memory (get (context_of s.cpu)) (p.register c.frame.body)
+        pub activation : HasActivation s.memory now (p.register c.frame.body)
             (p.layout c.frame.body) sp
             (p.layout c.frame.body).slots c.frame.activation b.body.acts (FunctionBody number)
 
@@ -196,7 +231,7 @@ module _ (setting : Setting) where
         pub name : c.frame.body ≡ FunctionBody number
         pub leaf : p.leaf c.frame.body ≡ true
         pub layout : IsLeafLayout (p.layout c.frame.body) code
-        pub activation : HasActivation s.memory (get (context_of s.cpu)) (p.register c.frame.body)
+        pub activation : HasActivation s.memory now (p.register c.frame.body)
             (p.layout c.frame.body) sp
             (p.layout c.frame.body).temporaries c.frame.activation b.body.acts (FunctionBody number)
 
@@ -207,13 +242,13 @@ module _ (setting : Setting) where
         pub plan : IsFuncletPlan program p number code
         pub layout : IsFuncletLayout (p.layout c.frame.body)
             (p.layout (FunctionBody plan.funclet.function)) code
-        pub activation : HasActivation s.memory (get (context_of s.cpu)) (p.register c.frame.body)
+        pub activation : HasActivation s.memory now (p.register c.frame.body)
             (p.layout c.frame.body) sp
             (p.layout c.frame.body).slots c.frame.activation b.body.acts (FuncletBody number)
 
       kind_by_leaf : (f : ℕ) (leaf : Bool) → c.frame.body ≡ FunctionBody f
           → p.leaf c.frame.body ≡ leaf → IsLaidOut program p (FunctionBody f) code
-          → HasActivation s.memory (get (context_of s.cpu)) (p.register c.frame.body)
+          → HasActivation s.memory now (p.register c.frame.body)
           (p.layout c.frame.body) sp
           (slots_end (p.layout c.frame.body) leaf)
           c.frame.activation b.body.acts (FunctionBody f)
@@ -236,7 +271,7 @@ module _ (setting : Setting) where
       })
 
       kind_by_name : (name : BodyName) → c.frame.body ≡ name
-          → HasActivation s.memory (get (context_of s.cpu)) (p.register c.frame.body)
+          → HasActivation s.memory now (p.register c.frame.body)
           (p.layout c.frame.body) sp
           (slots_end (p.layout c.frame.body) (p.leaf c.frame.body)) c.frame.activation b.body.acts
           name → AsFunction ⊎ (AsLeaf ⊎ AsFunclet)
@@ -254,7 +289,7 @@ module _ (setting : Setting) where
             plan = plan;
             layout = subst (λ n. IsFuncletLayout (p.layout n)
                 (p.layout (FunctionBody plan.funclet.function)) code) (sym name) plan.layout;
-            activation = subst (λ l. HasActivation s.memory (get (context_of s.cpu))
+            activation = subst (λ l. HasActivation s.memory now
                 (p.register c.frame.body) (p.layout c.frame.body) sp
                 (slots_end (p.layout c.frame.body) l) c.frame.activation b.body.acts
                 (FuncletBody k))

@@ -11,7 +11,7 @@ use Rattle.match_bodies.proofs.InstructionEffects.{others_of, Calls, jumps}
 use Rattle.match_bodies.proofs.SilentTurns.{program_kept}
 use Rattle.match_bodies.proofs.BodyFrames.{codes_above, owed_framed, owed_frame, slots_within}
 use Rattle.match_bodies.proofs.OwedCallers.{at_return}
-use Rattle.match_bodies.proofs.RoutineWalks.{read_here, effect_here, StepsTo, steps_split, keeps_split, Beneath, beneath_stays, callers_above, gives_above, AllPlain, Finds, Ran, ran}
+use Rattle.match_bodies.proofs.RoutineWalks.{read_here, effect_here, StepsTo, steps_split, keeps_split, Beneath, beneath_stays, callers_above, gives_above, AllPlain, plain_steady, Finds, Ran, ran}
 use Rattle.match_bodies.proofs.ShadowTurns.{called, owed_called, call_keeps_shadow, beneath_callee}
 use Rattle.match_bodies.proofs.ReturnAddresses.{resumed_found, within_found, template_there}
 use Rattle.match_bodies.specs.Setting.{HasProgram}
@@ -80,16 +80,17 @@ module _ (setting : Setting) where
           (subst (HasCode m (p.address name label)) parts
           (template_there setting name b is m h label i at))
 
-      first : Ran t fs program p q owed top (top + 8) back others list s u before
+      first : Ran t fs program p q owed top (top + 8) back others list slots frame 8 s u before
       first = ran t fs program p q owed top (top + 8) back others list before s u slots frame 8
           halves.1
-          plain (subst (λ a. HasCode s.memory a before) (sym here) (codes s.memory has).0) has
+          (plain_steady owed slots frame 8 before plain)
+          (subst (λ a. HasCode s.memory a before) (sym here) (codes s.memory has).0) has
           beneath below refl (slots_within setting name b is) (codes_above setting name b is sp)
           finds
 
       -- its nonvolatile registers are those of the body
       others_same : others_of u.cpu.registers ≡ others_here
-      others_same = first.keeps_others
+      others_same = first.keeps_others plain
 
       -- the call
       abbrev calling : StepsTo 1 u w

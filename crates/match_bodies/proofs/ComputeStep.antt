@@ -1,20 +1,21 @@
 -- The step of an operation that doesn't fault, and of a landing.
-use Rattle.std.proofs.Common.{◌≡◌, ℕ, zero, ◌+◌, ◌≤◌, Bool, true, false, Option, Some, None, List, [], ◌∷◌, ◌++◌, length, take, refl, sym, ap, subst, ◌∙◌, arith, length-append, length-take-le}
+use Rattle.std.proofs.Common.{◌≡◌, ℕ, zero, ◌+◌, ◌≤◌, Bool, true, false, Some, None, List, [], ◌∷◌, ◌++◌, length, take, refl, sym, ap, subst, ◌∙◌, arith, length-append, length-take-le}
 use Rattle.std.specs.Prelude.{nat_le, slice_get, slice_set, if◌then◌else◌}
 use Rattle.std.proofs.lemmas.Bool.{leb-true, le-leb}
-use Rattle.match_bodies.specs.Words.{Memory, State, Operation, Gives, performed, is_reserved, Slot, Local, Temporary, BodyState, with_slot, IsSlot, LinearBody, Configuration, Next, read, with_temporaries, forth, with_some, is_constant, operand, written, act, exec, sizes, Reg, Rax, Rcx, Layout, before, local_at, fetch_local, fetch, finish_code, compute_code, template_size, HasRule, Moves, HaveRoom, turns_left, counts_of, Setting, RepresentsAt, OperationResult, kept, computed, Computed, Place, InRegister, InFrame, place_of, fetch_placed}
+use Rattle.match_bodies.specs.Words.{Memory, State, Operation, Gives, performed, is_reserved, Slot, Local, Temporary, BodyState, with_slot, IsSlot, LinearBody, Configuration, Next, read, with_temporaries, forth, with_some, is_constant, operand, written, act, exec, sizes, Layout, operands_code, finish_code, compute_code, template_size, HasRule, Moves, HaveRoom, turns_left, counts_of, Setting, RepresentsAt, OperationResult, kept, computed, Computed, IsReached, LeavesRegisters}
 use Rattle.c_operations.specs.declared.operation.Operation.TheVariants as operations
 use Rattle.c_operations.specs.declared.operation.Pure.TheVariants.{Constant}
 use Rattle.linear_code.specs.declared.instruction.Instruction.TheVariants as instructions
 use Rattle.linear_machine.specs.Frames as linear
 use Rattle.match_bodies.proofs.Lemmas.{compute_length, compute_run}
 use Rattle.lowering_invariants.specs.Ready as ready
+use Rattle.lowering_invariants.specs.Registers.{SlotHas}
 use Rattle.match_bodies.proofs.BodyViews.{IsCounted, count, room_here, holds_here, slots_here, locals_here}
 use Rattle.match_bodies.proofs.TemplateSlots.{Leaves}
-use Rattle.match_bodies.proofs.TemplateRuns.{code, frame, slots, v, sp_is, has_slots, template_here, next_address, Surroundings}
-use Rattle.match_bodies.proofs.SlotWrites.{locals_after, temporaries_after, FitsAfter, local_after, temporary_after, locals_count_after, one_more}
-use Rattle.match_bodies.proofs.TemplateKeeping.{compute_keeps}
-use Rattle.match_bodies.proofs.PlainSteps.{at_other, same_store, GoesInside, from_here, label_small, is_read, moves_to}
+use Rattle.match_bodies.proofs.TemplateRuns.{code, frame, slots, v, sp_is, are_here, keeps_here, template_spared, has_slots, template_here, next_address, Surroundings}
+use Rattle.match_bodies.proofs.SlotWrites.{locals_after, temporaries_after, FitsAfter, local_after, temporary_after, locals_count_after, HasNoRegister, others_after, one_more}
+use Rattle.match_bodies.proofs.TemplateKeeping.{finish_some, compute_keeps}
+use Rattle.match_bodies.proofs.PlainSteps.{at_other, values_here, same_store, GoesInside, from_here, label_small, reached_here, is_read, moves_to}
 
 -- the size of its template, and that it isn't empty
 compute_size : (y : Layout) (to : Slot) (o : Operation) (first second : Slot)
@@ -23,28 +24,11 @@ compute_size : (y : Layout) (to : Slot) (o : Operation) (first second : Slot)
 unfolding template_size
 compute_size y to o first second = refl
 
-some_fetch : (y : Layout) (r : Reg) (slot : Slot) → 1 ≤ length (fetch y r slot)
-some_fetch y r (Temporary i) = omega arith
-some_fetch y r (Local i) = placed (place_of y i)
-  where
-    by : (o : Option ℕ) → 1 ≤ length (fetch_local o r (local_at y i))
-    by None = omega arith
-    by (Some k) = omega arith
-
-    placed : (q : Place) → 1 ≤ length (fetch_placed y r i q)
-    placed (InRegister s) = omega arith
-    placed InFrame = by y.base
-
 some_code : (y : Layout) (to : Slot) (o : Operation) (first second : Slot)
     → 1 ≤ length (compute_code y to o first second)
 some_code y to o first second =
-    let f = some_fetch y Rax first in
-    omega (
-      arith,
-      length-append (fetch y Rax first ++ (fetch y Rcx second ++ before o))
-          (finish_code y o to),
-      length-append (fetch y Rax first) (fetch y Rcx second ++ before o),
-    )
+    let f = finish_some y o to in
+    omega (arith, length-append (operands_code y o first second) (finish_code y o to))
 
 -- a temporary is the last one after it is written
 exactly : (ts : List ℕ) (i value : ℕ) → i ≤ length ts → length (take i ts ++ value ∷ []) ≡ i + 1
@@ -80,19 +64,20 @@ module _ (setting : Setting) (roomy : HaveRoom setting.program) (s : State)
       → is_constant o ≡ constant → IsSlot (counts_of body) first → IsSlot (counts_of body) second
       → ready.IsRead constant (length c.frame.temporaries) first
       → ready.IsRead constant (length c.frame.temporaries) second
+      → SlotHas (IsReached p c.frame.body) first → SlotHas (IsReached p c.frame.body) second
       → (next : Next) → act program (instructions.Compute to o first second) next c
       ≡ computed program next to c (outcome_here o first second)
   unfolding with_some
-  operands_read to o first second true e f g hf hg next =
+  operands_read to o first second true e f g hf hg rf rg next =
       ap (λ z. with_some c.events (operand z c first)
       (λ a. with_some c.events (operand z c second)
       (λ b. computed program next to c (performed (is_reserved program.globals) o a b
       c.store.memory)))) e
       ∙ ap (computed program next to c) (same_constant (is_reserved program.globals) o 0 0
       (now.slots first) (now.slots second) c.store.memory e)
-  operands_read to o first second false e f g hf hg next =
-      let x = is_read setting roomy s c b counted around first f hf in
-      let y = is_read setting roomy s c b counted around second g hg in
+  operands_read to o first second false e f g hf hg rf rg next =
+      let x = is_read setting roomy s c b counted around first f hf rf in
+      let y = is_read setting roomy s c b counted around second g hg rg in
       ap (λ z. with_some c.events (operand z c first)
       (λ a. with_some c.events (operand z c second)
       (λ b. computed program next to c (performed (is_reserved program.globals) o a b
@@ -120,22 +105,29 @@ module _ (setting : Setting) (roomy : HaveRoom setting.program) (s : State)
   written_fits (Temporary i) held fits there value = let n = exactly c.frame.temporaries i value
       fits in omega arith
 
-  -- the slots after a store
+  -- the slots after a store into a slot that the body reaches
   pub leaves_stored : (to : Slot) (value : ℕ) (m : Memory)
       → length c.frame.temporaries ≤ body.temporaries → FitsAfter c.frame.temporaries to
-      → IsSlot (counts_of body) to
-      → Leaves body (record { slots = with_slot now.slots to value; memory = m })
+      → IsSlot (counts_of body) to → SlotHas (IsReached p c.frame.body) to
+      → Leaves p c.frame.body body (record { slots = with_slot now.slots to value; memory = m })
+      (values_here setting roomy s c b counted around)
       (locals_after (linear.locals_of c.store c.frame.activation) to value)
       (temporaries_after c.frame.temporaries to value)
-  leaves_stored to value m held fits there =
+  leaves_stored to value m held fits there reached =
       let all = slots_here setting s c b counted in
+      let here = locals_here setting s c b counted in
       let n : length (linear.locals_of c.store c.frame.activation)
-      ≡ body.locals = ap length (locals_here setting s c b counted)
-      ∙ count setting s c b counted in
+      ≡ body.locals = ap length here ∙ count setting s c b counted in
       record {
         count = locals_count_after (linear.locals_of c.store c.frame.activation) to value ∙ n;
-        locals = λ i lt. local_after now.slots (linear.locals_of c.store c.frame.activation) to
-            value i (omega arith) (all.locals i lt);
+        locals = λ i lt known. local_after now.slots (linear.locals_of c.store c.frame.activation)
+            to value i (omega arith) (all.locals i lt known);
+        others = λ k name. subst (λ vs. LeavesRegisters (p.register c.frame.body) 0 vs
+            (locals_after (linear.locals_of c.store c.frame.activation) to value)) here
+            (others_after (p.register c.frame.body)
+            (linear.locals_of c.store c.frame.activation) to value
+            (subst (λ n. SlotHas (IsReached p n) to → SlotHas (HasNoRegister (p.register n)) to)
+            (sym name) (λ h. h) reached));
         few = written_fits to held fits there value;
         temporaries = λ i w e. temporary_after now.slots c.frame.temporaries to value i w fits
             all.temporaries e;
@@ -196,7 +188,10 @@ module _ (setting : Setting) (roomy : HaveRoom setting.program) (s : State)
   compute_step to o first second value m free e held hf hg rule inside gives =
       let there = has_slots setting roomy s c b counted
       (instructions.Compute to o first second) e in
-      let reads = operands_read to o first second (is_constant o) refl there.1 there.2 hf hg in
+      let reached = reached_here setting roomy s c b counted around
+      (instructions.Compute to o first second) e in
+      let reads = operands_read to o first second (is_constant o) refl there.1 there.2 hf hg
+      reached.1 reached.2 in
       let fits = fits_when_read to value m (subst HasRule
       (reads (exec program zero) ∙ ap (computed program (exec program zero) to c) gives) rule) in
       let acts : (next : Next) → act program (instructions.Compute to o first second) next c
@@ -214,7 +209,10 @@ module _ (setting : Setting) (roomy : HaveRoom setting.program) (s : State)
       (v setting roomy s c b counted) s.cpu.rip s.cpu.flags now (kept to now.slots x)) gives
       (compute_run (frame setting roomy s c b counted) to o first second
       (v setting roomy s c b counted) s.cpu.rip s.cpu.flags now (room_here setting s c b counted)
-      there.0 there.1 there.2 (sp_is setting roomy s c b counted) (holds_here setting s c b counted)
+      there.0 there.1 there.2
+      (keeps_here setting roomy s c b counted (instructions.Compute to o first second) e)
+      (are_here setting roomy s c b counted) (sp_is setting roomy s c b counted)
+      (holds_here setting s c b counted)
       (template_here setting roomy s c b counted (instructions.Compute to o first second) e)) in
       let y = p.layout c.frame.body in
       let len = compute_length y to o first second in
@@ -230,6 +228,8 @@ module _ (setting : Setting) (roomy : HaveRoom setting.program) (s : State)
       (record { slots = with_slot now.slots to value; memory = m }) run)
       (let z = compute_size y to o first second in omega arith) lt
       (let z = compute_size y to o first second in omega arith)
-      (leaves_stored to value m held fits there.0) free
-      (compute_keeps setting roomy s c b counted around to o first second e value m gives) acts
+      (leaves_stored to value m held fits there.0 reached.0) free
+      (compute_keeps setting roomy s c b counted around to o first second e value m gives)
+      (template_spared setting roomy s c b counted (instructions.Compute to o first second) e
+      (λ h. h)) acts
       (some_code y to o first second) (omega arith)

@@ -2,11 +2,15 @@
 -- stored.
 use Rattle.std.proofs.Common.{◌≡◌, ℕ, zero, suc, ◌+◌, ◌*◌, ◌^◌, ◌<◌, ◌≤◌, Bool, true, false, Option, Some, None, List, [], ◌∷◌, ◌++◌, length, refl, sym, ap, subst, ◌∙◌, arith, inl, inr, append_assoc}
 use Rattle.std.specs.Prelude.{◌⊎◌, nat_lt, if◌then◌else◌}
-use Rattle.match_bodies.specs.Words.{Reg, Rax, Rsp, Instr, State, register, AllSmall, Functions, Funclet, LinearProgram, LinearBody, BodyName, body_of, Layout, sizes, fetched, local_at, keep_register, HasCode, StackItem, ImagePlan, AllKeep, Sites, begin_of, making_size, HasProgram, IsProgramImage, FindsOwed, nothing_owed, owed_of, LARGEST_FRAME, setting_of, Rdx, temporary_at, parameter_register, stack_parameter, parameter_code, parameters_code, passing_code, place_of, InFrame, parameter_placed}
+use Rattle.match_bodies.specs.Words.{Reg, Rax, Rsp, Instr, State, register, AllSmall, Functions, Funclet, LinearProgram, LinearBody, BodyName, body_of, Layout, sizes, fetched, local_at, keep_register, HasCode, StackItem, ImagePlan, AllKeep, Sites, begin_of, making_size, HasProgram, IsProgramImage, FindsOwed, nothing_owed, owed_of, LARGEST_FRAME, setting_of, Rdx, temporary_at, parameter_register, stack_parameter, parameter_code, parameters_code, passing_code, place_of, Place, InRegister, InFrame, Arriving, parameter_placed, W64, Owed}
 use Rattle.template_code.specs.Calls.{arguments_code}
+use Rattle.template_code.specs.Operations.{move}
+use Rattle.x64_instr.specs.declared.operand.Operand.TheVariants as operands
 use Rattle.match_bodies.proofs.Lemmas.{code_split, near}
 use Rattle.match_bodies.specs.CodeSites as sites
-use Rattle.match_bodies.proofs.RoutineWalks.{StepsTo, steps_split, keeps_split, Beneath, IsPlain, AllPlain, Finds, ran}
+use Rattle.match_bodies.proofs.RoutineWalks.{StepsTo, steps_split, keeps_split, Beneath, IsPlain, AllPlain, AllSteady, plain_steady, Finds, ran}
+use Rattle.match_bodies.proofs.InstructionEffects.{above_rsp}
+use Rattle.match_bodies.proofs.OwedCallers.{IsOwn}
 use Rattle.match_bodies.proofs.ReturnAddresses.{argument_found}
 use Rattle.match_bodies.proofs.BodyFrames.{codes_above, slots_within}
 use Rattle.match_bodies.proofs.PlannedPrologues.{frame_there}
@@ -58,35 +62,82 @@ passing_plain d whole e y first i (suc n) lt le small = (
   ),
 )
 
--- parameters
-parameter_plain : (d whole e : ℕ) (y : Layout) (i : ℕ) (few : Bool) → local_at y i < 2 ^ 31
+pub steady_both : (o : Owed) (d whole e : ℕ) (a b : List Instr) → AllSteady o d whole e a
+    → AllSteady o d whole e b → AllSteady o d whole e (a ++ b)
+steady_both o d whole e [] b p q = q
+steady_both o d whole e (i ∷ a) b p q = (p.0, steady_both o d whole e a b p.1 q)
+
+-- a parameter that goes to the frame
+framed_plain : (d whole e : ℕ) (y : Layout) (i : ℕ) (few : Bool) → local_at y i < 2 ^ 31
     → stack_parameter y i < 2 ^ 31 → (local_at y i + 8 ≤ d)
     ⊎ ((whole + 8 ≤ local_at y i) × (local_at y i + 8 ≤ whole + e))
     → AllPlain d whole e (if few then keep_register (parameter_register i) (local_at y i)
     ∷ [] else fetched Rax Rsp (stack_parameter y i) ∷ keep_register Rax (local_at y i) ∷ [])
-parameter_plain d whole e y i true lt lt' inside = (
+framed_plain d whole e y i true lt lt' inside = (
   kept_plain d whole e (parameter_register i) (local_at y i)
       lt inside,
   tt,
 )
-parameter_plain d whole e y i false lt lt' inside = (
+framed_plain d whole e y i false lt lt' inside = (
   fetched_plain d whole e Rsp (stack_parameter y i) lt',
   (kept_plain d whole e Rax (local_at y i) lt inside, tt),
 )
 
-pub parameters_plain : (d whole e : ℕ) (y : Layout) (i n : ℕ)
-    → ((j : ℕ) → place_of y j ≡ InFrame) → local_at y (i + n) < 2 ^ 31
+-- one that goes to a register
+register_steady : (o : Owed) (d whole e : ℕ) (y : Layout) (i : ℕ) (r : Reg) (few : Bool)
+    → stack_parameter y i < 2 ^ 31 → IsOwn o r
+    → AllSteady o d whole e (if few then move W64 r (parameter_register i) ∷ []
+    else fetched r Rsp (stack_parameter y i) ∷ [])
+register_steady o d whole e y i r true lt own = (
+  (
+    refl,
+    inr (record {
+      filled = r;
+      from = operands.Register (parameter_register i);
+      is = refl;
+      own = own;
+    }),
+  ),
+  tt,
+)
+register_steady o d whole e y i r false lt own = (
+  (
+    near (stack_parameter y i) lt,
+    inr (record {
+      filled = r;
+      from = operands.Memory (above_rsp (stack_parameter y i));
+      is = refl;
+      own = own;
+    }),
+  ),
+  tt,
+)
+
+parameter_steady : (o : Owed) (d whole e : ℕ) (y : Layout) (i : ℕ) (place : Place)
+    → ((r : Reg) → place ≡ InRegister r → IsOwn o r) → local_at y i < 2 ^ 31
+    → stack_parameter y i < 2 ^ 31 → (local_at y i + 8 ≤ d)
+    ⊎ ((whole + 8 ≤ local_at y i) × (local_at y i + 8 ≤ whole + e))
+    → AllSteady o d whole e (parameter_placed y i place)
+parameter_steady o d whole e y i (InRegister r) own lt lt' inside =
+    register_steady o d whole e y i r (nat_lt i 4) lt' (own r refl)
+parameter_steady o d whole e y i InFrame own lt lt' inside =
+    plain_steady o d whole e (parameter_placed y i InFrame)
+    (framed_plain d whole e y i (nat_lt i 4) lt lt' inside)
+parameter_steady o d whole e y i Arriving own lt lt' inside = tt
+
+-- parameters, where the codes save the registers to which some of them go
+pub parameters_steady : (o : Owed) (d whole e : ℕ) (y : Layout) (i n : ℕ)
+    → ((j : ℕ) (r : Reg) → place_of y j ≡ InRegister r → IsOwn o r) → local_at y (i + n) < 2 ^ 31
     → stack_parameter y (i + n) < 2 ^ 31
     → ((j : ℕ) → j < i + n → (local_at y j + 8 ≤ d)
     ⊎ ((whole + 8 ≤ local_at y j) × (local_at y j + 8 ≤ whole + e)))
-    → AllPlain d whole e (parameters_code y i n)
-parameters_plain d whole e y i zero framed lt lt' inside = tt
-parameters_plain d whole e y i (suc n) framed lt lt' inside =
-    plain_both d whole e (parameter_code y i) (parameters_code y (i + 1) n)
-    (subst (λ k. AllPlain d whole e (parameter_placed y i k)) (sym (framed i))
-    (parameter_plain d whole e y i (nat_lt i 4) (omega arith) (omega arith)
-    (inside i (omega arith))))
-    (parameters_plain d whole e y (i + 1) n framed (omega arith) (omega arith)
+    → AllSteady o d whole e (parameters_code y i n)
+parameters_steady o d whole e y i zero own lt lt' inside = tt
+parameters_steady o d whole e y i (suc n) own lt lt' inside =
+    steady_both o d whole e (parameter_code y i) (parameters_code y (i + 1) n)
+    (parameter_steady o d whole e y i (place_of y i) (own i) (omega arith) (omega arith)
+    (inside i (omega arith)))
+    (parameters_steady o d whole e y (i + 1) n own (omega arith) (omega arith)
     (λ j l. inside j (omega arith)))
 
 -- where a funclet keeps its base
@@ -126,8 +177,8 @@ module _ (t : Functions) (fs : List Funclet) (program : LinearProgram) (p : Imag
         → Beneath t e nothing_owed top from back others list → AllSmall others
         → HasProgram t fs program p q e.memory → frame + 8 ≤ LARGEST_FRAME → LARGEST_FRAME ≤ top
         → from ≡ top + extra
-        → AllPlain slots frame extra a → EntryRan n e w a
-    entry_ran n e w a c extra parts count run here at_top beneath small has most low up plain =
+        → AllSteady (owed_of p name) slots frame extra a → EntryRan n e w a
+    entry_ran n e w a c extra parts count run here at_top beneath small has most low up steady =
         let making = making_steps (p.leaf name) (sites.body_plan p q name) in
         let h = steps_split making (length a) e w (subst (λ k. StepsTo k e w) count run) in
         let u = h.0 in
@@ -142,7 +193,7 @@ module _ (t : Functions) (fs : List Funclet) (program : LinearProgram) (p : Imag
         (argument_found (setting_of t fs program p q image) name b is mem k some done (left ++ c)
         (parts ∙ ap (λ (xs : List Instr). xs ++ c) split ∙ append_assoc done left c)) in
         let r = ran t fs program p q (owed_of p name) top from back others list a u w slots frame
-        extra h.2 plain (subst (λ x. HasCode u.memory x a) (sym m.rip) code.0) m.has m.beneath
+        extra h.2 steady (subst (λ x. HasCode u.memory x a) (sym m.rip) code.0) m.has m.beneath
         m.stack up (slots_within (setting_of t fs program p q image) name b is)
         (codes_above (setting_of t fs program p q image) name b is (register u.cpu Rsp)) finds in
         record {

@@ -7,6 +7,7 @@ use Rattle.x64_templates.specs.Keeping.{is_call}
 use Rattle.x64_templates.specs.Chains.{AllTurns, IsInside, IsTurnOf}
 use Rattle.match_bodies.proofs.Lemmas.{Encodable, all_turns, HeadAbove, straight}
 use Rattle.match_runs.specs.Shadow as shadows
+use Rattle.match_bodies.proofs.OwedCallers.{owed_both}
 use Rattle.match_bodies.proofs.BodyCallers.{gives_caller}
 
 no_call : (i : Instr) → is_call i ≡ false → shadows.calls i ≡ false
@@ -34,6 +35,19 @@ module _ (t : Functions) (fs : List Funclet) (program : LinearProgram) (p : Imag
     pub program_there : HasProgram t fs program p q m
     pub owed : (rip : ℕ) → IsOwed m (record { rip = rip; kept = kept }) o size back others
     pub beyond : GivesCallers t m (state (caller_by kept size back others) 0) cs
+
+  -- with the words of another memory, where RSP is the same
+  pub below_both : (m m' : Memory) (kept kept' : List ℕ) (size back : ℕ) (others : List ℕ)
+      (cs : List Context) → get_or kept' 0 0 ≡ get_or kept 0 0
+      → IsBelow m kept size back others cs → IsBelow m' kept' size back others cs
+      → IsBelow m' kept size back others cs
+  below_both m m' kept kept' size back others cs same h h' = record {
+    program_there = h'.program_there;
+    owed = λ rip. owed_both m m' (record { rip = rip; kept = kept })
+        (record { rip = rip; kept = kept' }) o size back others same (h.owed rip) (h'.owed rip);
+    beyond = subst (λ n. let x : Context = record { rip = back; kept = (n + size + 8) ∷ others } in
+        GivesCallers t m' (state x 0) cs) same h'.beyond;
+  }
 
   -- the walk from a state gives the caller and what lies beyond
   pub from_state : (u : State) (kept : List ℕ) (size back : ℕ) (others : List ℕ)

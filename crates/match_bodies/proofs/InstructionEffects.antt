@@ -8,6 +8,7 @@ use Rattle.x64_instr.specs.declared.register.Reg.TheVariants as regs
 use Rattle.x64_instr.specs.declared.operand.Base.TheVariants as bases
 use Rattle.x64_instr.specs.declared.operand.MemRef.{MemRef}
 use Rattle.x64_instr.specs.declared.operand.RegisterOrMemory.TheVariants as places
+use Rattle.x64_instr.specs.declared.operand.Operand.{Operand}
 use Rattle.x64_instr.specs.declared.operand.Operand.TheVariants as operands
 use Rattle.x64_instr.specs.declared.instruction.Operation.TheVariants as operations
 use Rattle.x64_instr.specs.declared.instruction.Target.{Target}
@@ -144,6 +145,26 @@ idle_leaves s t (instrs.Arithmetic operations.Sub w to from) q e =
     (computed o w d.value b.value).0 q d.then in
     record { memory = r.memory; rip = r.rip; stack = r.stack; others = r.others }
 idle_leaves s t i q e = absurd cc
+
+-- ---- a move to a register
+
+-- it changes that register alone
+pub record Fills (s t : State) (r : Reg) : Type 0 where
+  pub memory : t.memory ≡ s.memory
+  pub rip : t.cpu.rip ≡ s.cpu.rip
+  pub beside : (k : ℕ) → k ≢ number r
+      → slice_index t.cpu.registers k ≡ slice_index s.cpu.registers k
+
+pub fills : (s t : State) (r : Reg) (from : Operand)
+    → effect s (instrs.Move W64 (places.Register r) from) ≡ Ok t → Fills s t r
+fills s t r from e =
+    let b = bound (operand s W64 from) (write s W64 (places.Register r)) t e in
+    subst (λ u. Fills s u r) (the_same b.then)
+    (record {
+      memory = refl;
+      rip = refl;
+      beside = λ k ne. get_or-set_other s.cpu.registers (number r) k _ 0 ne;
+    })
 
 -- ---- a register is stored above RSP
 

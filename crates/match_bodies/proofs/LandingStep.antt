@@ -2,16 +2,16 @@
 use Rattle.std.proofs.Common.{◌≡◌, ℕ, ◌+◌, ◌^◌, ◌<◌, ◌≤◌, Option, Some, None, [], ◌∷◌, ◌++◌, length, take, refl, sym, ap, subst, ◌∙◌, arith}
 use Rattle.std.specs.Prelude.{slice_get, slice_set, if◌then◌else◌}
 use Rattle.std.proofs.lemmas.Bool.{le-leb}
-use Rattle.match_bodies.specs.Words.{Rax, State, register, Slot, Local, Temporary, BodyState, with_slot, LinearBody, Configuration, Next, with_temporaries, forth, with_some, written, act, Layout, sizes, local_at, keep_local, keep, template_size, machine, ReachesBody, Moves, HaveRoom, turns_left, Setting, RepresentsAt, not_landed, IsNextSlot, Place, InRegister, InFrame, place_of, keep_placed}
+use Rattle.match_bodies.specs.Words.{Rax, State, register, Slot, Local, Temporary, BodyState, with_slot, LinearBody, Configuration, Next, with_temporaries, forth, with_some, written, act, Layout, sizes, local_at, keep_local, keep, template_size, machine, ReachesBody, Moves, HaveRoom, turns_left, Setting, RepresentsAt, not_landed, IsNextSlot, Place, InRegister, InFrame, Arriving, place_of, keep_placed}
 use Rattle.linear_code.specs.declared.instruction.Instruction.TheVariants as instructions
 use Rattle.linear_machine.specs.Frames as linear
 use Rattle.match_bodies.proofs.Lemmas.{keep_length}
 use Rattle.x64_templates.proofs.Returns.{call_ends}
 use Rattle.match_bodies.proofs.BodyViews.{IsCounted, room_here, holds_here, locals_here}
-use Rattle.match_bodies.proofs.TemplateRuns.{code, frame, slots, v, sp_is, has_slots, template_here, next_address, Surroundings}
+use Rattle.match_bodies.proofs.TemplateRuns.{code, frame, slots, v, sp_is, keeps_here, template_spared, has_slots, template_here, next_address, Surroundings}
 use Rattle.match_bodies.proofs.SlotWrites.{locals_after, temporaries_after, FitsAfter, one_more}
 use Rattle.match_bodies.proofs.TemplateKeeping.{landing_keeps}
-use Rattle.match_bodies.proofs.PlainSteps.{at_other, same_store, GoesInside, from_here, label_small, moves_to}
+use Rattle.match_bodies.proofs.PlainSteps.{at_other, same_store, GoesInside, from_here, label_small, reached_here, moves_to}
 use Rattle.match_bodies.proofs.ComputeStep.{leaves_stored}
 
 landing_size : (y : Layout) (to : Slot) → template_size y (instructions.Landing to)
@@ -30,6 +30,7 @@ some_keep y (Local i) = placed (place_of y i)
     placed : (q : Place) → 1 ≤ length (keep_placed y i q)
     placed (InRegister s) = omega arith
     placed InFrame = by y.base
+    placed Arriving = omega arith
 
 module _ (setting : Setting) (roomy : HaveRoom setting.program) (s : State)
     (c : Configuration) (b : RepresentsAt setting s c) (counted : IsCounted setting c)
@@ -92,6 +93,7 @@ module _ (setting : Setting) (roomy : HaveRoom setting.program) (s : State)
   landing_step to value landed small e held next inside =
       let there = has_slots setting roomy s c b counted (instructions.Landing to)
       e in
+      let reached = reached_here setting roomy s c b counted around (instructions.Landing to) e in
       let fits = fits_next to next in
       let acts = lands to value landed fits in
       let lt = inside (taken_over to value) acts body b.body.slots.body in
@@ -103,7 +105,8 @@ module _ (setting : Setting) (roomy : HaveRoom setting.program) (s : State)
       let rax : register s.cpu Rax ≡ value = b.landed value landed in
       let run = call_ends (frame setting roomy s c b counted) to
       (v setting roomy s c b counted) s.cpu.rip s.cpu.flags now (room_here setting s c b counted)
-      there (omega arith) (sp_is setting roomy s c b counted) (holds_here setting s c b counted)
+      there (keeps_here setting roomy s c b counted (instructions.Landing to) e) (omega arith)
+      (sp_is setting roomy s c b counted) (holds_here setting s c b counted)
       (template_here setting roomy s c b counted (instructions.Landing to) e) in
       let len = keep_length y to in
       let more = one_more c.frame.temporaries to value fits in
@@ -122,5 +125,6 @@ module _ (setting : Setting) (roomy : HaveRoom setting.program) (s : State)
       (v setting roomy s c b counted).locals
       (record { slots = with_slot now.slots to x; memory = c.store.memory })) rax run))
       (omega arith) lt (omega arith) (leaves_stored setting roomy s c b counted around to value
-      c.store.memory held fits there) refl (landing_keeps setting roomy s c b counted to e) acts
-      (some_keep y to) (omega arith)
+      c.store.memory held fits there reached) refl (landing_keeps setting roomy s c b counted to e)
+      (template_spared setting roomy s c b counted (instructions.Landing to) e (λ h. h))
+      acts (some_keep y to) (omega arith)

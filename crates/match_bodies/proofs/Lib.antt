@@ -8,6 +8,7 @@ pub mod SilentTurns
 pub mod RoutineWalks
 pub mod ShadowTurns
 pub mod StackTop
+pub mod LocalRegisters
 pub mod OwedCallers
 pub mod BodyFrames
 pub mod BodyResumption
@@ -30,7 +31,11 @@ pub mod ActivationPlaces
 pub mod ActivationKeeping
 pub mod LocalStores
 pub mod FramePlaces
+pub mod LeafRegisters
+pub mod ArrivedParameters
 pub mod StackWords
+pub mod LocalPlaces
+pub mod ReachedSlots
 pub mod SlotPlaces
 pub mod BodyViews
 pub mod ProgramKeeping
@@ -40,6 +45,7 @@ pub mod TemplateChanges
 pub mod ArgumentSpace
 pub mod HomeSpace
 pub mod TemplateSlots
+pub mod NextSlots
 pub mod NextInstruction
 pub mod TemplateShadows
 pub mod ActivationStores

@@ -6,7 +6,7 @@ use Rattle.seh_walk.specs.Walk.{filter_return, finally_return}
 use Rattle.match_bodies.proofs.Lemmas.{set_head, rises, places_fit, in_stack, ReadsSame, higher, words_kept, frame_kept, leaf_kept, own_kept, frame_above, frame_is_at, leaf_is_at, record_is_at, list_kept, reads_other}
 use Rattle.match_bodies.proofs.ActivationPlaces.{are_there, locals_count, got_before, got_last}
 use Rattle.match_bodies.proofs.FramePlaces.{in_places, as_many}
-use Rattle.match_bodies.proofs.ActivationKeeping.{same_space, with_count, is_lower, still_is, first_changes, later_changes}
+use Rattle.match_bodies.proofs.ActivationKeeping.{same_space, with_count, is_lower, still_is, first_changes, later_changes, resumes_kept}
 
 module _ (m m' : Memory) (t : Functions) (fs : List Funclet) (program : LinearProgram)
     (p : ImagePlan) (k base distance : ℕ) (register : ℕ → Option ℕ) (values : List ℕ) where
@@ -79,17 +79,17 @@ module _ (m m' : Memory) (t : Functions) (fs : List Funclet) (program : LinearPr
       (later_changes a outer k values (is_lower outer k base distance register i))
   below_passed acts (FuncletBody j) i = refl
 
-  body_passed : (c : Context) (size end : ℕ) (b : Frame) (acts : List Activation)
-      → passes acts b.body → BodyWaits t fs program p m' c size end b acts
-      → BodyWaits t fs program p m' c size end b (with_values acts k values)
-  body_passed c size end b acts i h = record {
+  body_passed : (c : Context) (now : ℕ → ℕ) (size end : ℕ) (b : Frame) (acts : List Activation)
+      → passes acts b.body → BodyWaits t fs program p m' c now size end b acts
+      → BodyWaits t fs program p m' c now size end b (with_values acts k values)
+  body_passed c now size end b acts i h = record {
     code = h.code;
     body = h.body;
     label = h.label;
     instruction = h.instruction;
     same = h.same;
     small = h.small;
-    activation = activation_passed (get c) (p.register b.body) (p.layout b.body)
+    activation = activation_passed now (p.register b.body) (p.layout b.body)
         (rsp c) size b.activation acts b.body i h.activation;
     temporaries = h.temporaries;
     space = same_space acts k values (rsp c) below_end b.held h.space;
@@ -103,8 +103,8 @@ module _ (m m' : Memory) (t : Functions) (fs : List Funclet) (program : LinearPr
     entry = h.entry;
     slots = h.slots;
     small = h.small;
-    waits = body_passed c f.slots (temporaries_end (p.layout b.body) b.body f.slots) b acts i
-        h.waits;
+    waits = body_passed c (get c) f.slots (temporaries_end (p.layout b.body) b.body f.slots) b acts
+        i h.waits;
     pointers = h.pointers;
     returns = h.returns;
   }
@@ -116,7 +116,8 @@ module _ (m m' : Memory) (t : Functions) (fs : List Funclet) (program : LinearPr
     leaf = h.leaf;
     home = h.home;
     none = h.none;
-    waits = body_passed c (p.layout b.body).temporaries home_end b acts i h.waits;
+    now = h.now;
+    waits = body_passed c h.now (p.layout b.body).temporaries home_end b acts i h.waits;
     returns = h.returns;
   }
 
@@ -169,8 +170,8 @@ module _ (m m' : Memory) (t : Functions) (fs : List Funclet) (program : LinearPr
       → HoldsLocals m (get c) (p.register b.body) (p.layout b.body) (rsp c) size b.activation a
       outer
       → HoldsWords m' (rsp c + (p.layout b.body).temporaries) (rsp c + end) b.temporaries
-      → BodyWaits t fs program p m c size end b (a ∷ outer)
-      → BodyWaits t fs program p m' c size end b (record a { values = values } ∷ outer)
+      → BodyWaits t fs program p m c (get c) size end b (a ∷ outer)
+      → BodyWaits t fs program p m' c (get c) size end b (record a { values = values } ∷ outer)
   own_body c size end f b a outer is own le words left locals temporaries h = record {
     code = h.code;
     body = h.body;
@@ -371,12 +372,10 @@ module _ (m m' : Memory) (t : Functions) (fs : List Funclet) (program : LinearPr
         absurd i
     by_frame c f is b below (a ∷ outer) (FunctionBody n) same (inl own) fits keeps low frame stack h
         locals above linked rest = own_function c f is b below a outer n same own fits keeps low
-        frame
-        stack h locals above linked
+        frame stack h locals above linked
     by_frame c f is b below (a ∷ outer) (FunctionBody n) same (inr i) fits keeps low frame stack h
-        locals above linked rest = upper c f is b below (a
-        ∷ outer) (FunctionBody n) same i keeps low
-        frame stack h above linked (rest i)
+        locals above linked rest = upper c f is b below (a ∷ outer) (FunctionBody n) same i keeps
+        low frame stack h above linked (rest i)
     by_frame c f is b below (a ∷ outer) (FuncletBody j) same i fits keeps low frame stack h locals
         above linked rest = upper c f is b below (a ∷ outer) (FuncletBody j) same i keeps low frame
         stack h above linked (rest i)
@@ -441,7 +440,8 @@ module _ (m m' : Memory) (t : Functions) (fs : List Funclet) (program : LinearPr
             record {
               own = own_kept m m' from t fs program p (rsp c) d r (omega arith) h.0.own;
               carries = h.0.carries;
-              resumes = h.0.resumes;
+              resumes = resumes_kept t fs program p k values resumption below acts d.saved o
+                  h.0.resumes;
               onward = h.0.onward;
               address = h.0.address;
               aimed = h.0.aimed;

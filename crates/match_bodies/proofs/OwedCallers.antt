@@ -1,19 +1,23 @@
 -- Codes that are still to be undone: what they rest on, and that a walk finds the caller by the
 -- return address at RSP where there are none.
 use Rattle.std.specs.Prelude.{slice_set}
-use Rattle.std.proofs.Common.{◌≡◌, ℕ, ◌+◌, ◌^◌, ◌<◌, ◌≤◌, Bool, true, false, Ok, List, [], ◌∷◌, length, drop, refl, sym, ap, subst, ◌∙◌, arith}
-use Rattle.match_bodies.specs.Words.{Memory, Protection, with_bytes, Context, rsp, get, Functions, word, caller_above, caller_owed, HasCaller, FindsReturn, Owed, IsOwed, nothing_owed, owed_by, owed_of, ImagePlan, BodyName, StackFrame, IsAsTold}
+use Rattle.std.proofs.Common.{◌≡◌, ◌≢◌, ℕ, ◌+◌, ◌^◌, ◌<◌, ◌≤◌, Bool, true, false, Ok, List, [], ◌∷◌, length, drop, refl, sym, ap, subst, ◌∙◌, arith, inl, inr}
+use Rattle.std.proofs.lemmas.Bool.{cases_eq, false≢true}
+use Rattle.match_bodies.specs.Words.{Memory, Protection, with_bytes, Context, rsp, get, Functions, word, caller_above, caller_owed, HasCaller, FindsReturn, Owed, IsOwed, nothing_owed, owed_by, owed_of, ImagePlan, BodyName, StackFrame, IsAsTold, Reg}
 use Rattle.eh_tables.specs.Tables.{Entry}
 use Rattle.eh_tables.specs.Infos.{Info}
 use Rattle.eh_tables.specs.declared.code.UnwindOperation.{UnwindOperation}
 use Rattle.eh_tables.specs.declared.code.UnwindOperation.TheVariants.{Push, Allocate, SetFrame, Save, SaveVector, MachineFrame}
-use Rattle.frame_rules.specs.Codes.{depth}
+use Rattle.x64_instr.specs.Registers.{number}
+use Rattle.virtual_unwind.specs.Contexts.{is_nonvolatile}
+use Rattle.x64_templates.specs.Locals.{is_of_local}
+use Rattle.frame_rules.specs.Codes.{depth, is_saved}
 use Rattle.frame_rules.specs.Frame as rules
 use Rattle.match_stack.specs.Stack.{AreAbove, IsSavedAt}
 use Rattle.match_stack.proofs.FrameWords.{saved_low, saved_high, stack_same}
 use Rattle.virtual_unwind.specs.CallerOf.{base_if, sets_frame}
 use Rattle.frame_rules.proofs.Order.{Ordered, framed_above}
-use Rattle.frame_rules.proofs.Undoing.{stack_depth, return_word}
+use Rattle.frame_rules.proofs.Undoing.{stack_depth, return_word, saved_register, framed_saved}
 use Rattle.match_bodies.proofs.Lemmas.{word-is, is_word, others_same, rest_numbers, eight_numbers}
 
 -- ---- registers of a context
@@ -65,6 +69,53 @@ owed_in m m' c o size back others protection bytes h =
           (stack_same m m old back m'.byte (rsp c) (rsp c) o.codes bytes h.stack);
       framed = h.framed;
       unsaved = h.unsaved;
+    }
+
+-- with the words of another memory, read from the same RSP with other registers
+pub owed_both : (m m' : Memory) (c c' : Context) (o : Owed) (size back : ℕ) (others : List ℕ)
+    → rsp c' ≡ rsp c → IsOwed m c o size back others → IsOwed m' c' o size back others
+    → IsOwed m' c o size back others
+owed_both m m' c c' o size back others same h h' = record {
+  kept = h.kept;
+  eight = h.eight;
+  room = h.room;
+  small = h.small;
+  allowed = h.allowed;
+  stack = subst (λ n. rules.Stack m' (get (record { rip = back; kept = (n + size) ∷ others })) back
+      n n o.codes) same h'.stack;
+  framed = h.framed;
+  unsaved = h.unsaved;
+}
+
+-- a register of a local that these codes save, and that isn't the frame register
+pub record IsOwn (o : Owed) (r : Reg) : Type 0 where
+  pub local : is_of_local r ≡ true
+  pub saved : is_saved (number r) o.codes ≡ true
+  pub apart : number r ≢ o.register
+
+-- whatever is in it
+pub owed_beside : (m : Memory) (c c' : Context) (o : Owed) (size back : ℕ) (others : List ℕ)
+    (r : Reg) → IsOwn o r → length c'.kept ≡ 9 → rsp c' ≡ rsp c
+    → ((n : ℕ) → is_nonvolatile n ≡ true → n ≢ number r → get c' n ≡ get c n)
+    → IsOwed m c o size back others → IsOwed m c' o size back others
+owed_beside m c c' o size back others r own nine same beside h =
+    let caller : ℕ → Context = λ n. record { rip = back; kept = (n + size) ∷ others } in
+    let up = sym same in
+    record {
+      kept = nine;
+      eight = h.eight;
+      room = subst (λ n. n + size + 8 < 2 ^ 64) up h.room;
+      small = h.small;
+      allowed = h.allowed;
+      stack = subst (λ n. rules.Stack m (get (caller n)) back n n o.codes) up h.stack;
+      framed = subst (λ n. rules.Framed o.register o.offset (get c') n o.codes) up
+          (framed_saved o.register o.offset (get c) (get c') (rsp c) o.codes h.allowed
+          (λ s. sym (beside o.register (saved_register o.register o.register o.codes h.allowed s).0
+          (λ z. own.apart (sym z)))) h.framed);
+      unsaved = λ n nv ne free. elim (cases_eq n (number r)) [
+        | inl e ↦ absurd (false≢true (sym free ∙ (ap (λ k. is_saved k o.codes) e ∙ own.saved)))
+        | inr other ↦ beside n nv other ∙ h.unsaved n nv ne free ∙ ap (λ k. get (caller k) n) up
+      ];
     }
 
 -- ---- the base of the allocation

@@ -3,14 +3,17 @@ use Rattle.std.proofs.Common.{◌≡◌, ℕ, zero, suc, ◌+◌, ◌*◌, ◌^�
 use Rattle.std.specs.Prelude.{nat_eq, slice_get, slice_index, slice_set}
 use Rattle.std.proofs.lemmas.List.{append-nil}
 use Rattle.std.proofs.lemmas.Option.{slice_get_within}
-use Rattle.match_bodies.specs.Words.{Event, Memory, State, Slot, Local, Temporary, Instruction, BodyState, IsSlot, LinearBody, body_of, Configuration, Next, local_of, read, forth, with_some, act, Layout, machine, InstructionDone, ReachesBody, template, template_size, body_size, offset_of, counts_of, locals_of, Moves, HaveRoom, links_of, turns_left, with_values, Setting, RepresentsAt, JumpsTo, IsHeld, at_label, with_last, pick, tested}
+use Rattle.match_bodies.specs.Words.{Event, Memory, State, Slot, Local, Temporary, Instruction, BodyState, IsSlot, LinearBody, body_of, Configuration, Next, local_of, read, forth, with_some, act, Layout, machine, InstructionDone, ReachesBody, template, template_size, body_size, offset_of, counts_of, locals_of, Moves, HaveRoom, links_of, turns_left, with_values, Setting, RepresentsAt, JumpsTo, IsHeld, at_label, with_last, pick, tested, IsReached}
 use Rattle.linear_code.specs.declared.instruction.Instruction.TheVariants as instructions
 use Rattle.linear_code.specs.Meaning as meanings
+use Rattle.lowering_invariants.specs.Registers.{SlotHas, SlotsHave}
 use Rattle.match_bodies.proofs.ActivationPlaces.{locals_count}
 use Rattle.match_bodies.proofs.ActivationStores.{activated, same_activations}
 use Rattle.match_bodies.proofs.BodyViews.{IsCounted, placed, count, slots_here, locals_here}
+use Rattle.match_bodies.proofs.LocalPlaces.{leaves_same}
+use Rattle.match_bodies.proofs.ReachedSlots.{slots_reached}
 use Rattle.match_bodies.proofs.TemplateSlots.{Leaves}
-use Rattle.match_bodies.proofs.TemplateRuns.{code, frame, slots, v, same_state, done, has_slots, next_address, Surroundings, to_label}
+use Rattle.match_bodies.proofs.TemplateRuns.{code, frame, slots, v, same_state, done, has_slots, next_address, Surroundings, to_label, RunsSpare, template_spared}
 use Rattle.match_bodies.proofs.TemplateShadows.{RunsKeep}
 use Rattle.match_bodies.proofs.TemplateKeeping.{separator_keeps, jump_keeps, jump_if_zero_keeps}
 
@@ -70,15 +73,17 @@ module _ (setting : Setting) (roomy : HaveRoom setting.program) where
         → ReachesBody (frame setting roomy s c b counted) n s rip
         (v setting roomy s c b counted).rest (v setting roomy s c b counted).locals d
         → rip ≡ p.address c.frame.body label
-        → label < length body.code → rip < 2 ^ 64 → Leaves body d values ts → landed ≡ None
-        → RunsKeep setting s c b counted n s → ((next : Next) → act program i next c ≡ next
+        → label < length body.code → rip < 2 ^ 64
+        → Leaves p c.frame.body body d values_here values ts → landed ≡ None
+        → RunsKeep setting s c b counted n s → RunsSpare setting roomy s c b counted n
+        → ((next : Next) → act program i next c ≡ next
         (at_other c label values ts landed d.memory c.events)) → 1 ≤ n
         → n + 3 * length ts ≤ most + 3 * length c.frame.temporaries
         → Moves t fs program most turns_left (RepresentsAt setting) s c i
-    moves_within most i n label rip d values ts landed r at lt small leaves free keep acts some
-        few =
+    moves_within most i n label rip d values ts landed r at lt small leaves free keep spare acts
+        some few =
         let m = to_label setting roomy s c b counted around n label rip d values ts
-        landed c.events r at lt small leaves free keep in
+        landed c.events r at lt small leaves free keep spare in
         let store : locals_of (with_values b.body.acts c.frame.activation values)
         ≡ slice_set c.store.activations c.frame.activation values =
         activated b.body.acts c.frame.activation values is_there
@@ -106,8 +111,10 @@ module _ (setting : Setting) (roomy : HaveRoom setting.program) where
         → ReachesBody (frame setting roomy s c b counted) n s rip
         (v setting roomy s c b counted).rest (v setting roomy s c b counted).locals d
         → rip ≡ p.address c.frame.body label
-        → label < length body.code → rip < 2 ^ 64 → Leaves body d values ts → landed ≡ None
-        → RunsKeep setting s c b counted n s → ((next : Next) → act program i next c ≡ next
+        → label < length body.code → rip < 2 ^ 64
+        → Leaves p c.frame.body body d values_here values ts → landed ≡ None
+        → RunsKeep setting s c b counted n s → RunsSpare setting roomy s c b counted n
+        → ((next : Next) → act program i next c ≡ next
         (at_other c label values ts landed d.memory c.events)) → 1 ≤ n
         → n + 3 * length ts ≤ 16 + 3 * length c.frame.temporaries
         → Moves t fs program 16 turns_left (RepresentsAt setting) s c i
@@ -126,13 +133,15 @@ module _ (setting : Setting) (roomy : HaveRoom setting.program) where
 
     -- the slots as they are
     pub all_as_they_are : length c.frame.temporaries ≤ body.temporaries
-        → Leaves body (slots setting roomy s c b counted) values_here c.frame.temporaries
+        → Leaves p c.frame.body body (slots setting roomy s c b counted) values_here values_here
+        c.frame.temporaries
     all_as_they_are held =
         let w = slots_here setting s c b counted in
         record {
           count = count setting s c b counted;
-          locals = λ i lt. w.locals i lt ∙ ap (λ xs. slice_index xs i)
+          locals = λ i lt reached. w.locals i lt reached ∙ ap (λ xs. slice_index xs i)
               (locals_here setting s c b counted);
+          others = λ k name. leaves_same (p.register c.frame.body) 0 values_here;
           few = held;
           temporaries = w.temporaries;
         }
@@ -179,6 +188,7 @@ module _ (setting : Setting) (roomy : HaveRoom setting.program) where
         (from_here 1 (p.address c.frame.body label)
         (slots setting roomy s c b counted) r.follows) refl lt (label_small label lt)
         (all_as_they_are held) free (jump_keeps setting roomy s c b counted label e)
+        (template_spared setting roomy s c b counted (instructions.Jump label) e (λ h. h))
         (λ next. ap (λ xs. let o : Configuration =
         record {
           frame = record c.frame { next = label };
@@ -190,6 +200,11 @@ module _ (setting : Setting) (roomy : HaveRoom setting.program) where
 
     -- ---- slots that are read
 
+    -- the locals that the instruction here names
+    pub reached_here : (i : Instruction) → slice_get body.code c.frame.next ≡ Some i
+        → SlotsHave (IsReached p c.frame.body) i
+    reached_here i e = slots_reached setting c.frame.body body b.body.slots.body c.frame.next i e
+
     abbrev pub slots_now : BodyState
     slots_now = slots setting roomy s c b counted
 
@@ -199,13 +214,14 @@ module _ (setting : Setting) (roomy : HaveRoom setting.program) where
       pub same : slots_now.slots slot ≡ value
 
     pub is_read : (slot : Slot) → IsSlot (counts_of body) slot
-        → IsHeld (length c.frame.temporaries) slot → IsRead slot
-    is_read (Local x) there h = record {
+        → IsHeld (length c.frame.temporaries) slot → SlotHas (IsReached p c.frame.body) slot
+        → IsRead slot
+    is_read (Local x) there h reached = record {
       value = local_of c.store c.frame.activation x;
       reads = refl;
-      same = (slots_here setting s c b counted).locals x there;
+      same = (slots_here setting s c b counted).locals x there reached;
     }
-    is_read (Temporary i) there h =
+    is_read (Temporary i) there h reached =
         let e = got_within c.frame.temporaries i h in
         record {
           value = slice_index c.frame.temporaries i;
@@ -218,12 +234,13 @@ module _ (setting : Setting) (roomy : HaveRoom setting.program) where
     pub fewer : (ts : List ℕ) → length c.frame.temporaries ≤ body.temporaries
         → length ts ≤ length c.frame.temporaries
         → ((i v : ℕ) → slice_get ts i ≡ Some v → slice_get c.frame.temporaries i ≡ Some v)
-        → Leaves body slots_now values_here ts
+        → Leaves p c.frame.body body slots_now values_here values_here ts
     fewer ts held le front =
         let all = all_as_they_are held in
         record {
           count = all.count;
           locals = all.locals;
+          others = all.others;
           few = omega arith;
           temporaries = λ i v e. all.temporaries i v (front i v e);
         }
@@ -244,6 +261,7 @@ module _ (setting : Setting) (roomy : HaveRoom setting.program) where
         (from_here 1 (s.cpu.rip + template_size (p.layout c.frame.body) instructions.Separator)
         slots_now r.follows) (sym at) lt (omega arith) (fewer [] held (omega arith) (λ i v g. cc))
         free (separator_keeps setting roomy s c b counted e)
+        (template_spared setting roomy s c b counted instructions.Separator e (λ h. h))
         (λ next. ap (λ xs. let o : Configuration =
         record {
           frame = record c.frame { next = c.frame.next + 1; temporaries = [] };
@@ -258,7 +276,7 @@ module _ (setting : Setting) (roomy : HaveRoom setting.program) where
     after_test (Temporary i) = take i c.frame.temporaries
 
     test_front : (slot : Slot) → length c.frame.temporaries ≤ body.temporaries
-        → Leaves body slots_now values_here (after_test slot)
+        → Leaves p c.frame.body body slots_now values_here values_here (after_test slot)
     test_front (Local x) held = all_as_they_are held
     test_front (Temporary i) held = fewer (take i c.frame.temporaries) held
         (let n = length-take i c.frame.temporaries in omega arith) (taken i c.frame.temporaries)
@@ -315,17 +333,18 @@ module _ (setting : Setting) (roomy : HaveRoom setting.program) where
         → rip ≡ p.address c.frame.body to → Reached n rip slots_now
         → length c.frame.temporaries ≤ body.temporaries
         → GoesInside (instructions.JumpIfZero slot label)
-        → RunsKeep setting s c b counted n s
+        → RunsKeep setting s c b counted n s → RunsSpare setting roomy s c b counted n
         → ((next : Next) → act program (instructions.JumpIfZero slot label) next c
         ≡ next (tested_at slot to)) → 1 ≤ n → n ≤ 16
         → Moves t fs program 16 turns_left (RepresentsAt setting) s c
         (instructions.JumpIfZero slot label)
-    to_tested slot label n rip to free at r held inside keep acts some most =
+    to_tested slot label n rip to free at r held inside keep spare acts some most =
         let lt = inside (tested_at slot to) acts body b.body.slots.body in
         let small = label_small to lt in
         let len = test_fewer slot in
         moves_to (instructions.JumpIfZero slot label) n to rip slots_now values_here
         (after_test slot) c.frame.landed r at lt (omega arith) (test_front slot held) free keep
+        spare
         (λ next. acts next ∙ ap (λ xs. let o : Configuration =
         record {
           frame = record c.frame { next = to; temporaries = after_test slot };
@@ -342,7 +361,8 @@ module _ (setting : Setting) (roomy : HaveRoom setting.program) where
         (instructions.JumpIfZero slot label)
     jump_if_zero_step slot label free e held there inside =
         let r = is_read slot (has_slots setting roomy s c b counted
-        (instructions.JumpIfZero slot label) e) there in
+        (instructions.JumpIfZero slot label) e) there
+        (reached_here (instructions.JumpIfZero slot label) e) in
         by_value r (nat_eq (slots_now.slots slot) 0) refl
         (done setting roomy s c b counted (instructions.JumpIfZero slot label) e)
       where
@@ -353,6 +373,10 @@ module _ (setting : Setting) (roomy : HaveRoom setting.program) where
         keep : RunsKeep setting s c b counted turns s
         keep = jump_if_zero_keeps setting roomy s c b counted slot label e
 
+        spare : RunsSpare setting roomy s c b counted turns
+        spare = template_spared setting roomy s c b counted (instructions.JumpIfZero slot label) e
+            (λ h. h)
+
         by_value : (r : IsRead slot) (z : Bool) → nat_eq (slots_now.slots slot) 0 ≡ z
             → InstructionDone (frame setting roomy s c b counted) (links_of p q c.frame.body)
             (v setting roomy s c b counted) s.cpu.rip s.cpu.flags slots_now
@@ -362,7 +386,7 @@ module _ (setting : Setting) (roomy : HaveRoom setting.program) where
             (instructions.JumpIfZero slot label)
         by_value r true z d = to_tested slot label turns (p.address c.frame.body label) label free
             refl (from_here turns (p.address c.frame.body label) slots_now d.follows) held inside
-            keep
+            keep spare
             (jumps slot label r.value r.reads (ap (λ x. nat_eq x 0) (sym r.same) ∙ z)) d.least
             d.most
         by_value r false z d =
@@ -371,6 +395,6 @@ module _ (setting : Setting) (roomy : HaveRoom setting.program) where
             (c.frame.next + 1) free (sym (next_address setting roomy s c b counted
             (instructions.JumpIfZero slot label) e))
             (from_here turns (s.cpu.rip + template_size (p.layout c.frame.body)
-            (instructions.JumpIfZero slot label)) slots_now d.follows) held inside keep
+            (instructions.JumpIfZero slot label)) slots_now d.follows) held inside keep spare
             (continues slot label r.value r.reads (ap (λ x. nat_eq x 0) (sym r.same) ∙ z)) d.least
             d.most

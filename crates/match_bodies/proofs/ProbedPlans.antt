@@ -3,7 +3,7 @@ use Rattle.std.proofs.Common.{◌≡◌, ℕ, zero, suc, ◌+◌, ◌==◌, Bool
 use Rattle.std.specs.Prelude.{if◌then◌else◌}
 use Rattle.match_bodies.specs.Words.{size, sizes, IsNear, Layout}
 use Rattle.eh_tables.specs.declared.code.UnwindOperation.{UnwindOperation}
-use Rattle.eh_tables.specs.declared.code.UnwindOperation.TheVariants.{Push, Allocate, SetFrame, Save}
+use Rattle.eh_tables.specs.declared.code.UnwindOperation.TheVariants.{Allocate, SetFrame, Save}
 use Rattle.x64_encode.specs.Chosen.{opcode_register}
 use Rattle.x64_instr.specs.Registers.{register}
 use Rattle.x64_instr.specs.declared.instruction.Instr.TheVariants as instrs

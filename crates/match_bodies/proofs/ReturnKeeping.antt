@@ -4,7 +4,7 @@ use Rattle.std.proofs.Common.{◌≡◌, ℕ, suc, ◌+◌, ◌^◌, ◌<◌, �
 use Rattle.std.specs.Prelude.{slice_get}
 use Rattle.std.proofs.lemmas.Bool.{and_parts, eqb-true, false≢true}
 use Rattle.std.proofs.lemmas.List.{append-nil}
-use Rattle.match_bodies.specs.Words.{Memory, Rax, Rsp, Instr, State, register, get, AllSmall, Functions, Funclet, Slot, Local, Temporary, LinearBody, BodyName, body_of, Layout, size, sizes, is_encodable, fetch, fetch_local, local_at, Steps, HasCode, StackItem, KeepsShadow, AllKeep, context_below, FindsReturn, FindsOwed, Owed, nothing_owed, owed_of, owed_by, Setting, return_code, Place, InRegister, InFrame, place_of, fetch_placed}
+use Rattle.match_bodies.specs.Words.{Memory, Rax, Rsp, Instr, State, register, get, AllSmall, Functions, Funclet, Slot, Local, Temporary, LinearBody, BodyName, body_of, Layout, size, sizes, is_encodable, fetch, fetch_local, local_at, Steps, HasCode, StackItem, KeepsShadow, AllKeep, context_below, FindsReturn, FindsOwed, Owed, nothing_owed, owed_of, owed_by, Setting, return_code, Place, InRegister, InFrame, Arriving, place_of, fetch_placed}
 use Rattle.eh_tables.specs.declared.code.UnwindOperation.{UnwindOperation}
 use Rattle.x64_instr.specs.Registers as numbers
 use Rattle.x64_instr.specs.declared.instruction.Instr.TheVariants as instrs
@@ -35,7 +35,7 @@ use Rattle.match_bodies.proofs.StackTop.{leaf_layout}
 use Rattle.match_bodies.proofs.FrameCode.{leaf_ending, loads_before, loads_through, through_pop}
 use Rattle.match_bodies.proofs.BodyFrames.{codes_above, frame_plan_is, slots_some, slots_within}
 use Rattle.match_bodies.proofs.SilentTurns.{program_kept}
-use Rattle.match_bodies.proofs.RoutineWalks.{code_next, StepsTo, steps_split, keeps_split, Beneath, AllPlain, Finds, Ran, ran}
+use Rattle.match_bodies.proofs.RoutineWalks.{code_next, StepsTo, steps_split, keeps_split, Beneath, AllPlain, plain_steady, Finds, Ran, ran}
 use Rattle.match_bodies.proofs.ShadowTurns.{return_keeps_shadow, returned_others}
 use Rattle.match_bodies.proofs.InstructionEffects.{others_of}
 use Rattle.match_bodies.proofs.ReturnAddresses.{template_there}
@@ -53,6 +53,7 @@ fetch_placed_plain : (d whole e : ℕ) (y : Layout) (i : ℕ) (p : Place)
     → Fine (fetch_placed y Rax i p) → AllPlain d whole e (fetch_placed y Rax i p)
 fetch_placed_plain d whole e y i (InRegister r) f = ((f.0, inl refl), tt)
 fetch_placed_plain d whole e y i InFrame f = fetch_local_plain d whole e y.base (local_at y i) f
+fetch_placed_plain d whole e y i Arriving f = ((f.0, inl refl), tt)
 
 pub fetch_plain : (d whole e : ℕ) (y : Layout) (x : Slot) → Fine (fetch y Rax x)
     → AllPlain d whole e (fetch y Rax x)
@@ -169,10 +170,11 @@ module _ (setting : Setting) where
     finds done (item ∷ left) split m h = subst (λ a. FindsOwed t m (a + sizes done) owed) (sym here)
         (callers.returns m label from done left item h at split)
 
-    first : Ran t fs program p q owed top (top + 8) back others list s u fetching
+    first : Ran t fs program p q owed top (top + 8) back others list y.slots y.frame 8 s u fetching
     first = ran t fs program p q owed top (top + 8) back others list fetching s u y.slots
         y.frame 8 halves.1
-        plain (subst (λ a. HasCode s.memory a fetching) (sym here) (codes s.memory has).0) has
+        (plain_steady owed y.slots y.frame 8 fetching plain)
+        (subst (λ a. HasCode s.memory a fetching) (sym here) (codes s.memory has).0) has
         beneath below refl (slots_within setting name b is)
         (codes_above setting name b is (register s.cpu Rsp)) finds
 

@@ -2,15 +2,22 @@
 use Rattle.std.proofs.Common.{◌≡◌, ℕ, zero, suc, ◌+◌, ◌%◌, ◌^◌, ◌<◌, ◌≤◌, Bool, true, false, List, [], ◌∷◌, ◌++◌, length, Option, Some, None, Ok, refl, sym, ap, subst, ◌∙◌, arith, inl, inr}
 use Rattle.std.specs.Prelude.{◌⊎◌, slice_index}
 use Rattle.std.proofs.lemmas.Bool.{cases_lt}
-use Rattle.match_bodies.specs.Words.{Protection, is_writable, Memory, executable, may_read, may_write, first_refused, number_at, with_bytes, access, Reg, Rsp, Instr, leading, chosen, is_encodable, Context, context_of, State, register, with_rip, effect, rsp, Functions, word, readable, Funclet, LinearProgram, spelled, size, sizes, keep_register, Steps, Reaches, ReachesInside, Enters, HasCode, StackItem, IsStack, Owned, context_below, state, ImagePlan, is_call, GivesCallers, WalkGives, AllKeep, Sites, HasProgram, caller_left, HasCaller, FindsOwed, Owed, IsOwed, Agree, calls}
+use Rattle.match_bodies.specs.Words.{W64, Rax, is_volatile, Protection, is_writable, Memory, executable, may_read, may_write, first_refused, number_at, with_bytes, access, Reg, Rsp, Instr, leading, chosen, is_encodable, Context, context_of, State, register, with_rip, effect, rsp, Functions, word, readable, Funclet, LinearProgram, spelled, size, sizes, keep_register, Steps, Reaches, ReachesInside, Enters, HasCode, StackItem, IsStack, Owned, context_below, state, ImagePlan, is_call, GivesCallers, WalkGives, AllKeep, Sites, HasProgram, caller_left, HasCaller, FindsOwed, Owed, IsOwed, Agree, calls}
 use Rattle.match_bodies.proofs.Lemmas.{longest, bytes_kept, outside_page, bytes_split, spells, reads, kept_by_other_stores, nothing_below_is_owned, past_frame, straight, keep_first}
+use Rattle.x64_instr.specs.Registers.{number}
+use Rattle.x64_instr.specs.declared.operand.Operand.{Operand}
+use Rattle.x64_instr.specs.declared.operand.RegisterOrMemory.TheVariants as places
+use Rattle.x64_instr.specs.declared.instruction.Instr.TheVariants as instrs
 use Rattle.x64_machine.specs.Effect.{step}
+use Rattle.x64_templates.specs.Locals.{is_of_local}
+use Rattle.virtual_unwind.proofs.Registers.{get-context}
+use Rattle.frame_rules.proofs.Undoing.{saved_register}
 use Rattle.match_bodies.proofs.ChainKeeping.{inside_steps}
 use Rattle.match_bodies.proofs.StackWalks.{callers, on_stack}
-use Rattle.match_bodies.proofs.InstructionEffects.{others_of, is_idle, idle_leaves, idle_calls_nothing, store_leaves}
+use Rattle.match_bodies.proofs.InstructionEffects.{others_of, is_idle, idle_leaves, idle_calls_nothing, fills, store_leaves}
 use Rattle.match_stack.specs.Stack.{AreAbove, IsSavedAt}
 use Rattle.match_stack.proofs.FrameWords.{saved_low}
-use Rattle.match_bodies.proofs.OwedCallers.{owed_with, owed_in, owed_high}
+use Rattle.match_bodies.proofs.OwedCallers.{owed_with, owed_in, owed_high, IsOwn, owed_beside}
 use Rattle.match_bodies.proofs.SilentTurns.{program_kept}
 
 -- ---- the instruction at RIP is run
@@ -239,49 +246,88 @@ abbrev pub AllPlain : (d whole e : ℕ) → List Instr → Type 0
 AllPlain d whole e [] = Unit {0}
 AllPlain d whole e (i ∷ is) = IsPlain d whole e i × AllPlain d whole e is
 
-plain_calls_nothing : (d whole e : ℕ) (i : Instr) → (is_idle i ≡ true) ⊎ IsKept d whole e i
-    → calls i ≡ false
-plain_calls_nothing d whole e i (inl q) = idle_calls_nothing i q
-plain_calls_nothing d whole e i (inr k) = ap calls k.is
+-- or a register of a local is written, which the codes save
+pub record IsFilled (o : Owed) (i : Instr) : Type 0 where
+  pub filled : Reg
+  pub from : Operand
+  pub is : i ≡ instrs.Move W64 (places.Register filled) from
+  pub own : IsOwn o filled
+
+abbrev pub IsSteady : Owed → (d whole e : ℕ) → Instr → Type 0
+IsSteady o d whole e i =
+    (is_encodable i ≡ true) × (((is_idle i ≡ true) ⊎ IsKept d whole e i) ⊎ IsFilled o i)
+
+abbrev pub AllSteady : Owed → (d whole e : ℕ) → List Instr → Type 0
+AllSteady o d whole e [] = Unit {0}
+AllSteady o d whole e (i ∷ is) = IsSteady o d whole e i × AllSteady o d whole e is
+
+-- plain code is steady whatever the codes save
+pub plain_steady : (o : Owed) (d whole e : ℕ) (code : List Instr) → AllPlain d whole e code
+    → AllSteady o d whole e code
+plain_steady o d whole e [] h = tt
+plain_steady o d whole e (i ∷ is) h = ((h.0.0, inl h.0.1), plain_steady o d whole e is h.1)
+
+steady_calls_nothing : (o : Owed) (d whole e : ℕ) (i : Instr)
+    → ((is_idle i ≡ true) ⊎ IsKept d whole e i) ⊎ IsFilled o i → calls i ≡ false
+steady_calls_nothing o d whole e i (inl (inl q)) = idle_calls_nothing i q
+steady_calls_nothing o d whole e i (inl (inr k)) = ap calls k.is
+steady_calls_nothing o d whole e i (inr f) = ap calls f.is
+
+local_or_volatile : (r : Reg) → is_of_local r ≡ true → is_volatile r ≡ true → ⊥
+local_or_volatile Rax e v = absurd cc
+local_or_volatile r e v = absurd cc
+
+other_place : (r q : Reg) (from : Operand) (k : ℕ)
+    → instrs.Move W64 (places.Register r) from ≡ keep_register q k → ⊥
+other_place r q from k e = absurd cc
+
+-- such an instruction isn't plain
+filled_or_plain : (o : Owed) (d whole e : ℕ) (i : Instr) → IsFilled o i → IsPlain d whole e i → ⊥
+filled_or_plain o d whole e i f p = elim p.1 [
+  | inl idle ↦ local_or_volatile f.filled f.own.local (subst (λ j. is_idle j ≡ true) f.is idle)
+  | inr k ↦ other_place f.filled k.kept f.from k.offset (sym f.is ∙ k.is)
+]
 
 module _ (t : Functions) (fs : List Funclet) (program : LinearProgram) (p : ImagePlan) (q : Sites)
   where
     module _ (o : Owed) (top from back : ℕ) (others : List ℕ) (is : List StackItem) where
       -- after an instruction that isn't a jump
-      pub record Moved (s u : State) (i : Instr) : Type 0 where
+      pub record Moved (d whole e : ℕ) (s u : State) (i : Instr) : Type 0 where
         pub beneath : Beneath t u o top from back others is
         pub rip : u.cpu.rip ≡ s.cpu.rip + size i
         pub stack : register u.cpu Rsp ≡ register s.cpu Rsp
-        pub keeps_others : others_of u.cpu.registers ≡ others_of s.cpu.registers
+        pub keeps_others : IsPlain d whole e i
+            → others_of u.cpu.registers ≡ others_of s.cpu.registers
 
       -- the words of the codes are so far above RSP at least
       abbrev pub AreBeyond : State → ℕ → Type 0
       AreBeyond s d = AreAbove (register s.cpu Rsp + d) (register s.cpu Rsp) (register s.cpu Rsp)
           o.codes
 
-      pub plain_step : (s u : State) (d whole e : ℕ) (i : Instr) (more : List Instr)
-          → IsPlain d whole e i → HasCode s.memory s.cpu.rip (i ∷ more) → Steps s u
+      pub steady_step : (s u : State) (d whole e : ℕ) (i : Instr) (more : List Instr)
+          → IsSteady o d whole e i → HasCode s.memory s.cpu.rip (i ∷ more) → Steps s u
           → Beneath t s o top from back others is
           → register s.cpu Rsp + whole ≡ top → from ≡ top + e → d ≤ whole → AreBeyond s d
-          → Moved s u i
-      plain_step s u d whole e i more plain code st b at up within far =
-          let effect' = effect_here s u i more plain.0 code st.steps in
-          by plain.1 effect'
+          → Moved d whole e s u i
+      steady_step s u d whole e i more steady code st b at up within far =
+          let effect' = effect_here s u i more steady.0 code st.steps in
+          by steady.1 effect'
         where
           a : State
           a = with_rip s (s.cpu.rip + size i)
 
-          by : (is_idle i ≡ true) ⊎ IsKept d whole e i → effect a i ≡ Ok u → Moved s u i
-          by (inl idle) ef =
+          by : ((is_idle i ≡ true) ⊎ IsKept d whole e i) ⊎ IsFilled o i → effect a i ≡ Ok u
+              → Moved d whole e s u i
+          by (inl (inl idle)) ef =
               let l = idle_leaves a u i idle ef in
               record {
                 beneath = beneath_stays t s u o top from back others is st l.stack l.others
                     (λ x w. ap (λ (m : Memory). m.byte x) l.memory) b;
                 rip = l.rip;
                 stack = l.stack;
-                keeps_others = l.others;
+                keeps_others = λ p. l.others;
               }
-          by (inr k) ef =
+          by (inl (inr k)) ef =
               let high = b.above.limit in
               let sp = register s.cpu Rsp in
               let size_is = b.at in
@@ -312,17 +358,44 @@ module _ (t : Functions) (fs : List Funclet) (program : LinearProgram) (p : Imag
                     b;
                 rip = l.rip;
                 stack = stack;
-                keeps_others = ap others_of l.registers;
+                keeps_others = λ p. ap others_of l.registers;
+              }
+          by (inr f) ef =
+              let l = fills a u f.filled f.from (subst (λ j. effect a j ≡ Ok u) f.is ef) in
+              let r = f.filled in
+              let other = (saved_register o.register (number r) o.codes b.owed.allowed
+              f.own.saved).1 in
+              let stack : register u.cpu Rsp ≡ register s.cpu Rsp = l.beside 4 (λ z. other (sym z))
+              in
+              let byte : (x : ℕ) → u.memory.byte x ≡ s.memory.byte x =
+              λ x. ap (λ (m : Memory). m.byte x) l.memory in
+              record {
+                beneath = record {
+                  above = above_stays t s u top from back others is st (λ x le. byte x) b.above;
+                  count = st.count ∙ b.count;
+                  size = b.size;
+                  at = ap (λ x. x + b.size) stack ∙ b.at;
+                  owed = owed_beside u.memory (context_of s.cpu) (context_of u.cpu) o b.size back
+                      others r f.own refl stack
+                      (λ k nv ne. get-context u.cpu k nv ∙ l.beside k ne
+                      ∙ sym (get-context s.cpu k nv))
+                      (owed_in s.memory u.memory (context_of s.cpu) o b.size back others
+                      st.protection (λ x w. byte x) b.owed);
+                };
+                rip = l.rip;
+                stack = stack;
+                keeps_others = λ p. absurd (filled_or_plain o d whole e i f p);
               }
 
       -- where straight code comes to
-      pub record Ran (s w : State) (code : List Instr) : Type 0 where
+      pub record Ran (d whole e : ℕ) (s w : State) (code : List Instr) : Type 0 where
         pub keeps : AllKeep t fs (length code) s
         pub beneath : Beneath t w o top from back others is
         pub has : HasProgram t fs program p q w.memory
         pub rip : w.cpu.rip ≡ s.cpu.rip + sizes code
         pub stack : register w.cpu Rsp ≡ register s.cpu Rsp
-        pub keeps_others : others_of w.cpu.registers ≡ others_of s.cpu.registers
+        pub keeps_others : AllPlain d whole e code
+            → others_of w.cpu.registers ≡ others_of s.cpu.registers
 
       -- a walk finds the caller at each of its instructions
       abbrev pub Finds : ℕ → List Instr → Type 0
@@ -330,24 +403,24 @@ module _ (t : Functions) (fs : List Funclet) (program : LinearProgram) (p : Imag
           → HasProgram t fs program p q m → FindsOwed t m (rip + sizes done) o
 
       pub ran : (code : List Instr) (s w : State) (d whole e : ℕ) → StepsTo (length code) s w
-          → AllPlain d whole e code → HasCode s.memory s.cpu.rip code → HasProgram t fs program p q
-          s.memory
+          → AllSteady o d whole e code → HasCode s.memory s.cpu.rip code
+          → HasProgram t fs program p q s.memory
           → Beneath t s o top from back others is
           → register s.cpu Rsp + whole ≡ top → from ≡ top + e → d ≤ whole → AreBeyond s d
-          → Finds s.cpu.rip code → Ran s w code
-      ran [] s w d whole e r plain code has b at up within far finds =
-          subst (λ (x : State). Ran s x []) r (record {
+          → Finds s.cpu.rip code → Ran d whole e s w code
+      ran [] s w d whole e r steady code has b at up within far finds =
+          subst (λ (x : State). Ran d whole e s x []) r (record {
             keeps = tt;
             beneath = b;
             has = has;
             rip = (let z : s.cpu.rip ≡ s.cpu.rip + 0 = omega arith in z);
             stack = refl;
-            keeps_others = refl;
+            keeps_others = λ p. refl;
           })
-      ran (i ∷ code) s w d whole e r plain code' has b at up within far finds =
+      ran (i ∷ code) s w d whole e r steady code' has b at up within far finds =
           let u = r.0 in
           let st = r.1 in
-          let first = plain_step s u d whole e i code plain.0 code' st b at up within far in
+          let first = steady_step s u d whole e i code steady.0 code' st b at up within far in
           let has' = program_kept t fs program p q s.memory u.memory
           (record { protection = st.protection; fixed = st.fixed }) has in
           let at' : register u.cpu Rsp + whole ≡ top = omega (arith, first.stack) in
@@ -357,8 +430,8 @@ module _ (t : Functions) (fs : List Funclet) (program : LinearProgram) (p : Imag
           (subst (λ a. FindsOwed t s.memory a o) z (finds [] (i ∷ code) refl s.memory has)) in
           let after = gives_above t u o top from back others is first.beneath
           (subst (λ a. FindsOwed t u.memory a o) next (finds (i ∷ []) code refl u.memory has')) in
-          let quiet = ap is_call (read_here s u i code plain.0.0 code')
-          ∙ plain_calls_nothing d whole e i plain.0.1 in
+          let quiet = ap is_call (read_here s u i code steady.0.0 code')
+          ∙ steady_calls_nothing o d whole e i steady.0.1 in
           let keep = straight t fs s u (callers_above t top back others is) st.steps quiet before
           after (let h : register u.cpu Rsp + 8 ≤ top + 8 = omega arith in h) in
           let finds' : Finds u.cpu.rip code = λ done left parts m h.
@@ -366,7 +439,7 @@ module _ (t : Functions) (fs : List Funclet) (program : LinearProgram) (p : Imag
           ≡ u.cpu.rip + sizes done = omega (arith, first.rip) in
           subst (λ a. FindsOwed t m a o) same
           (finds (i ∷ done) left (ap (λ (xs : List Instr). i ∷ xs) parts) m h)) in
-          let rest = ran code u w d whole e r.2 plain.1 (code_next s u i code plain.0.0 code' st
+          let rest = ran code u w d whole e r.2 steady.1 (code_next s u i code steady.0.0 code' st
           first.rip)
           has' first.beneath at' up within
           (subst (λ x. AreAbove (x + d) x x o.codes) (sym first.stack) far) finds' in
@@ -377,7 +450,7 @@ module _ (t : Functions) (fs : List Funclet) (program : LinearProgram) (p : Imag
             rip = rest.rip ∙ (let same : u.cpu.rip + sizes code
                 ≡ s.cpu.rip + (size i + sizes code) = omega (arith, first.rip) in same);
             stack = rest.stack ∙ first.stack;
-            keeps_others = rest.keeps_others ∙ first.keeps_others;
+            keeps_others = λ p. rest.keeps_others p.1 ∙ first.keeps_others p.0;
           }
 
 -- ---- where a list is above a return address

@@ -1,8 +1,10 @@
 -- A slot is written: what linear code has then, and what templates leave.
-use Rattle.std.proofs.Common.{◌≡◌, ◌≢◌, ℕ, zero, suc, ◌+◌, ◌<◌, ◌≤◌, cond, Some, List, [], ◌∷◌, ◌++◌, length, take, refl, sym, ap, subst, ◌∙◌, arith, inl, inr, length-append, length-take-le}
+use Rattle.std.proofs.Common.{◌≡◌, ◌≢◌, ℕ, zero, suc, ◌+◌, ◌<◌, ◌≤◌, cond, Option, Some, None, List, [], ◌∷◌, ◌++◌, length, take, refl, sym, ap, subst, ◌∙◌, arith, inl, inr, length-append, length-take-le}
 use Rattle.std.specs.Prelude.{◌⊎◌, slice_get, slice_index, slice_set}
 use Rattle.std.proofs.lemmas.Bool.{cases_eq, eq-eqb, ne_eqb}
-use Rattle.match_bodies.specs.Words.{Slot, Local, Temporary, with_slot}
+use Rattle.lowering_invariants.specs.Registers.{SlotHas}
+use Rattle.match_bodies.specs.Words.{Slot, Local, Temporary, with_slot, LeavesRegisters}
+use Rattle.match_bodies.proofs.LocalPlaces.{leaves_same, leaves_set}
 
 -- the numbers of the locals, and the temporaries, after a store into a slot
 abbrev pub locals_after : List ℕ → Slot → ℕ → List ℕ
@@ -80,6 +82,17 @@ pub locals_count_after : (values : List ℕ) (to : Slot) (v : ℕ)
     → length (locals_after values to v) ≡ length values
 locals_count_after values (Local x) v = set_length values x v
 locals_count_after values (Temporary i) v = refl
+
+-- a local that is in no register
+abbrev pub HasNoRegister : (ℕ → Option ℕ) → ℕ → Type 0
+HasNoRegister register x = register x ≡ None
+
+-- a store into such a local leaves those in registers as they were
+pub others_after : (register : ℕ → Option ℕ) (values : List ℕ) (to : Slot) (v : ℕ)
+    → SlotHas (HasNoRegister register) to
+    → LeavesRegisters register 0 values (locals_after values to v)
+others_after register values (Local x) v none = leaves_set register values x v none
+others_after register values (Temporary i) v none = leaves_same register 0 values
 
 -- at most one more
 pub one_more : (ts : List ℕ) (to : Slot) (v : ℕ) → FitsAfter ts to

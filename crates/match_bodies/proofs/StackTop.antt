@@ -1,6 +1,6 @@
 -- A body that runs is on top of what waits below it, as one that waits.
-use Rattle.std.proofs.Common.{◌≡◌, ℕ, ◌+◌, Bool, true, false, List, [], ◌∷◌, drop, refl, sym, ap, subst, ◌∙◌, arith}
-use Rattle.match_bodies.specs.Words.{Rsp, context_of, State, register, Functions, Funclet, LinearProgram, LinearBody, BodyName, FunctionBody, FuncletBody, Waits, Configuration, regions_of, StackItem, Framed, Leaf, FrameIsAt, LeafIsAt, context_below, ImagePlan, Activation, activations_below, BodyWaits, On, Sites, IsLayoutIf, IsLeafLayout, IsLaidOut, HasProgram, IsProgramImage, frame_of, slots_end, last_temporary, HasFrame, InBody, IsGiven, IsFramed}
+use Rattle.std.proofs.Common.{◌≡◌, ℕ, ◌+◌, ◌<◌, Some, Bool, true, false, List, [], ◌∷◌, drop, refl, sym, ap, subst, ◌∙◌, arith}
+use Rattle.match_bodies.specs.Words.{Rsp, context_of, State, register, Functions, Funclet, LinearProgram, LinearBody, BodyName, FunctionBody, FuncletBody, Waits, Configuration, regions_of, StackItem, Framed, Leaf, FrameIsAt, LeafIsAt, context_below, ImagePlan, Activation, activations_below, BodyWaits, On, Sites, IsLayoutIf, IsLeafLayout, IsLaidOut, HasProgram, IsProgramImage, frame_of, slots_end, last_temporary, HasFrame, InBody, IsGiven, IsFramed, now_of, body_of}
 use Rattle.match_bodies.proofs.Lemmas.{in_stack}
 use Rattle.match_bodies.specs.ProgramImages.{IsResumed}
 use Rattle.match_bodies.specs.Bodies.{IsLeafFrame}
@@ -14,6 +14,26 @@ module _ (t : Functions) (fs : List Funclet) (program : LinearProgram) (p : Imag
     leaf_layout (FunctionBody f) b e h = subst (λ (leaf : Bool). IsLayoutIf program p
         (p.layout (FunctionBody f)) b leaf) e h
     leaf_layout (FuncletBody k) b e h = let z : true ≡ false = sym e ∙ h.framed in absurd cc
+
+    -- no parameter stays in its register where a body has a frame
+    pub none_arrive : (name : BodyName) (b : LinearBody) → p.leaf name ≡ false
+        → IsLaidOut program p name b → (p.layout name).arrivals ≡ 0
+    none_arrive (FunctionBody f) b e h =
+        let l = subst (λ (leaf : Bool). IsLayoutIf program p (p.layout (FunctionBody f)) b leaf) e h
+        in
+        l.none_arrive
+    none_arrive (FuncletBody k) b e h = h.layout.none_arrive
+
+    -- so where one does, it is a leaf function's
+    pub arrives_in_leaf : IsProgramImage t fs program p q → (name : BodyName) (b : LinearBody)
+        → body_of program name ≡ Some b → (i : ℕ) → i < (p.layout name).arrivals
+        → p.leaf name ≡ true
+    arrives_in_leaf image name b there i lt = by (p.leaf name) refl
+      where
+        by : (leaf : Bool) → p.leaf name ≡ leaf → p.leaf name ≡ true
+        by true e = e
+        by false e =
+            let none = none_arrive name b e (image.laid_out name b there) in absurd (omega arith)
 
     no_regions : (name : BodyName) (b : LinearBody) → p.leaf name ≡ true
         → IsGiven t fs program p name b (p.leaf name) → b.regions ≡ []
@@ -44,7 +64,7 @@ module _ (t : Functions) (fs : List Funclet) (program : LinearProgram) (p : Imag
                   slots = refl;
                   small = at.small;
                   waits = subst (λ (leaf : Bool). BodyWaits t fs program p u.memory
-                      (context_of u.cpu)
+                      (context_of u.cpu) (now_of leaf u.cpu)
                       (slots_end y leaf) (last_temporary y name leaf) c.frame at.acts) e at.slots;
                   pointers = at.pointers;
                   returns = at.returns_to;
@@ -110,9 +130,10 @@ module _ (t : Functions) (fs : List Funclet) (program : LinearProgram) (p : Imag
                     home = at.home e;
                     none = ap regions_of at.slots.body
                         ∙ no_regions name b e (image.gives name b at.slots.body);
+                    now = now_of true u.cpu;
                     waits = subst (λ (leaf : Bool). BodyWaits t fs program p u.memory
-                        (context_of u.cpu) (slots_end y leaf) (last_temporary y name leaf) c.frame
-                        at.acts) e at.slots;
+                        (context_of u.cpu) (now_of leaf u.cpu) (slots_end y leaf)
+                        (last_temporary y name leaf) c.frame at.acts) e at.slots;
                     returns = at.returns_to;
                   },
                   at.above,

@@ -1,7 +1,7 @@
 -- Each turn of the run of an instruction's template keeps the shadow.
 use Rattle.std.proofs.Common.{◌≡◌, ℕ, ◌+◌, ◌^◌, ◌<◌, ◌≤◌, List, [], ◌++◌, Option, Some, None, length, refl, sym, ap, subst, ◌∙◌, arith, length-append, append_assoc}
 use Rattle.std.specs.Prelude.{slice_get}
-use Rattle.match_bodies.specs.Words.{Memory, Rsp, Instr, State, register, Operation, Gives, performed, is_reserved, Slot, Local, Temporary, Instruction, LinearBody, Configuration, Layout, size, sizes, local_at, keep_local, keep, operands_code, finish_code, compute_code, IsNear, template, template_size, local_registers, other_registers, MachineView, machine, Reaches, FrameHolds, HasCode, AllKeep, HaveRoom, links_of, counts_of, Setting, RepresentsAt, work, test_code, information_code, Place, InRegister, InFrame, place_of, keep_placed}
+use Rattle.match_bodies.specs.Words.{Memory, Rsp, Instr, State, register, Operation, Gives, performed, is_reserved, Slot, Local, Temporary, Instruction, LinearBody, Configuration, Layout, size, sizes, local_at, keep_local, keep, operands_code, finish_code, compute_code, IsNear, template, template_size, local_registers, other_registers, MachineView, machine, Reaches, FrameHolds, HasCode, AllKeep, HaveRoom, links_of, counts_of, Setting, RepresentsAt, work, test_code, information_code, Place, InRegister, InFrame, Arriving, place_of, keep_placed}
 use Rattle.c_operations.specs.declared.field.Field.{Field}
 use Rattle.linear_code.specs.declared.instruction.Instruction.TheVariants as instructions
 use Rattle.match_bodies.proofs.Lemmas.{sizes_append, template_sizes, jump_if_zero_size, rest_of, code_split, Begun, operands_run, Worked, work_run, work_flow, separator_flow, jump_flow, keep_flow, operands_flow, information_flow, jump_if_zero_flow}
@@ -10,8 +10,8 @@ use Rattle.x64_templates.specs.Implements.{HasOperands}
 use Rattle.match_bodies.proofs.TemplatePieces.{piece_there}
 use Rattle.match_bodies.proofs.BodyViews.{IsCounted, placed, room_here, holds_here}
 use Rattle.match_bodies.proofs.ChainKeeping.{Keeps, keeps_then, reaches_keeps}
-use Rattle.match_bodies.proofs.TemplateShadows.{kept_by_view, Below, is_here, is_after, ran_same, RunsKeep, whole, IsPast, past_none, one_piece, piece_to, piece_then, near_here}
-use Rattle.match_bodies.proofs.TemplateRuns.{code, frame, slots, v, same_state, template_here, sp_is, has_slots, Surroundings}
+use Rattle.match_bodies.proofs.TemplateShadows.{kept_by_view, kept_here, Below, is_here, is_after, ran_same, RunsKeep, whole, IsPast, past_none, one_piece, piece_to, piece_then, near_here}
+use Rattle.match_bodies.proofs.TemplateRuns.{code, frame, slots, v, same_state, template_here, sp_is, are_here, has_slots, Surroundings}
 
 jump_size : (y : Layout) (at label : ℕ) → at + template_size y (instructions.Jump label) ≡ at + 5
 unfolding template_size size
@@ -28,8 +28,9 @@ keep_some y (Local i) = placed (place_of y i)
     placed : (q : Place) → 1 ≤ length (keep_placed y i q)
     placed (InRegister s) = omega arith
     placed InFrame = by y.base
+    placed Arriving = omega arith
 
-finish_some : (y : Layout) (o : Operation) (x : Slot) → 1 ≤ length (finish_code y o x)
+pub finish_some : (y : Layout) (o : Operation) (x : Slot) → 1 ≤ length (finish_code y o x)
 finish_some y o x = let k = keep_some y x in omega (arith, length-append (work o) (keep y x))
 
 module _ (setting : Setting) (roomy : HaveRoom setting.program) (s : State)
@@ -170,11 +171,12 @@ module _ (setting : Setting) (roomy : HaveRoom setting.program) (s : State)
           let ran = ran_same setting s c b counted mid source kept
           (λ a h. worked.result.own a h ∙ ap (λ (k : Memory). k.byte a) same)
           (λ h. worked.result.bytes (subst (λ (k : Memory). (a : ℕ) → k.byte a < 256) (sym same) h))
-          worked.result.agrees registers in
+          worked.result.agrees rest locals in
           record {
             rip = omega (arith, sizes_append ops (work o));
             registers = registers;
-            is_there = is_after setting s c b counted mid _ _ [] ran around.caller around.owner;
+            is_there = subst (λ (ks : List ℕ). Below setting s c b counted ks mid.memory) registers
+                (is_after setting s c b counted mid _ _ [] ran around.caller around.owner);
           }
 
       -- the rest of the template
@@ -201,8 +203,8 @@ module _ (setting : Setting) (roomy : HaveRoom setting.program) (s : State)
         let there = has_slots setting roomy s c b counted here_now at in
         operands_run (frame setting roomy s c b counted) o first second
         (v setting roomy s c b counted) s.cpu.rip s.cpu.flags (slots setting roomy s c b counted)
-        (room_here setting s c b counted) there.1 there.2 (sp_is setting roomy s c b counted)
-        (holds_here setting s c b counted)
+        (room_here setting s c b counted) there.1 there.2 (are_here setting roomy s c b counted)
+        (sp_is setting roomy s c b counted) (holds_here setting s c b counted)
         (code_split s.memory s.cpu.rip ops (finish_code layout o to)
         (template_here setting roomy s c b counted here_now at)).0
 
@@ -219,7 +221,8 @@ module _ (setting : Setting) (roomy : HaveRoom setting.program) (s : State)
         record {
           rip = omega arith;
           registers = kept_by_view begun.stopped s.cpu.registers begun.rest begun.locals;
-          is_there = subst (Below setting s c b counted) (sym begun.memory)
+          is_there = subst (Below setting s c b counted (kept_here setting s c b counted))
+              (sym begun.memory)
               (is_here setting s c b counted);
         }
 

@@ -1,10 +1,10 @@
 -- A piece of a body's template keeps the shadow.
-use Rattle.std.proofs.Common.{◌≡◌, ℕ, ◌+◌, ◌^◌, ◌<◌, Some, List, ◌∷◌, ◌++◌, length, get_or, sym, ap, subst, ◌∙◌, arith, append_assoc}
+use Rattle.std.proofs.Common.{◌≡◌, ℕ, ◌+◌, ◌^◌, ◌<◌, Some, List, ◌∷◌, ◌++◌, length, get_or, refl, sym, ap, subst, ◌∙◌, arith, append_assoc}
 use Rattle.std.specs.Prelude.{slice_get}
-use Rattle.match_bodies.specs.Words.{Memory, Rsp, Instr, Context, kept_of, State, register, Instruction, LinearBody, BodyName, body_of, sizes, template, Reaches, HasCode, IsReturn, AllKeep, links_of, FindsOwed, owed_of, Setting}
+use Rattle.match_bodies.specs.Words.{Memory, Rsp, Instr, Context, kept_of, State, register, Instruction, LinearBody, BodyName, body_of, sizes, template, Reaches, HasCode, IsReturn, AllKeep, links_of, FindsOwed, owed_of, Setting, WalkGives}
 use Rattle.match_bodies.proofs.Lemmas.{sizes_append, code_split, IsFlow}
 use Rattle.match_bodies.proofs.ReturnAddresses.{within_found, template_there}
-use Rattle.match_bodies.proofs.FlowKeeping.{IsBelow, from_state, flow_keeps}
+use Rattle.match_bodies.proofs.FlowKeeping.{IsBelow, below_both, from_state, flow_keeps}
 use Rattle.match_bodies.specs.Setting.{HasProgram}
 
 module _ (setting : Setting) (name : BodyName) (b : LinearBody) (label : ℕ) (i : Instruction)
@@ -39,32 +39,37 @@ module _ (setting : Setting) (name : BodyName) (b : LinearBody) (label : ℕ) (i
         (code_split m (p.address name label + sizes before) code after
         (code_split m (p.address name label) before (code ++ after) all).1).0
 
-    -- a run over the piece, with the frame as it was and what lies above it in both memories, and
+    -- a run over the piece, with RSP as it was and what lies above the frame in both memories, and
     -- to where a walk finds the return address too
     pub piece_keeps : (u w : State) (kept : List ℕ) (back : ℕ) (others : List ℕ)
         (cs : List Context) → IsFlow code → Reaches (length code) u w
         → u.cpu.rip ≡ p.address name label + sizes before → kept_of u.cpu.registers ≡ kept
-        → kept_of w.cpu.registers ≡ kept → get_or kept 0 0 + (p.layout name).frame + 8 < 2 ^ 64
+        → register w.cpu Rsp ≡ get_or kept 0 0
+        → get_or kept 0 0 + (p.layout name).frame + 8 < 2 ^ 64
         → IsBelow t fs program p q (owed_of p name) u.memory kept (p.layout name).frame back others
         cs
-        → IsBelow t fs program p q (owed_of p name) w.memory kept (p.layout name).frame back others
-        cs
+        → IsBelow t fs program p q (owed_of p name) w.memory (kept_of w.cpu.registers)
+        (p.layout name).frame back others cs
         → FindsOwed t w.memory w.cpu.rip (owed_of p name) → AllKeep t fs (length code) u
     piece_keeps u w kept back others cs flow r here same_begin same_end room begin end finds =
         let size = (p.layout name).frame in
         let o = owed_of p name in
         let own = kept_of u.cpu.registers in
         let back_to = sym same_begin in
-        let same : kept_of w.cpu.registers ≡ own = same_end ∙ back_to in
-        let sp : register w.cpu Rsp ≡ register u.cpu Rsp = ap (λ (ks : List ℕ). get_or ks 0 0)
-        same in
+        let sp : register w.cpu Rsp ≡ register u.cpu Rsp =
+        same_end ∙ ap (λ (ks : List ℕ). get_or ks 0 0) back_to in
         let enough : register u.cpu Rsp + size + 8
         < 2 ^ 64 = subst (λ (ks : List ℕ). get_or ks 0 0 + size + 8 < 2 ^ 64) back_to room in
         let first = subst (λ (ks : List ℕ). IsBelow t fs program p q o u.memory ks size back others
         cs) back_to begin in
-        let last = subst (λ (ks : List ℕ). IsBelow t fs program p q o w.memory ks size back others
-        cs) back_to end in
-        let gives = from_state t fs program p q o w own size back others cs finds same last in
+        let last = below_both t fs program p q o u.memory w.memory own (kept_of w.cpu.registers)
+        size back others cs sp first end in
+        let gives = subst (λ n. let x : Context = record {
+          rip = back;
+          kept = (n + size + 8) ∷ others;
+        } in WalkGives t w (x ∷ cs)) sp
+        (from_state t fs program p q o w (kept_of w.cpu.registers) size back others cs finds refl
+        end) in
         flow_keeps t fs program p q o code u w size back others cs enough
         (λ m done left item has split. piece_finds m u.cpu.rip done left item here has split)
         first last

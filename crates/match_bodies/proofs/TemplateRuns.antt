@@ -1,30 +1,24 @@
 -- A run of a template of the body that runs, and the turn of linear code that it is.
-use Rattle.std.proofs.Common.{◌≡◌, ℕ, zero, suc, ◌+◌, ◌^◌, ◌<◌, true, Option, Some, None, List, [], ◌∷◌, length, get_or, refl, sym, ap, subst, ◌∙◌, arith}
+use Rattle.std.proofs.Common.{◌≡◌, ℕ, suc, ◌+◌, ◌^◌, ◌<◌, true, Option, Some, None, List, [], length, get_or, refl, sym, ap, subst, ◌∙◌, arith}
 use Rattle.std.specs.Prelude.{slice_get}
-use Rattle.std.specs.List.{AllByRecursion}
 use Rattle.std.proofs.lemmas.Option.{slice_get_within, get_or_from_slice_get}
-use Rattle.match_bodies.specs.Words.{Event, Rsp, State, register, distance, arrivals, Instruction, BodyState, LinearBody, BodyName, FuncletBody, Configuration, Layout, template, template_size, code_from, offset_of, MachineView, machine, HasCode, ReachesBody, InstructionDone, Comes, HaveRoom, links_of, begin_of, entry_code, seen_by_templates, counts_of, frame_at, state_of, OwnerHasFrame, Setting, RepresentsAt, HasSlots, step, FramePlace}
+use Rattle.match_bodies.specs.Words.{Event, Rsp, State, register, distance, arrivals, Instruction, BodyState, LinearBody, BodyName, FuncletBody, Configuration, Layout, template, template_size, code_from, offset_of, MachineView, machine, HasCode, ReachesBody, InstructionDone, Comes, HaveRoom, links_of, begin_of, entry_code, seen_by_templates, counts_of, frame_at, state_of, OwnerHasFrame, Setting, RepresentsAt, HasSlots, step, FramePlace, OtherRegisters, AreArrived, KeepsArrivals, IsSpare, IsReturn, Reaches, arrived_in, parameter_register}
 use Rattle.linear_code.specs.declared.instruction.Instruction.TheVariants as instructions
-use Rattle.match_bodies.proofs.Lemmas.{offset_next, code_split, body_instruction_run, template_placed}
+use Rattle.match_bodies.proofs.Lemmas.{offset_next, code_split, body_instruction_run, template_placed, LabelsNear}
 use Rattle.x64_templates.specs.CallStates.{sp_of}
-use Rattle.x64_templates.proofs.Locals.{locals_stay}
+use Rattle.x64_instr.specs.Registers.{number}
+use Rattle.x64_templates.proofs.SparedRegisters.{run_spares, template_spares, parameter_number}
+use Rattle.x64_templates.proofs.Stretches.{template_encodable}
+use Rattle.match_bodies.proofs.StackTop.{leaf_layout, arrives_in_leaf}
+use Rattle.match_bodies.proofs.ArrivedParameters.{each, arriving_is, keeps_arrivals}
 use Rattle.match_bodies.proofs.SilentTurns.{reaches_silently}
 use Rattle.match_bodies.proofs.HomeSpace.{CallerHasFrame}
-use Rattle.match_bodies.proofs.TemplateShadows.{kept_by_view, is_after, ends_at, RunsKeep}
+use Rattle.match_bodies.proofs.TemplateShadows.{is_after, ends_at, near_here, RunsKeep}
 use Rattle.match_bodies.proofs.BodyViews.{IsCounted, is_machine, room_here, holds_here, placed}
 use Rattle.match_bodies.proofs.ChainKeeping.{reaches_keeps, stays_well_formed}
 use Rattle.match_bodies.proofs.TemplateSlots.{Leaves}
-use Rattle.match_bodies.proofs.NextInstruction.{further, Ran, represents_next}
-
--- what of a list holds of each of its elements
-pub each : {A : Type 0} → (P : A → Type 0) (xs : List A) (i : ℕ) (x : A) → AllByRecursion P xs
-    → slice_get xs i ≡ Some x → P x
-each P [] i x h e = cc
-each {A = A} P (y ∷ xs) zero x h e = subst P (the_same y x e) h.0
-  where
-    the_same : (a b : A) → Some a ≡ Some b → a ≡ b
-    the_same a b e = cc
-each P (y ∷ xs) (suc i) x h e = each P xs i x h.1 e
+use Rattle.match_bodies.proofs.NextSlots.{Ran}
+use Rattle.match_bodies.proofs.NextInstruction.{further, represents_next}
 
 pub get_or_is : {A : Type 0} → (xs : List A) (i : ℕ) (x d : A) → slice_get xs i ≡ Some x
     → (get_or xs i d ≡ x) × (i < length xs)
@@ -58,7 +52,7 @@ module _ (setting : Setting) (roomy : HaveRoom setting.program) where
     base = (placed setting s c b counted).base
 
     abbrev pub frame : FramePlace
-    frame = frame_at program p name code (register s.cpu Rsp) base
+    frame = frame_at program p name code (register s.cpu Rsp) base (arrived_in s.cpu)
 
     abbrev pub slots : BodyState
     slots = state_of program p s c base
@@ -112,6 +106,15 @@ module _ (setting : Setting) (roomy : HaveRoom setting.program) where
         ap (offset_of y code.code) k) in
         omega (arith, a.labels (c.frame.next + 1), a.labels c.frame.next, b.rip, n, o, z)
 
+    -- the parameters that stay in registers are there
+    pub are_here : AreArrived frame v
+    are_here = λ i lt. arriving_is s i
+
+    -- and the instruction's result goes to none of them
+    pub keeps_here : (i : Instruction) → slice_get code.code c.frame.next ≡ Some i
+        → KeepsArrivals y i
+    keeps_here = keeps_arrivals setting name code b.body.slots.body c.frame.next
+
     pub sp_is : sp_of v ≡ register s.cpu Rsp
     sp_is = refl
 
@@ -134,8 +137,30 @@ module _ (setting : Setting) (roomy : HaveRoom setting.program) where
         (step frame.reserved (get_or code.code c.frame.next instructions.Separator) slots)) at
         (body_instruction_run frame (links_of p q name) (p.address name 0) code.code c.frame.next v
         s.cpu.flags slots (room_here setting s c b counted) a.labels (omega arith) (omega arith) g.1
-        (subst (HasSlots (counts_of code)) (sym g.0) (has_slots i e)) sp_is
+        (subst (HasSlots (counts_of code)) (sym g.0) (has_slots i e))
+        (subst (KeepsArrivals y) (sym g.0) (keeps_here i e)) are_here sp_is
         (holds_here setting s c b counted) body_code))
+
+    -- a run over the template leaves them where they are
+    abbrev pub RunsSpare : ℕ → Type 0
+    RunsSpare n = (u : State) → Reaches n s u → (i : ℕ) → i < y.arrivals
+        → arrived_in u.cpu i ≡ arrived_in s.cpu i
+
+    pub template_spared : (i : Instruction) → slice_get code.code c.frame.next ≡ Some i
+        → (IsReturn i → ⊥) → RunsSpare (length (template (links_of p q name) y s.cpu.rip i))
+    template_spared i e goes u comes j lt =
+        let leaf = arrives_in_leaf t fs program p q image name code b.body.slots.body j lt in
+        let l = leaf_layout t fs program p q name code leaf
+        (image.laid_out name code b.body.slots.body) in
+        let spare = each IsSpare code.code c.frame.next i l.spares e in
+        let links = links_of p q name in
+        let near = subst (λ a. LabelsNear links y a i) (sym b.rip) (near_here setting s c b counted
+        i e goes) in
+        run_spares (template links y s.cpu.rip i) s u
+        (template_encodable frame links (room_here setting s c b counted) i s.cpu.rip
+        (has_slots i e) near spare goes)
+        (template_spares links y s.cpu.rip i l.none l.in_frame spare (keeps_here i e) goes)
+        (template_here i e) comes (number (parameter_register j)) (parameter_number j)
 
     -- ---- a turn of linear code that stays in the body
 
@@ -160,23 +185,23 @@ module _ (setting : Setting) (roomy : HaveRoom setting.program) where
       pub to_label : (n label rip : ℕ) (d : BodyState) (values ts : List ℕ) (landed : Option ℕ)
           (events : List Event) → ReachesBody frame n s rip v.rest v.locals d → rip
           ≡ p.address name label
-          → label < length code.code → rip < 2 ^ 64 → Leaves code d values ts → landed ≡ None
-          → RunsKeep setting s c b counted n s → (u : State) × (Comes t fs n s [] u) ×
+          → label < length code.code → rip < 2 ^ 64
+          → Leaves p name code d (placed setting s c b counted).values values ts → landed ≡ None
+          → RunsKeep setting s c b counted n s → RunsSpare n → (u : State) × (Comes t fs n s [] u) ×
           (RepresentsAt setting u (further setting c b.body.acts label values ts landed d.memory
           events))
-      to_label n label rip d values ts landed events r at lt small leaves free keep =
+      to_label n label rip d values ts landed events r at lt small leaves free keep spare =
           let u : State = machine r.after rip r.flags in
           let keeps = reaches_keeps n s u r.comes in
-          let kept = kept_by_view r.after s.cpu.registers r.rest
-          (locals_stay y v.locals r.after.locals (image.in_frames name) r.locals) in
           let ran : Ran setting s c b counted u d values
           ts = record {
             changed = record { changes = r.changes; keeps = keeps };
             holds = r.holds;
-            kept = kept;
+            kept = record { rest = r.rest; locals = r.locals };
             leaves = leaves;
           } in
-          let ends = ends_at setting s c b counted u label at lt kept
+          let stack = ap (λ (o : OtherRegisters). o.rsp) r.rest in
+          let ends = ends_at setting s c b counted u label at lt stack
           (is_after setting s c b counted u d values ts ran around.caller around.owner) in (
             u,
             reaches_silently t fs program p q image n s u r.comes (keep u r.comes ends)
@@ -184,5 +209,6 @@ module _ (setting : Setting) (roomy : HaveRoom setting.program) where
                 (silent_at label rip at lt small u refl),
             represents_next setting s c b counted u d values ts ran label landed events at lt
                 (stays_well_formed s u keeps small b.well_formed)
-                (λ value e. absurd (nothing landed value free e)) around.caller around.owner,
+                (λ value e. absurd (nothing landed value free e)) around.caller around.owner
+                (spare u r.comes),
           )

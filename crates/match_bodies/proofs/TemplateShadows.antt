@@ -4,7 +4,7 @@ use Rattle.std.proofs.Common.{◌≡◌, ℕ, suc, ◌+◌, ◌^◌, ◌<◌, �
 use Rattle.std.specs.Prelude.{slice_get, slice_index}
 use Rattle.std.proofs.lemmas.List.{append-nil}
 use Rattle.std.proofs.lemmas.Option.{slice_get_within, get_or_from_slice_get}
-use Rattle.match_bodies.specs.Words.{Memory, Rsp, Instr, Context, context_of, kept_of, State, register, Instruction, BodyState, LinearBody, FuncletBody, Configuration, is_reserved, Layout, sizes, template, template_size, Agrees, IsBytes, Reaches, IsReturn, WalkGives, AllKeep, links_of, FindsOwed, Owed, owed_of, counts_of, state_of, OwnerHasFrame, Setting, RepresentsAt, MachineView, LocalRegisters, OtherRegisters, local_registers, other_registers, registers_of, FrameHolds, frame_at}
+use Rattle.match_bodies.specs.Words.{Memory, Rsp, Instr, Context, context_of, kept_of, State, register, Instruction, BodyState, LinearBody, FuncletBody, Configuration, is_reserved, Layout, sizes, template, template_size, Agrees, IsBytes, Reaches, IsReturn, WalkGives, AllKeep, links_of, FindsOwed, Owed, owed_of, counts_of, state_of, OwnerHasFrame, Setting, RepresentsAt, MachineView, OtherRegisters, local_registers, other_registers, registers_of, FrameHolds, frame_at, arrived_in, GivesCallers, state}
 use Rattle.linear_code.specs.declared.instruction.Instruction.TheVariants as instructions
 use Rattle.match_bodies.proofs.Lemmas.{offset_next, IsFlow, LabelsNear, body_most, labels_near}
 use Rattle.x64_templates.proofs.Bodies.{holds_same, changes_same}
@@ -14,11 +14,14 @@ use Rattle.match_bodies.proofs.BodyCallers.{begin_finds}
 use Rattle.match_bodies.proofs.FlowKeeping.{caller_by, IsBelow, from_state}
 use Rattle.match_bodies.proofs.TemplatePieces.{piece_finds, piece_keeps}
 use Rattle.match_bodies.proofs.BodyFrames.{body_owed, frame_owed}
+use Rattle.match_bodies.proofs.LocalRegisters.{kept_same, registers_kept}
+use Rattle.match_bodies.proofs.LocalPlaces.{leaves_same}
 use Rattle.match_bodies.proofs.OwedCallers.{owed_with}
 use Rattle.match_bodies.proofs.HomeSpace.{CallerHasFrame}
 use Rattle.match_bodies.proofs.ChainKeeping.{Keeps}
 use Rattle.match_bodies.proofs.BodyViews.{IsCounted, placed, count, frame_top, room_here, holds_here, slots_here, locals_here}
-use Rattle.match_bodies.proofs.NextInstruction.{Ran, frame_after, new_on}
+use Rattle.match_bodies.proofs.NextSlots.{Ran, frame_after}
+use Rattle.match_bodies.proofs.NextInstruction.{new_on}
 
 some_length : (code : List Instr) → 1 ≤ length code
     → (item : Instr) × (left : List Instr) × (code ≡ item ∷ left)
@@ -26,31 +29,9 @@ some_length [] le = absurd (omega arith)
 some_length (i ∷ is) le = (i, is, refl)
 
 -- RAX, RCX and RDX are none of the registers that a caller relies on
-pub kept_alike : (v w : MachineView) → v.rest ≡ w.rest → v.locals ≡ w.locals
-    → kept_of (registers_of v) ≡ kept_of (registers_of w)
-kept_alike v w e d = ap (λ (r : OtherRegisters). kept_of (registers_of (record v { rest = r }))) e
-    ∙ ap (λ (l : LocalRegisters). kept_of (registers_of (record w { locals = l }))) d
-
--- and those of locals are among them
-abbrev locals_kept : List ℕ → LocalRegisters
-locals_kept ks = record {
-  rbx = slice_index ks 1;
-  rsi = slice_index ks 3;
-  rdi = slice_index ks 4;
-  r12 = slice_index ks 5;
-  r13 = slice_index ks 6;
-  r14 = slice_index ks 7;
-  r15 = slice_index ks 8;
-}
-
-locals_by_kept : (xs zs : List ℕ) → kept_of zs ≡ kept_of xs
-    → local_registers xs ≡ local_registers zs
-locals_by_kept xs zs e = ap locals_kept (sym e)
-
 pub kept_by_view : (v : MachineView) (xs : List ℕ) → v.rest ≡ other_registers xs
     → v.locals ≡ local_registers xs → kept_of (registers_of v) ≡ kept_of xs
-kept_by_view v xs e d = kept_alike v (record v
-    { rest = other_registers xs; locals = local_registers xs }) e d
+kept_by_view v xs e d = kept_same xs (registers_of v) e d
 
 module _ (setting : Setting) (s : State) (c : Configuration)
     (b : RepresentsAt setting s c) (counted : IsCounted setting c) where
@@ -76,14 +57,15 @@ module _ (setting : Setting) (s : State) (c : Configuration)
   abbrev pub owed_here : Owed
   owed_here = owed_of p c.frame.body
 
-  abbrev pub Below : Memory → Type 0
-  Below m = IsBelow t fs program p q owed_here m kept_here layout_here.frame b.body.back
+  -- with these nonvolatile registers
+  abbrev pub Below : List ℕ → Memory → Type 0
+  Below kept m = IsBelow t fs program p q owed_here m kept layout_here.frame b.body.back
       b.body.others beyond_here
 
   enough : get_or kept_here 0 0 + layout_here.frame + 8 < 2 ^ 64
   enough = let h = frame_top setting s c b counted in omega arith
 
-  pub is_here : Below s.memory
+  pub is_here : Below kept_here s.memory
   is_here = record {
     program_there = b.memory.code;
     owed = λ rip. owed_with s.memory (context_of s.cpu) (record { rip = rip; kept = kept_here })
@@ -97,61 +79,72 @@ module _ (setting : Setting) (s : State) (c : Configuration)
       → Ran setting s c b counted u d values ts
       → (p.leaf c.frame.body ≡ true → CallerHasFrame p c.below)
       → ((k : ℕ) → c.frame.body ≡ FuncletBody k
-      → OwnerHasFrame t fs program p c.frame.activation c.below b.body.acts) → Below u.memory
+      → OwnerHasFrame t fs program p c.frame.activation c.below b.body.acts)
+      → Below (kept_of u.cpu.registers) u.memory
   is_after u d values ts r caller owner = record {
     program_there = program_kept t fs program p q s.memory u.memory
         (record { protection = r.changed.keeps.protection; fixed = r.changed.keeps.fixed })
         b.memory.code;
     owed = λ rip.
-        (let up : register u.cpu Rsp ≡ register s.cpu Rsp =
-        ap (λ (ks : List ℕ). slice_index ks 0) r.kept in
-        let e = enough in
-        owed_with u.memory (context_of u.cpu) (record { rip = rip; kept = kept_here }) owed_here
-        layout_here.frame b.body.back b.body.others (sym r.kept)
+        (let e = enough in
+        owed_with u.memory (context_of u.cpu)
+        (record { rip = rip; kept = kept_of u.cpu.registers }) owed_here layout_here.frame
+        b.body.back b.body.others refl
         (frame_owed setting c.frame.body code_here b.body.slots.body u b.body.back b.body.others
         b.body.eight
-        (let z : register u.cpu Rsp + layout_here.frame + 8 < 2 ^ 64 = omega arith in z)
+        (let z : register u.cpu Rsp + layout_here.frame + 8 < 2 ^ 64 = omega (arith, up) in z)
         (frame_after setting s c b counted u d values ts r)));
-    beyond = on_stack t u.memory caller_here 0 b.body.is
-        (new_on setting s c b counted u d values ts r caller owner).is_there.stack;
+    beyond = subst (λ n. let x : Context = record {
+      rip = b.body.back;
+      kept = (n + layout_here.frame + 8) ∷ b.body.others;
+    } in GivesCallers t u.memory (state x 0) beyond_here) (sym up)
+        (on_stack t u.memory caller_here 0 b.body.is
+        (new_on setting s c b counted u d values ts r caller owner).is_there.stack);
   }
+    where
+      up : register u.cpu Rsp ≡ register s.cpu Rsp
+      up = ap (λ (o : OtherRegisters). o.rsp) r.kept.rest
 
   -- where no reserved byte has changed the slots are as they were
   pub ran_same : (u : State) (source : Memory) → Keeps s u
       → ((a : ℕ) → is_reserved program.globals a ≡ true → u.memory.byte a ≡ s.memory.byte a)
       → (IsBytes s.memory → IsBytes u.memory) → Agrees (is_reserved program.globals) u.memory source
-      → kept_of u.cpu.registers ≡ kept_of s.cpu.registers
+      → other_registers u.cpu.registers ≡ other_registers s.cpu.registers
+      → local_registers u.cpu.registers ≡ local_registers s.cpu.registers
       → Ran setting s c b counted u (record {
         slots = (state_of program p s c
             (placed setting s c b counted).base).slots;
         memory = source;
       })
       (placed setting s c b counted).values []
-  ran_same u source keeps own bytes agrees kept =
+  ran_same u source keeps own bytes agrees rest locals =
       let base = (placed setting s c b counted).base in
       let room = room_here setting s c b counted in
       let w = slots_here setting s c b counted in
       record {
         changed = record {
           changes = changes_same layout_here (counts_of code_here)
-              (is_reserved program.globals) (register s.cpu Rsp) base room s.memory u.memory own
+              (is_reserved program.globals) (register s.cpu Rsp) base (arrived_in s.cpu) room
+              s.memory u.memory own
               keeps.protection bytes;
           keeps = keeps;
         };
         holds = subst (λ l. FrameHolds (frame_at program p c.frame.body code_here
-            (register s.cpu Rsp) base) l u.memory (record {
+            (register s.cpu Rsp) base (arrived_in s.cpu)) l u.memory (record {
               slots = (state_of program p s c base).slots;
               memory = source;
-            })) (locals_by_kept s.cpu.registers u.cpu.registers kept)
+            })) (sym locals)
             (holds_same layout_here (counts_of code_here) (is_reserved program.globals)
-            (register s.cpu Rsp) base room (local_registers s.cpu.registers) s.memory u.memory
-            source (state_of program p s c base) own keeps.protection agrees
+            (register s.cpu Rsp) base (arrived_in s.cpu) room (local_registers s.cpu.registers)
+            s.memory u.memory source (state_of program p s c base) own keeps.protection agrees
             (holds_here setting s c b counted));
-        kept = kept;
+        kept = registers_kept layout_here s.cpu.registers u.cpu.registers rest locals;
         leaves = record {
           count = count setting s c b counted;
-          locals = λ i lt. w.locals i lt ∙ ap (λ xs. slice_index xs i)
+          locals = λ i lt reached. w.locals i lt reached ∙ ap (λ xs. slice_index xs i)
               (locals_here setting s c b counted);
+          others = λ k e. leaves_same (p.register c.frame.body) 0
+              (placed setting s c b counted).values;
           few = omega arith;
           temporaries = λ i v e. cc;
         };
@@ -159,18 +152,18 @@ module _ (setting : Setting) (s : State) (c : Configuration)
 
   -- ---- runs of the template, from its begin or from within
 
-  -- where the walk finds the return address, with the frame as it was
+  -- where the walk finds the return address: RSP is as it was, and the frame is as its codes tell
   pub record Ends (u : State) : Type 0 where
-    pub registers : kept_of u.cpu.registers ≡ kept_here
-    pub is_there : Below u.memory
+    pub stack : register u.cpu Rsp ≡ register s.cpu Rsp
+    pub is_there : Below (kept_of u.cpu.registers) u.memory
     pub finds : FindsOwed t u.memory u.cpu.rip owed_here
 
   -- at an instruction of the body
   pub ends_at : (u : State) (label : ℕ) → u.cpu.rip ≡ p.address c.frame.body label
-      → label < length code_here.code → kept_of u.cpu.registers ≡ kept_here → Below u.memory
-      → Ends u
-  ends_at u label rip lt registers is_there = record {
-    registers = registers;
+      → label < length code_here.code → register u.cpu Rsp ≡ register s.cpu Rsp
+      → Below (kept_of u.cpu.registers) u.memory → Ends u
+  ends_at u label rip lt stack is_there = record {
+    stack = stack;
     is_there = is_there;
     finds = subst (λ a. FindsOwed t u.memory a owed_here) (sym rip)
         (begin_finds t fs program p q image u.memory c.frame.body code_here label b.body.slots.body
@@ -179,9 +172,12 @@ module _ (setting : Setting) (s : State) (c : Configuration)
 
   -- there the walk gives these callers
   pub ends_gives : (u : State) → Ends u → WalkGives t u (caller_here ∷ beyond_here)
-  ends_gives u e =
-      from_state t fs program p q owed_here u kept_here layout_here.frame b.body.back b.body.others
-      beyond_here e.finds e.registers e.is_there
+  ends_gives u e = subst (λ n. let x : Context = record {
+    rip = b.body.back;
+    kept = (n + layout_here.frame + 8) ∷ b.body.others;
+  } in WalkGives t u (x ∷ beyond_here)) e.stack
+      (from_state t fs program p q owed_here u (kept_of u.cpu.registers) layout_here.frame
+      b.body.back b.body.others beyond_here e.finds refl e.is_there)
 
   -- each turn of a run that ends so keeps the shadow
   abbrev pub RunsKeep : ℕ → State → Type 0
@@ -196,7 +192,7 @@ module _ (setting : Setting) (s : State) (c : Configuration)
     pub record IsPast (before : List Instr) (x : State) : Type 0 where
       pub rip : x.cpu.rip ≡ p.address c.frame.body c.frame.next + sizes before
       pub registers : kept_of x.cpu.registers ≡ kept_here
-      pub is_there : Below x.memory
+      pub is_there : Below kept_here x.memory
 
     pub past_none : IsPast [] s
     past_none = let e = b.rip in record { rip = omega arith; registers = refl; is_there = is_here }
@@ -208,7 +204,7 @@ module _ (setting : Setting) (s : State) (c : Configuration)
         piece_keeps setting c.frame.body code_here c.frame.next i b.body.slots.body at goes before
         code [] (parts ∙ ap (λ (xs : List Instr). before ++ xs) (sym (append-nil code))) x u
         kept_here b.body.back b.body.others beyond_here flow r past.rip past.registers
-        ends.registers enough past.is_there ends.is_there ends.finds
+        ends.stack enough past.is_there ends.is_there ends.finds
 
     -- where another instruction of the template is left, the walk finds the return address
     pub past_ends : (before left : List Instr) (x : State) → whole ≡ before ++ left
@@ -223,8 +219,8 @@ module _ (setting : Setting) (s : State) (c : Configuration)
         b.body.slots.body at goes before left [] parts_after x.memory begin [] z.1 z.0 refl
         past.is_there.program_there z.2 in
         record {
-          registers = past.registers;
-          is_there = past.is_there;
+          stack = ap (λ (ks : List ℕ). slice_index ks 0) past.registers;
+          is_there = subst (λ (ks : List ℕ). Below ks x.memory) (sym past.registers) past.is_there;
           finds = subst (λ a. FindsOwed t x.memory a owed_here) (none ∙ sym past.rip)
               finds;
         }
@@ -239,7 +235,7 @@ module _ (setting : Setting) (s : State) (c : Configuration)
         (parts ∙ sym (append_assoc before first second)) some there in
         piece_keeps setting c.frame.body code_here c.frame.next i b.body.slots.body at goes before
         first second parts x mid kept_here b.body.back b.body.others beyond_here flow comes past.rip
-        past.registers ends.registers enough past.is_there ends.is_there ends.finds
+        past.registers ends.stack enough past.is_there ends.is_there ends.finds
 
     -- and with them, where they do so too
     pub piece_then : (before first second : List Instr) (x mid : State)

@@ -1,8 +1,8 @@
 -- Where an instruction begins, RIP is in its code: each template has a byte at least.
 use Rattle.std.proofs.Common.{◌≡◌, ℕ, suc, ◌+◌, ◌*◌, ◌%◌, ◌<◌, ◌≤◌, List, ◌++◌, length, get_or, Option, Some, None, ap, ◌∙◌, arith, length-append}
 use Rattle.seh_num.specs.declared.width.Width.TheVariants.{W64}
-use Rattle.template_code.specs.Operations.{move}
-use Rattle.match_bodies.specs.Words.{Width, Reg, Rax, Rcx, Rsp, RegisterOrMemory, Functions, Funclet, Slot, Local, Temporary, Instruction, LinearProgram, LinearBody, BodyName, body_of, Layout, size, sizes, before, fetched, local_at, fetch_local, keep_local, fetch, keep, operands_code, finish_code, template_size, ImagePlan, InCode, Sites, IsProgramImage, prefixes, modrm_bits, opcode_bytes, place_bytes, modrm, put_back, finally_arguments, Place, InRegister, InFrame, place_of, fetch_placed, keep_placed}
+use Rattle.template_code.specs.Operations.{move, work}
+use Rattle.match_bodies.specs.Words.{Width, Reg, Rax, Rcx, Rsp, RegisterOrMemory, Functions, Funclet, Slot, Local, Temporary, Instruction, LinearProgram, LinearBody, BodyName, body_of, Layout, size, sizes, fetched, local_at, fetch_local, keep_local, fetch, keep, operands_code, finish_code, template_size, ImagePlan, InCode, Sites, IsProgramImage, prefixes, modrm_bits, opcode_bytes, place_bytes, modrm, put_back, finally_arguments, Place, InRegister, InFrame, Arriving, parameter_register, place_of, fetch_placed, keep_placed}
 use Rattle.x64_encode.specs.declared.writing.Opcode.{Opcode}
 use Rattle.x64_encode.specs.declared.writing.Opcode.TheVariants as opcodes
 use Rattle.linear_code.specs.declared.instruction.Instruction.TheVariants as instructions
@@ -48,6 +48,7 @@ move_some to from = modrm_some _ _ _ _
 fetch_placed_some : (y : Layout) (r : Reg) (i : ℕ) (p : Place) → 1 ≤ sizes (fetch_placed y r i p)
 fetch_placed_some y r i (InRegister q) = let e = move_some r q in omega arith
 fetch_placed_some y r i InFrame = fetch_local_some y.base r (local_at y i)
+fetch_placed_some y r i Arriving = let e = move_some r (parameter_register i) in omega arith
 
 pub fetch_some : (y : Layout) (r : Reg) (x : Slot) → 1 ≤ sizes (fetch y r x)
 fetch_some y r (Temporary i) = let e = fetched_some r Rsp (y.temporaries + 8 * i) in omega arith
@@ -60,6 +61,7 @@ keep_local_some (Some b) d = let e = fetched_some Rcx Rsp b in omega arith
 keep_placed_some : (y : Layout) (i : ℕ) (p : Place) → 1 ≤ sizes (keep_placed y i p)
 keep_placed_some y i (InRegister q) = let e = move_some q Rax in omega arith
 keep_placed_some y i InFrame = keep_local_some y.base (local_at y i)
+keep_placed_some y i Arriving = let e = move_some (parameter_register i) Rax in omega arith
 
 keep_some : (y : Layout) (x : Slot) → 1 ≤ sizes (keep y x)
 keep_some y (Temporary i) = let e = put_some Rsp (y.temporaries + 8 * i) in omega arith
@@ -72,10 +74,9 @@ unfolding template_size size
 template_some y (instructions.Compute to o first second) =
     omega (
       arith,
-      fetch_some y Rax first,
-      sizes_append (operands_code y o first second)
-          (finish_code y o to),
-      sizes_append (fetch y Rax first) (fetch y Rcx second ++ before o),
+      keep_some y to,
+      sizes_append (operands_code y o first second) (finish_code y o to),
+      sizes_append (work o) (keep y to),
     )
 template_some y (instructions.Information to field) = let e = fetched_some Rax Rsp y.pointers in
     omega arith

@@ -1,7 +1,7 @@
 -- What templates leave in the slots of a body.
 use Rattle.std.proofs.Common.{◌≡◌, ℕ, zero, suc, ◌<◌, ◌≤◌, Some, List, [], ◌∷◌, length, refl, arith}
 use Rattle.std.specs.Prelude.{slice_get, slice_index}
-use Rattle.match_bodies.specs.Words.{Local, Temporary, BodyState, LinearBody, Region, holds}
+use Rattle.match_bodies.specs.Words.{Local, Temporary, BodyState, LinearBody, BodyName, FuncletBody, ImagePlan, IsReached, LeavesRegisters, Region, holds}
 use Rattle.std.specs.List.{AllByRecursion}
 
 -- ---- the numbers of locals
@@ -21,9 +21,13 @@ pub same_regions : (rs : List Region) (label : ℕ)
 same_regions [] label = tt
 same_regions (r ∷ rs) label = (refl, same_regions rs label)
 
--- what templates leave in a body's slots: these locals, and these temporaries
-pub record Leaves (b : LinearBody) (d : BodyState) (values ts : List ℕ) : Type 0 where
+-- what templates leave in a body's slots: these temporaries, and these locals, of which a funclet
+-- leaves those that it doesn't reach as they were
+pub record Leaves (p : ImagePlan) (name : BodyName) (b : LinearBody) (d : BodyState)
+    (old values ts : List ℕ) : Type 0 where
   pub count : length values ≡ b.locals
-  pub locals : (i : ℕ) → i < b.locals → d.slots (Local i) ≡ slice_index values i
+  pub locals : (i : ℕ) → i < b.locals → IsReached p name i
+      → d.slots (Local i) ≡ slice_index values i
+  pub others : (k : ℕ) → name ≡ FuncletBody k → LeavesRegisters (p.register name) 0 old values
   pub few : length ts ≤ b.temporaries
   pub temporaries : (i v : ℕ) → slice_get ts i ≡ Some v → d.slots (Temporary i) ≡ v

@@ -18,6 +18,7 @@ use Rattle.match_stack.specs.ItemMatches.{Activation, locals_of, activations_bel
 use Rattle.match_stack.specs.StackRecords.{On}
 use Rattle.match_stack.specs.DispatchStates.{IsWellFormed}
 use Rattle.match_bodies.specs.CodeSites.{Sites}
+use Rattle.match_bodies.specs.LocalRegisters.{now_of}
 use Rattle.match_bodies.specs.ProgramImages.{IsMachineMemory, frame_of}
 
 -- where the locals of a body end above RSP at the latest, and its temporaries: in a leaf function
@@ -72,6 +73,7 @@ module _ (t : Functions) (fs : List Funclet) (program : LinearProgram) (p : Imag
     pub acts : List Activation
     pub store : c.store.activations ≡ locals_of acts
     pub slots : BodyWaits t fs program p s.memory (context_of s.cpu)
+        (now_of (p.leaf c.frame.body) s.cpu)
         (slots_end (p.layout c.frame.body) (p.leaf c.frame.body))
         (last_temporary (p.layout c.frame.body) c.frame.body (p.leaf c.frame.body)) c.frame acts
     pub pointers : HasPointers t fs program p s.memory (p.layout c.frame.body) (register s.cpu Rsp)

@@ -1,11 +1,18 @@
 -- Where the slots of each body are (Microsoft x64 ABI, "Stack allocation").
 use Rattle.std.specs.Prelude.{◌≡◌, ℕ, ◌+◌, ◌*◌, ◌≤◌, true, false, Bool, List, [], ◌∷◌, length, slice_get, Some, None}
+use Rattle.std.specs.List.{AllByRecursion}
 use Rattle.host_layout.specs.declared.range.TheConstants.{PAGE}
 use Rattle.linear_code.specs.Program.{LinearProgram, LinearBody, LinearFunclet}
 use Rattle.linear_machine.specs.Frames.{BodyName, FunctionBody, FuncletBody, body_of}
 use Rattle.template_code.specs.declared.layout.Layout.{Layout}
+use Rattle.x64_instr.specs.declared.register.Reg.{Reg}
+use Rattle.x64_instr.specs.Registers.{number}
+use Rattle.template_code.specs.declared.layout.Place.TheVariants.{InRegister, InFrame}
+use Rattle.template_code.specs.Places.{place_of}
 use Rattle.template_code.specs.Frames.{frame_plan, plan_of_layout}
-use Rattle.frame_rules.specs.Plan.{FramePlan, IsPlan, Saved, frame_size}
+use Rattle.x64_templates.specs.InstructionRuns.{KeepsArrivals, IsSpare}
+use Rattle.frame_rules.specs.Codes.{is_saved}
+use Rattle.frame_rules.specs.Plan.{FramePlan, IsPlan, Saved, operations_of, frame_size}
 use Rattle.match_stack.specs.ImagePlan.{ImagePlan}
 use Rattle.template_code.specs.declared.layout.TheConstants.{LARGEST_FRAME}
 
@@ -38,8 +45,14 @@ pub record IsFunctionLayout (y : Layout) (b : LinearBody) : Type 0 where
   pub plan : IsFramePlan y (plan_of_layout y 0)
   -- RBX, RSI, RDI, R12 to R15 and the frame register
   pub few : saved_count (plan_of_layout y 0) ≤ 8
+  -- its prologue saves the registers of its locals
+  pub saves : (x : ℕ) (r : Reg) → place_of y x ≡ InRegister r
+      → is_saved (number r) (operations_of (plan_of_layout y 0)) ≡ true
+  -- no parameter stays in the volatile register in which it arrives
+  pub none_arrive : y.arrivals ≡ 0
 
--- a leaf function has no frame: its slots are in the home space above its return address
+-- a leaf function has no frame: its parameters stay in the registers in which they arrive, which
+-- its code leaves alone, and its other slots are in the home space above its return address
 pub record IsLeafLayout (y : Layout) (b : LinearBody) : Type 0 where
   pub none : y.base ≡ None
   pub slots : y.slots ≡ 0
@@ -48,6 +61,10 @@ pub record IsLeafLayout (y : Layout) (b : LinearBody) : Type 0 where
   pub temporaries : y.temporaries ≡ 8 + 8 * b.locals
   pub few : b.locals + b.temporaries ≤ 4
   pub plan : plan_of_layout y 0 ≡ frame_plan 0 0
+  pub arrive : y.arrivals ≤ b.locals
+  pub in_frame : (x : ℕ) → y.arrivals ≤ x → place_of y x ≡ InFrame
+  pub spares : AllByRecursion IsSpare b.code
+  pub keeps : AllByRecursion (KeepsArrivals y) b.code
 
 -- a funclet's frame: home space and further arguments, the base, the address of EXCEPTION_POINTERS,
 -- temporaries, and what it saves; its locals are those of its function, above the base
@@ -62,8 +79,10 @@ pub record IsFuncletLayout (y function : Layout) (b : LinearBody) : Type 0 where
   pub locals : y.locals ≡ function.locals
   pub small : y.frame ≤ PAGE
   pub plan : IsFramePlan y (plan_of_layout y 0)
-  -- it saves none
+  -- it saves none, and reaches those of its function's locals that stand in the frame
   pub bare : saved_count (plan_of_layout y 0) ≡ 0
+  pub in_frame : (x : ℕ) → place_of y x ≡ InFrame
+  pub none_arrive : y.arrivals ≡ 0
 
 module _ (program : LinearProgram) (p : ImagePlan) where
   -- the layout of a leaf function, or of one with a frame
@@ -80,6 +99,8 @@ module _ (program : LinearProgram) (p : ImagePlan) where
     pub function : LinearBody
     pub function_there : body_of program (FunctionBody funclet.function) ≡ Some function
     pub same_locals : b.locals ≡ function.locals
+    pub same_registers : (x : ℕ) → p.register (FuncletBody k) x
+        ≡ p.register (FunctionBody funclet.function) x
     pub layout : IsFuncletLayout (p.layout (FuncletBody k))
         (p.layout (FunctionBody funclet.function)) b
 

@@ -1,6 +1,7 @@
 pub mod CodeSites
 pub mod Layouts
 pub mod Callers
+pub mod LocalRegisters
 pub mod ProgramImages
 pub mod Bodies
 pub mod Setting

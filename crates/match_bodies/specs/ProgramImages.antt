@@ -1,5 +1,6 @@
 -- What an image has of a linear program: its code in memory, and what is known of its addresses.
-use Rattle.std.specs.Prelude.{◌≡◌, ◌≢◌, ℕ, ◌+◌, ◌^◌, ◌<◌, ◌≤◌, Bool, true, false, List, [], ◌∷◌, ◌++◌, length, slice_get, Some, None, Ok}
+use Rattle.std.specs.Prelude.{◌≡◌, ◌≢◌, ℕ, ◌+◌, ◌^◌, ◌<◌, ◌≤◌, Bool, true, false, List, [], ◌∷◌, ◌++◌, length, slice_get, Some, Ok}
+use Rattle.std.specs.List.{AllByRecursion}
 use Rattle.host_layout.specs.declared.range.TheConstants.{IMAGE_BASE, IMAGE_RANGE_END, STACK_START, STACK_END}
 use Rattle.host_layout.specs.Ranges.{in_arena}
 use Rattle.host_layout.specs.declared.service.Service.{Service}
@@ -28,17 +29,17 @@ use Rattle.linear_code.specs.declared.instruction.Instruction.{Instruction}
 use Rattle.linear_code.specs.declared.instruction.Instruction.TheVariants as instructions
 use Rattle.linear_code.specs.declared.program.FuncletKind.{FuncletKind}
 use Rattle.linear_code.specs.declared.program.FuncletKind.TheVariants.{Filter, Finally}
-use Rattle.linear_code.specs.Program.{LinearProgram, LinearBody, LinearFunclet}
-use Rattle.linear_machine.specs.Frames.{BodyName, body_of, Frame, Resumption, AfterCall, SameOperation}
+use Rattle.linear_code.specs.Program.{LinearProgram, LinearBody, LinearFunction, LinearFunclet}
+use Rattle.linear_machine.specs.Frames.{BodyName, FunctionBody, FuncletBody, body_of, Frame, Resumption, AfterCall, SameOperation}
 use Rattle.linear_machine.specs.Run.{instruction_in}
 use Rattle.linear_machine.specs.BuiltInCalls.{CallsBuiltIn}
 use Rattle.template_code.specs.Bytes.{sizes}
+use Rattle.template_code.specs.Operands as operands
 use Rattle.template_code.specs.Slots.{fetch, operands_code}
 use Rattle.template_code.specs.Calls.{return_at}
 use Rattle.template_code.specs.Probing.{check_stack}
 use Rattle.template_code.specs.Template.{template, HasLabels, body_size}
-use Rattle.template_code.specs.declared.layout.Place.TheVariants.{InFrame}
-use Rattle.template_code.specs.Places.{place_of}
+use Rattle.template_code.specs.Places.{register_of}
 use Rattle.x64_templates.specs.Straight.{local_registers, other_registers, MachineView}
 use Rattle.x64_templates.specs.Frames.{Agrees}
 use Rattle.x64_templates.specs.Implements.{IsReady}
@@ -55,7 +56,10 @@ use Rattle.frame_rules.specs.Bytes.{spell}
 use Rattle.frame_rules.specs.Plan as rules
 use Rattle.frame_rules.specs.Plan.{Saved}
 use Rattle.match_bodies.specs.CodeSites.{Sites, body_plan, links_of, begin_of, making_size, epilogue_through, arguments_code, entry_code, code_of}
+use Rattle.lowering_invariants.specs.Registers.{SlotsHave, FlagHas}
 use Rattle.match_bodies.specs.Layouts.{AreLaidOut}
+use Rattle.match_bodies.specs.LocalRegisters.{now_of, RegistersHold}
+use Rattle.match_bodies.specs.BodyViews.{IsReached}
 use Rattle.match_bodies.specs.Callers.{FindsReturn, FindsOwed, owed_after, owed_of, owed_opening, owed_pops}
 
 -- the service of a built-in function
@@ -202,9 +206,10 @@ module _ (t : Functions) (fs : List Funclet) (program : LinearProgram) (p : Imag
     pub here : saved.rip ≡ return_at (p.layout b.body) first (p.address b.body b.next + 5)
     pub no_result : register saved Rax ≡ 0
 
-  -- at the machine instruction that faulted, with the same operands in their registers: they are
-  -- temporaries, which no filter changes
-  pub record WorksAgain (b : Frame) (saved : Cpu) : Type 0 where
+  -- at the machine instruction that faulted, with the operands that it reads in their registers:
+  -- they are temporaries, which no filter changes; a leaf function's locals, which have these
+  -- numbers, in theirs
+  pub record WorksAgain (b : Frame) (values : List ℕ) (saved : Cpu) : Type 0 where
     pub to : Slot
     pub operation : Operation
     pub first : ℕ
@@ -213,17 +218,21 @@ module _ (t : Functions) (fs : List Funclet) (program : LinearProgram) (p : Imag
         (Temporary second))
     pub here : saved.rip ≡ p.address b.body b.next + sizes
         (operands_code (p.layout b.body) operation (Temporary first) (Temporary second))
-    pub has_first : slice_get b.temporaries first ≡ Some (register saved Rax)
-    pub has_second : slice_get b.temporaries second ≡ Some (register saved Rcx)
+    pub has_first : operands.has_first operation ≡ true
+        → slice_get b.temporaries first ≡ Some (register saved Rax)
+    pub has_second : operands.has_second operation ≡ true
+        → slice_get b.temporaries second ≡ Some (register saved Rcx)
     pub ready : IsReady operation (view_of saved)
+    pub locals : RegistersHold (now_of true saved) (p.register b.body) 0 values
 
-  abbrev pub IsResumption : Resumption → Frame → Cpu → Type 0
-  IsResumption AfterCall b saved = ReturnsThere b saved
-  IsResumption SameOperation b saved = WorksAgain b saved
+  abbrev pub IsResumption : Resumption → Frame → List ℕ → Cpu → Type 0
+  IsResumption AfterCall b values saved = ReturnsThere b saved
+  IsResumption SameOperation b values saved = WorksAgain b values saved
 
-  pub record SaysResumptions (resumption : Resumption) (b : Frame) (saved : Cpu) : Type 0 where
-    pub says : IsResumption resumption b saved → p.resumes resumption b saved ≡ true
-    pub said : p.resumes resumption b saved ≡ true → IsResumption resumption b saved
+  pub record SaysResumptions (resumption : Resumption) (b : Frame) (values : List ℕ)
+      (saved : Cpu) : Type 0 where
+    pub says : IsResumption resumption b values saved → p.resumes resumption b values saved ≡ true
+    pub said : p.resumes resumption b values saved ≡ true → IsResumption resumption b values saved
 
   -- ---- funclets
 
@@ -231,6 +240,11 @@ module _ (t : Functions) (fs : List Funclet) (program : LinearProgram) (p : Imag
   abbrev pub is_finally : FuncletKind → Bool
   is_finally Filter = false
   is_finally (Finally flag) = true
+
+  -- of its function's locals a funclet names those alone that it reaches
+  pub record NamesReached (k : ℕ) (f : LinearFunclet) : Type 0 where
+    pub flag : FlagHas (IsReached p (FuncletBody k)) f.kind
+    pub code : AllByRecursion (SlotsHave (IsReached p (FuncletBody k))) f.body.code
 
   -- RIP arrives at a funclet where its first byte is, and shows the event of its number
   pub record FuncletsBegin : Type 0 where
@@ -307,9 +321,14 @@ module _ (t : Functions) (fs : List Funclet) (program : LinearProgram) (p : Imag
     pub addresses : (name : BodyName) (b : LinearBody) → body_of program name ≡ Some b
         → HasAddresses name b
     pub check_stack : IsInImage q.check_stack (q.check_stack + sizes check_stack)
-    -- all locals are in frames
-    pub no_registers : (name : BodyName) (local : ℕ) → p.register name local ≡ None
-    pub in_frames : (name : BodyName) (local : ℕ) → place_of (p.layout name) local ≡ InFrame
+    -- a function's locals stand where its layout says
+    pub registers : (f x : ℕ) → p.register (FunctionBody f) x
+        ≡ register_of (p.layout (FunctionBody f)) x
+    -- all parameters of a leaf function stay in the registers in which they arrive
+    pub arrivals : (f : ℕ) (g : LinearFunction) → slice_get program.functions f ≡ Some g
+        → p.leaf (FunctionBody f) ≡ true → (p.layout (FunctionBody f)).arrivals ≡ g.parameters
+    pub spares : (k : ℕ) (f : LinearFunclet) → slice_get program.funclets k ≡ Some f
+        → NamesReached k f
     pub lands : (name : BodyName) (b : LinearBody) (label : ℕ) → body_of program name ≡ Some b
         → label < length b.code → p.lands name label ≡ true
     pub landings : (name : BodyName) (b : LinearBody) (label : ℕ) → body_of program name ≡ Some b
@@ -319,8 +338,8 @@ module _ (t : Functions) (fs : List Funclet) (program : LinearProgram) (p : Imag
     pub frames : FramesAreWaiting
     pub leaves : LeavesAreWaiting
     pub funclets : FuncletsBegin
-    pub resumptions : (resumption : Resumption) (b : Frame) (saved : Cpu)
-        → SaysResumptions resumption b saved
+    pub resumptions : (resumption : Resumption) (b : Frame) (values : List ℕ) (saved : Cpu)
+        → SaysResumptions resumption b values saved
     pub callers : (name : BodyName) (b : LinearBody) → body_of program name ≡ Some b
         → FindsCallers name b
     pub callers_outside : FindsCallersOutside

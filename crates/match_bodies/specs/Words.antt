@@ -52,9 +52,9 @@ pub use Rattle.template_code.specs.declared.layout.Layout.{Layout}
 pub use Rattle.template_code.specs.declared.layout.TheConstants.{LARGEST_FRAME}
 pub use Rattle.x64_templates.specs.Epilogues.{IsReturn}
 pub use Rattle.x64_templates.specs.Frames.{Agrees, InTemporaries, InLocals, IsBytes, HasBase, SlotsHaveRoom, MemoryKeepsBase, KeepsReserved, HoldsBody, Changes}
-pub use Rattle.x64_templates.specs.InstructionRuns.{InstructionDone}
+pub use Rattle.x64_templates.specs.InstructionRuns.{InstructionDone, KeepsArrivals, IsSpare}
 pub use Rattle.x64_templates.specs.Keeping.{Flows, StoresOnce, is_volatile}
-pub use Rattle.x64_templates.specs.Runs.{FrameHolds, Steps, HasCode, Reaches, Enters, RunsInside, ReachesInside, ReachesBody, Roomy, Computed, Runs, FramePlace}
+pub use Rattle.x64_templates.specs.Runs.{FrameHolds, Steps, HasCode, Reaches, Enters, AreArrived, RunsInside, ReachesInside, ReachesBody, Roomy, Computed, Runs, FramePlace}
 pub use Rattle.x64_templates.specs.Straight.{machine, MachineView, AreSmall, takes_frame, LocalRegisters, OtherRegisters, local_registers, other_registers, registers_of}
 pub use Rattle.x64_templates.specs.Thunks.{HasThunk}
 pub use Rattle.virtual_unwind.specs.CallerOf.{Functions, distance, CallerFrame}
@@ -69,25 +69,26 @@ pub use Rattle.match_runs.specs.Matched.{Moves}
 pub use Rattle.match_runs.specs.Shadow.{GivesCallers, is_call, KeepsShadow, AllKeep, WalkGives, calls, caller_at, drop_below}
 pub use Rattle.match_stack.specs.DispatchStates.{IsWellFormed}
 pub use Rattle.match_stack.specs.ImagePlan.{ImagePlan, InCode, IsGiven}
-pub use Rattle.match_stack.specs.ItemMatches.{Activation, IsActivation, locals_of, activations_below, HoldsWords, IsInPlace, HoldsPlaces, HasActivation, HoldsLocals, ActivationHasBase, home_end, Linked, temporaries_end, HasPointers, IsAbove, HasSpace, below_end, BodyWaits, FuncletIsAbove, record_room, FrameWaits, LeafWaits}
+pub use Rattle.match_stack.specs.ItemMatches.{Activation, IsActivation, locals_of, activations_below, HoldsWords, IsInPlace, HoldsPlaces, HasActivation, HoldsLocals, ActivationHasBase, home_end, Linked, temporaries_end, HasPointers, IsAbove, HasSpace, below_end, BodyWaits, FuncletIsAbove, record_room, FrameWaits, LeafWaits, Resumes, leaf_values}
 pub use Rattle.match_stack.specs.ListLaws.{IsLinkedStack, KeepsStack}
 pub use Rattle.match_stack.specs.PlainWalks.{state, decided_or, plain_unwind}
 pub use Rattle.match_stack.specs.Stack.{IsAsTold, StackItem, Framed, Leaf, Searching, Unwinding, IsStack, after_frame, after_leaf, StackFrame, FrameIsAt, ItemIsAt, OwnedBy, context_after, LeafIsAt, Owned, caller_frame, caller_of_leaf, Agree}
 pub use Rattle.match_stack.specs.StackRecords.{On, IsData}
 pub use Rattle.match_stack.specs.WalkLaws.{context_below}
 pub use Rattle.match_bodies.specs.Bodies.{slots_end, last_temporary, HasFrame, InBody, turns_left}
-pub use Rattle.match_bodies.specs.BodyViews.{counts_of, seen_by_templates, frame_at, state_of, HasSlotsOf}
+pub use Rattle.match_bodies.specs.BodyViews.{counts_of, seen_by_templates, arrived_in, frame_at, state_of, HasSlotsOf, KeepsRegisters, IsReached}
 pub use Rattle.match_bodies.specs.Callers.{HasCaller, FindsReturn, FindsOwed, Owed, IsOwed, nothing_owed, owed_by, owed_of, caller_above, caller_left, caller_owed}
 pub use Rattle.match_bodies.specs.CodeSites.{Sites, links_of, arguments_code, begin_of, making_size, frame_code, entry_code, code_of}
 pub use Rattle.match_bodies.specs.ConfigurationFacts.{IsWellMade, IsKnown}
 pub use Rattle.match_bodies.specs.Layouts.{IsFunctionLayout, IsLayoutIf, IsLaidOut, AreLaidOut, IsLeafLayout, IsFuncletLayout, IsFuncletPlan}
+pub use Rattle.match_bodies.specs.LocalRegisters.{now_of, IsInRegister, RegistersHold}
 pub use Rattle.match_bodies.specs.ProgramImages.{HasProgram, IsProgramImage, frame_of, service_of, HasService, IsMachineMemory, IsInImage, IsFramed}
 pub use Rattle.match_bodies.specs.Setting.{setting_of, Setting, RepresentsAt, IsResumed}
 pub use Rattle.match_bodies.specs.SlotStores.{with_values, KeepsStackBut, OwnerHasFrame, with_values_if, IsInFrame, FrameWords, IsLeft, LeavesRegisters, ActivationIsAt, ActivationsAreAt, ActivationsAreStored}
 pub use Rattle.template_code.specs.declared.layout.Place.{Place}
-pub use Rattle.template_code.specs.declared.layout.Place.TheVariants.{InRegister, InFrame}
-pub use Rattle.template_code.specs.Places.{place_of}
+pub use Rattle.template_code.specs.declared.layout.Place.TheVariants.{InRegister, InFrame, Arriving}
+pub use Rattle.template_code.specs.Places.{place_of, register_number, register_of}
 pub use Rattle.template_code.specs.Slots.{fetch_placed, keep_placed}
 pub use Rattle.x64_templates.specs.Locals.{local_in}
-pub use Rattle.x64_templates.specs.Frames.{number_placed, KeepsUnused}
+pub use Rattle.x64_templates.specs.Frames.{number_placed, KeepsUnused, arriving, IsKept}
 pub use Rattle.template_code.specs.Calls.{parameter_placed}

@@ -36,12 +36,13 @@ one_more (FuncletBody k) numbers functions e = e
 
 module _ (t : Functions) (fs : List Funclet) (program : LinearProgram) (p : ImagePlan)
     (number : ℕ → Option ℕ) (numbers : NumbersFunctions program p number) where
-  waiting : (m : Memory) (c : Context) (size end : ℕ) (b : Frame) (acts : List Activation)
-      (addresses functions : List ℕ) → BodyWaits t fs program p m c size end b acts
+  waiting : (m : Memory) (c : Context) (now : ℕ → ℕ) (size end : ℕ) (b : Frame)
+      (acts : List Activation) (addresses functions : List ℕ)
+      → BodyWaits t fs program p m c now size end b acts
       → filter_map number addresses ≡ map (λ (f : ℕ). f + 1) functions
       → filter_map number (c.rip ∷ addresses)
       ≡ map (λ f. f + 1) (with_function b.body functions)
-  waiting m c size end b acts addresses functions w e =
+  waiting m c now size end b acts addresses functions w e =
       ap (λ (o : Option ℕ). cons_option o (filter_map number addresses))
       (numbers b.body w.code w.label c.rip w.body w.instruction)
       ∙ one_more b.body (filter_map number addresses) functions e
@@ -51,11 +52,11 @@ module _ (t : Functions) (fs : List Funclet) (program : LinearProgram) (p : Imag
       → filter_map number (control_addresses c is) ≡ map (λ f. f + 1) (functions_in items)
   of_functions m c [] [] acts l = refl
   of_functions m c (Framed f ∷ is) (Waits b ∷ below) acts l =
-      waiting m c _ _ b acts (control_addresses (after_frame c f) is) (functions_in below)
+      waiting m c _ _ _ b acts (control_addresses (after_frame c f) is) (functions_in below)
       l.0.waits
       (of_functions m (after_frame c f) is below (activations_below b.body acts) l.2)
   of_functions m c (Leaf back ∷ is) (Waits b ∷ below) acts l =
-      waiting m c _ _ b acts (control_addresses (after_leaf c back) is) (functions_in below)
+      waiting m c _ _ _ b acts (control_addresses (after_leaf c back) is) (functions_in below)
       l.0.waits
       (of_functions m (after_leaf c back) is below (activations_below b.body acts) l.2)
   of_functions m c (Searching r ∷ is) (Searches exception resumption asked rest ∷ below) acts l =

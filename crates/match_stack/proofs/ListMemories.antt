@@ -84,11 +84,12 @@ module _ (m m' : Memory) (top : ℕ) where
         }
     pointers_kept y sp size (Unwinds rest target ∷ below) r fits h = tt
 
-    pub body_kept : (c : Context) (size end : ℕ) (b : Frame) (acts : List Activation)
+    pub body_kept : (c : Context) (now : ℕ → ℕ) (size end : ℕ) (b : Frame)
+        (acts : List Activation)
         → ReadsSame m m' (rsp c) top → rsp c + size ≤ top → rsp c + end ≤ top
-        → BodyWaits t fs program p m c size end b acts → BodyWaits t fs program p m' c size end b
-        acts
-    body_kept c size end b acts r fits ends h =
+        → BodyWaits t fs program p m c now size end b acts
+        → BodyWaits t fs program p m' c now size end b acts
+    body_kept c now size end b acts r fits ends h =
         let y = p.layout b.body in
         record {
           code = h.code;
@@ -97,7 +98,7 @@ module _ (m m' : Memory) (top : ℕ) where
           instruction = h.instruction;
           same = h.same;
           small = h.small;
-          activation = activation_kept (get c) (p.register b.body) y (rsp c) size b.activation acts
+          activation = activation_kept now (p.register b.body) y (rsp c) size b.activation acts
               b.body r fits h.activation;
           temporaries = words_kept (rsp c) (rsp c + y.temporaries) (rsp c + end) b.temporaries r
               (omega arith) ends h.temporaries;
@@ -118,8 +119,8 @@ module _ (m m' : Memory) (top : ℕ) where
           entry = h.entry;
           slots = h.slots;
           small = h.small;
-          waits = body_kept c f.slots (temporaries_end y b.body f.slots) b acts r (omega arith)
-              (omega arith) h.waits;
+          waits = body_kept c (get c) f.slots (temporaries_end y b.body f.slots) b acts r
+              (omega arith) (omega arith) h.waits;
           pointers = pointers_kept y (rsp c) f.size below r fits h.pointers;
           returns = h.returns;
         }
@@ -136,8 +137,9 @@ module _ (m m' : Memory) (top : ℕ) where
           leaf = h.leaf;
           home = h.home;
           none = h.none;
-          waits = body_kept c (p.layout b.body).temporaries home_end b acts r (omega arith) fits
-              h.waits;
+          now = h.now;
+          waits = body_kept c h.now (p.layout b.body).temporaries home_end b acts r (omega arith)
+              fits h.waits;
           returns = h.returns;
         }
 

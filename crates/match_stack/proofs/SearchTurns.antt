@@ -1,6 +1,6 @@
 -- A turn that searches does what linear code's search does.
 use Rattle.std.proofs.Common.{◌≡◌, ◌⊎◌, inl, inr, ℕ, ◌+◌, ◌%◌, ◌^◌, ◌<◌, ◌≤◌, true, Option, Some, None, List, [], ◌∷◌, refl, sym, ap, ◌∙◌, arith}
-use Rattle.match_stack.specs.Words.{Code, Rcx, Rsp, Cpu, context_of, State, register, rsp, Functions, DispatchRecord, return_address_at, RecordFits, is_search, filter_return, walk_in, steps, SearchResult, search, Funclet, Turn, Continues, arrived, in_hand, if_placed, entered, Exception, LinearProgram, Handler, Resumption, Item, Waits, Searches, Configuration, StackItem, Searching, ImagePlan, Activation, RecordHasRoom, FindsHandler, SearchedAs, IsWellFormed, Ends, after_search, consult, Asks, Accepts, IsSearching, SearchTurns}
+use Rattle.match_stack.specs.Words.{Code, Rcx, Rsp, Cpu, context_of, State, register, rsp, Functions, DispatchRecord, return_address_at, RecordFits, is_search, filter_return, walk_in, steps, SearchResult, search, Funclet, Turn, Continues, arrived, in_hand, if_placed, entered, Exception, LinearProgram, Handler, Resumption, Item, Waits, Searches, Configuration, StackItem, Searching, ImagePlan, Activation, RecordHasRoom, FindsHandler, SearchedAs, IsWellFormed, Ends, after_search, consult, Asks, Accepts, IsSearching, SearchTurns, ResumesFrom}
 use Rattle.seh_num.specs.declared.end.RunEnd.TheVariants as ends
 use Rattle.match_stack.proofs.ListEnds.{in_stack}
 use Rattle.match_stack.proofs.RecordMemory.{IsPlace, place_of, pushed_record_leaves_others}
@@ -14,7 +14,7 @@ module _ (t : Functions) (fs : List Funclet) (program : LinearProgram) (p : Imag
     (at : ℕ) (r : DispatchRecord) (is : List StackItem) (acts : List Activation)
     (exception : Exception) (resumption : Resumption) (found : List Handler) (c : Configuration)
     (h : IsSearching t fs program p s at r is acts exception found c)
-    (resumes : p.resumes resumption c.frame r.saved ≡ true) where
+    (resumes : ResumesFrom p resumption c.frame acts r.saved) where
   abbrev items : List Item
   items = Waits c.frame ∷ c.below
 

@@ -285,7 +285,7 @@ module _ (t : Functions) (fs : List Funclet) (program : LinearProgram) (p : Imag
         (out held b.body below then (left_store b.body b.activation (store_of source acts))))
         (ne_eqb target.depth (length below) away)
         ∙ left_out held (rsp c) (p.layout b.body).temporaries b.activation acts b.body below
-        then (get c) body.waits.activation
+        then body.now body.waits.activation
 
     host_left : plain_unwind t frame address c row (Leaf back ∷ is) ≡ plain_unwind t frame address
         (after_leaf c back) 0 is
@@ -332,7 +332,7 @@ module _ (t : Functions) (fs : List Funclet) (program : LinearProgram) (p : Imag
       (after_leaf c back) 0 None s.1 h.2 (at_first_row t fs program p below)
       (wide_after_leaf t m c back s.0 wide) a
       (counted_past m (p.layout b.body) (rsp c)
-      (p.layout b.body).temporaries b.activation acts b.body held (get c)
+      (p.layout b.body).temporaries b.activation acts b.body held h.0.now
       (p.register b.body) h.0.waits.activation ∙ e))
   unwound_plainly held acts (Searching r ∷ is) (Searches exception resumption asked rest
       ∷ below) c row left s h at wide a e =

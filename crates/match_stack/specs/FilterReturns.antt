@@ -1,5 +1,5 @@
 -- The host's turn at the return address of a filter, against the end of the filter in linear code.
-use Rattle.std.specs.Prelude.{◌≡◌, ◌⊎◌, ℕ, ◌^◌, ◌<◌, true, List, [], ◌∷◌, ◌++◌}
+use Rattle.std.specs.Prelude.{◌≡◌, ◌⊎◌, ℕ, ◌^◌, ◌<◌, List, [], ◌∷◌, ◌++◌}
 use Rattle.seh_num.specs.declared.width.Width.TheVariants.{W32}
 use Rattle.seh_num.specs.declared.event.Event.TheVariants as events
 use Rattle.seh_num.specs.Widths.{signed}
@@ -20,7 +20,7 @@ use Rattle.linear_machine.specs.Frames.{Handler, Resumption, Waits, Searches, Co
 use Rattle.linear_machine.specs.Searching.{search, accept, raise, resumed, answer}
 use Rattle.match_stack.specs.Stack.{StackItem}
 use Rattle.match_stack.specs.ImagePlan.{ImagePlan}
-use Rattle.match_stack.specs.ItemMatches.{Activation, Aimed}
+use Rattle.match_stack.specs.ItemMatches.{Activation, Aimed, ResumesFrom}
 use Rattle.match_stack.specs.StackRecords.{On}
 use Rattle.match_stack.specs.DispatchStates.{IsWellFormed}
 use Rattle.match_stack.specs.DispatchSteps.{SearchIsAnswered}
@@ -84,7 +84,7 @@ pub record ContinuesException (t : Functions) (fs : List Funclet) (program : Lin
       ≡ next (resumed resumption (answered s c))
   pub on : On t fs program p s.memory (context_of r.saved) is (Waits c.frame ∷ c.below) acts
   pub well_formed : IsWellFormed (restored s r)
-  pub resumes : p.resumes resumption c.frame r.saved ≡ true
+  pub resumes : ResumesFrom p resumption c.frame acts r.saved
 
 -- or C0000025 is raised, where it is noncontinuable
 pub record IsRaisedAnew (t : Functions) (program : LinearProgram) (s : State) (r : DispatchRecord)

@@ -30,8 +30,9 @@ pub record ImagePlan : Type 0 where
   pub layout : BodyName → Layout  -- where the slots of a body are
   pub register : BodyName → ℕ → Option ℕ  -- the register that a local is in, by its number
   pub lands : BodyName → ℕ → Bool  -- an unwinding may land at this instruction
-  -- a body that waits continues so from a state that was saved where it raised an exception
-  pub resumes : Resumption → Frame → Cpu → Bool
+  -- a body that waits continues so from a state that was saved where it raised an exception; a
+  -- leaf function with these numbers in its locals
+  pub resumes : Resumption → Frame → List ℕ → Cpu → Bool
 
 -- an address within the code of an instruction
 pub record InCode (p : ImagePlan) (name : BodyName) (label rip : ℕ) : Type 0 where

@@ -1,5 +1,5 @@
 -- The plain list of what waits in linear code, as it is in the machine's stack, item by item.
-use Rattle.std.specs.Prelude.{◌≡◌, ◌⊎◌, ℕ, ◌+◌, ◌-◌, ◌*◌, ◌%◌, ◌^◌, ◌<◌, ◌≤◌, true, false, not, ◌==◌, List, [], ◌∷◌, ◌++◌, length, drop, filter, slice_get, Option, Some, None, Ok}
+use Rattle.std.specs.Prelude.{◌≡◌, ◌⊎◌, ℕ, ◌+◌, ◌-◌, ◌*◌, ◌%◌, ◌^◌, ◌<◌, ◌≤◌, Bool, true, false, not, ◌==◌, List, [], ◌∷◌, ◌++◌, length, drop, filter, slice_get, Option, Some, None, Ok}
 use Rattle.std.specs.List.{AllByRecursion}
 use Rattle.host_layout.specs.declared.range.TheConstants.{STACK_END, FIRST_STACK}
 use Rattle.flat_memory.specs.Memory.{Memory}
@@ -72,6 +72,18 @@ below_function (a ∷ outer) = outer
 abbrev pub activations_below : BodyName → List Activation → List Activation
 activations_below (FunctionBody f) acts = below_function acts
 activations_below (FuncletBody k) acts = acts
+
+-- the numbers in the locals of a leaf function, whose activation is the first; of no other body
+abbrev pub leaf_values : Bool → BodyName → List Activation → List ℕ
+leaf_values false name acts = []
+leaf_values true (FuncletBody k) acts = []
+leaf_values true (FunctionBody f) [] = []
+leaf_values true (FunctionBody f) (a ∷ outer) = a.values
+
+-- where an exception is continued, the body that raised it continues from the saved state
+abbrev pub ResumesFrom : ImagePlan → Resumption → Frame → List Activation → Cpu → Type 0
+ResumesFrom p resumption b acts saved =
+    p.resumes resumption b (leaf_values (p.leaf b.body) b.body acts) saved ≡ true
 
 -- ---- room on the stack
 
@@ -187,11 +199,12 @@ module _ (t : Functions) (fs : List Funclet) (program : LinearProgram) (p : Imag
 
   -- a body waits: RIP is in the code of an instruction that the same regions hold as the one that
   -- it waits in (the same instruction, or where a call is the last of its code, the next one); its
-  -- slots are in memory, up to an end above RSP. Of memory it owns, by its layout from RSP up: its
-  -- temporaries, up to `end`; a function its locals, up to `size`; a funclet the word that keeps
-  -- the base of its function's frame; a filter also the word that keeps its EXCEPTION_POINTERS
-  -- (`KeepsPointers`); and the return address of `FrameWaits` and `LeafWaits`.
-  pub record BodyWaits (m : Memory) (c : Context) (size end : ℕ) (b : Frame)
+  -- slots are in memory, up to an end above RSP, but for the locals that stand in registers. Of
+  -- memory it owns, by its layout from RSP up: its temporaries, up to `end`; a function its locals,
+  -- up to `size`; a funclet the word that keeps the base of its function's frame; a filter also the
+  -- word that keeps its EXCEPTION_POINTERS (`KeepsPointers`); and the return address of
+  -- `FrameWaits` and `LeafWaits`.
+  pub record BodyWaits (m : Memory) (c : Context) (now : ℕ → ℕ) (size end : ℕ) (b : Frame)
       (acts : List Activation) : Type 0 where
     pub code : LinearBody
     pub body : body_of program b.body ≡ Some code
@@ -199,7 +212,7 @@ module _ (t : Functions) (fs : List Funclet) (program : LinearProgram) (p : Imag
     pub instruction : InCode p b.body label c.rip
     pub same : SameRegions (body_of program b.body) label b.next
     pub small : c.rip < 2 ^ 64
-    pub activation : HasActivation m (get c) (p.register b.body) (p.layout b.body) (rsp c) size
+    pub activation : HasActivation m now (p.register b.body) (p.layout b.body) (rsp c) size
         b.activation acts b.body
     pub temporaries : HoldsWords m (rsp c + (p.layout b.body).temporaries)
         (rsp c + end) b.temporaries
@@ -225,25 +238,28 @@ module _ (t : Functions) (fs : List Funclet) (program : LinearProgram) (p : Imag
       (instruction_in (body_of program w.body) w.next) ≡ Some back
   ReturnsTo items back = Unit {0}
 
-  -- in a frame of its own, which has the body's entry and slots; its caller's registers are numbers
-  -- of 64 bits
+  -- in a frame of its own, which has the body's entry and slots; its locals are in the nonvolatile
+  -- registers, which a walk finds; its caller's registers are numbers of 64 bits
   pub record FrameWaits (m : Memory) (c : Context) (f : StackFrame) (b : Frame) (below : List Item)
       (acts : List Activation) : Type 0 where
     pub framed : p.leaf b.body ≡ false
     pub entry : f.entry ≡ p.entry b.body
     pub slots : f.slots ≡ (p.layout b.body).slots
     pub small : AllSmall f.others
-    pub waits : BodyWaits m c f.slots (temporaries_end (p.layout b.body) b.body f.slots) b acts
+    pub waits : BodyWaits m c (get c) f.slots (temporaries_end (p.layout b.body) b.body f.slots) b
+        acts
     pub pointers : HasPointers m (p.layout b.body) (rsp c) f.size below
     pub returns : ReturnsTo below f.return_address
 
-  -- a leaf function, without one
+  -- a leaf function, without one: it waits for the search of its own exception alone, whose saved
+  -- state has the registers of its locals (`ImagePlan.resumes`)
   pub record LeafWaits (m : Memory) (c : Context) (back : ℕ) (b : Frame) (below : List Item)
       (acts : List Activation) : Type 0 where
     pub leaf : p.leaf b.body ≡ true
     pub home : rsp c + home_end ≤ STACK_END
     pub none : regions_of (body_of program b.body) ≡ []
-    pub waits : BodyWaits m c (p.layout b.body).temporaries home_end b acts
+    pub now : ℕ → ℕ
+    pub waits : BodyWaits m c now (p.layout b.body).temporaries home_end b acts
     pub returns : ReturnsTo below back
 
   -- ---- what lies below a body
@@ -349,19 +365,19 @@ module _ (t : Functions) (fs : List Funclet) (program : LinearProgram) (p : Imag
     pub fits : RecordFits r
     pub room : misplaced m at ≡ None
 
-  -- where the exception is continued, the body that raised it continues from the saved state
-  abbrev pub Resumes : Resumption → List Item → Cpu → Type 0
-  Resumes resumption (Waits b ∷ below) saved = p.resumes resumption b saved ≡ true
-  Resumes resumption items saved = Unit {0}
+  -- the body right below a search raised its exception
+  abbrev pub Resumes : Resumption → List Item → List Activation → Cpu → Type 0
+  Resumes resumption (Waits b ∷ below) acts saved = ResumesFrom p resumption b acts saved
+  Resumes resumption items acts saved = Unit {0}
 
   -- a search that asks a handler's filter, with the others after it; of memory it owns its record
   -- at RSP
   pub record SearchWaits (m : Memory) (c : Context) (r : DispatchRecord) (exception : Exception)
       (resumption : Resumption) (asked : Handler) (rest : List Handler) (is : List StackItem)
-      (below : List Item) : Type 0 where
+      (below : List Item) (acts : List Activation) : Type 0 where
     pub own : IsOwnRecord m (rsp c) r
     pub carries : HasException r exception
-    pub resumes : Resumes resumption below r.saved
+    pub resumes : Resumes resumption below acts r.saved
     pub onward : Onward r.walk r.row rest (context_of r.saved) is below
     pub address : ℕ
     pub aimed : Aimed asked.depth asked.target r.frame address (context_of r.saved) is below
@@ -395,7 +411,7 @@ module _ (t : Functions) (fs : List Funclet) (program : LinearProgram) (p : Imag
       LeafWaits m c back b below acts × IsAbove b b.body below
       × Linked m (after_leaf c back) is below (activations_below b.body acts)
   Linked m c (Searching r ∷ is) (Searches exception resumption asked rest ∷ below) acts =
-      SearchWaits m c r exception resumption asked rest is below
+      SearchWaits m c r exception resumption asked rest is below acts
       × Linked m (context_of r.saved) is below acts
   Linked m c (Unwinding r ∷ is) (Unwinds rest target ∷ below) acts =
       UnwindingWaits m c r rest target is below acts × Linked m r.walk is below acts

@@ -42,7 +42,7 @@ SearchIsOneMore =
     → On t fs program p m (context_of r.saved) is items acts → is_search r.kind ≡ true
     → RecordHasRoom m at r (rsp (context_of r.saved))
     → SearchWaits t fs program p m (context_below filter_return at []) r exception resumption asked
-    rest is items
+    rest is items acts
     → On t fs program p (pushed m at r filter_return) (context_below filter_return at others)
     (Searching r ∷ is) (Searches exception resumption asked rest ∷ items) acts
 

@@ -1,5 +1,5 @@
 -- What holds of every turn that searches or unwinds.
-use Rattle.std.specs.Prelude.{◌≡◌, ◌⊎◌, ℕ, ◌+◌, ◌≤◌, true, false, List, ◌∷◌, length}
+use Rattle.std.specs.Prelude.{◌≡◌, ◌⊎◌, ℕ, ◌+◌, ◌≤◌, false, List, ◌∷◌, length}
 use Rattle.x64_machine.specs.Contexts.{context_of}
 use Rattle.x64_machine.specs.Effect.{State}
 use Rattle.virtual_unwind.specs.Contexts.{rsp}
@@ -15,7 +15,7 @@ use Rattle.linear_code.specs.Program.{LinearProgram}
 use Rattle.linear_machine.specs.Frames.{Handler, Resumption, Waits, Configuration}
 use Rattle.match_stack.specs.Stack.{StackItem}
 use Rattle.match_stack.specs.ImagePlan.{ImagePlan, Gives}
-use Rattle.match_stack.specs.ItemMatches.{Activation, HasSpace, below_end, record_room, IsAtRow, Onward, Aimed, HasException, HasPurpose}
+use Rattle.match_stack.specs.ItemMatches.{Activation, HasSpace, below_end, record_room, IsAtRow, Onward, Aimed, HasException, HasPurpose, ResumesFrom}
 use Rattle.match_stack.specs.StackRecords.{On, RecordHasRoom}
 use Rattle.match_stack.specs.DispatchStates.{IsWellFormed}
 use Rattle.match_stack.specs.SearchOutcomes.{FilterBegins, TakesOver, NobodyTakesOver}
@@ -44,7 +44,7 @@ SearchTurns =
     (r : DispatchRecord) (is : List StackItem) (acts : List Activation)
     (exception : Exception) (resumption : Resumption) (found : List Handler) (c : Configuration)
     → IsSearching t fs program p s at r is acts exception found c
-    → p.resumes resumption c.frame r.saved ≡ true
+    → ResumesFrom p resumption c.frame acts r.saved
     → FilterBegins t fs program p s at r
     (arrived t fs (searches_on t s at r)) found exception resumption is acts c
     ⊎ (TakesOver t fs program p s at r

@@ -1,7 +1,7 @@
 -- The same body in another memory, whose stack is the same from RSP up.
 use Rattle.std.proofs.Common.{◌≡◌, ℕ, ◌+◌, ◌≤◌, false, sym, ap, ◌∙◌, arith, refl}
-use Rattle.match_turns.specs.Words.{STACK_START, STACK_END, Memory, Rsp, context_of, get, State, register, Configuration, context_below, activations_below, BodyWaits, temporaries_end, KeepsStack, slots_end, last_temporary, Setting, IsMachineMemory, RepresentsAt}
-use Rattle.match_turns.proofs.Lemmas.{end_within, reads_other, kept_by_other_memories, frame_stays, slots_within, IsCounted, sp_low, frame_top, some_is}
+use Rattle.match_turns.specs.Words.{STACK_START, STACK_END, Memory, Rsp, context_of, State, register, Configuration, context_below, activations_below, BodyWaits, temporaries_end, KeepsStack, slots_end, last_temporary, Setting, IsMachineMemory, RepresentsAt, now_of}
+use Rattle.match_turns.proofs.Lemmas.{end_within, reads_other, kept_by_other_memories, frame_stays, slots_within, IsCounted, sp_low, frame_top}
 use Rattle.match_stack.proofs.ListMemories.{ReadsSame, body_kept, pointers_kept}
 
 -- the stack from further up
@@ -61,7 +61,7 @@ module _ (setting : Setting) (s : State) (c : Configuration)
       ∙ ap (λ l. temporaries_end (p.layout c.frame.body) c.frame.body
       (slots_end (p.layout c.frame.body) l)) (sym framed)
 
-  slots : BodyWaits t fs program p m (context_of s.cpu)
+  slots : BodyWaits t fs program p m (context_of s.cpu) (now_of (p.leaf c.frame.body) s.cpu)
       (slots_end (p.layout c.frame.body) (p.leaf c.frame.body))
       (last_temporary (p.layout c.frame.body) c.frame.body (p.leaf c.frame.body)) c.frame
       b.body.acts
@@ -69,11 +69,12 @@ module _ (setting : Setting) (s : State) (c : Configuration)
       let h = top in
       let e = slots_low in
       let f = end_is in
-      let w = end_within s.memory (get (context_of s.cpu)) (p.register c.frame.body)
+      let w = end_within s.memory (now_of (p.leaf c.frame.body) s.cpu) (p.register c.frame.body)
       (p.layout c.frame.body) sp
       (slots_end (p.layout c.frame.body) (p.leaf c.frame.body)) c.frame.activation b.body.acts
       c.frame.body b.body.slots.activation in
       body_kept s.memory m 0x70800000 t fs program p (context_of s.cpu)
+      (now_of (p.leaf c.frame.body) s.cpu)
       (slots_end (p.layout c.frame.body) (p.leaf c.frame.body))
       (last_temporary (p.layout c.frame.body) c.frame.body (p.leaf c.frame.body)) c.frame
       b.body.acts reads (omega arith) (omega arith) b.body.slots
@@ -104,7 +105,7 @@ module _ (setting : Setting) (s : State) (c : Configuration)
           eight = b.body.eight;
           small = b.body.small;
           frame = frame_stays setting c.frame.body b.body.slots.code b.body.slots.body s elsewhere
-              b.body.back b.body.others refl
+              b.body.back b.body.others (record { rest = refl; locals = λ r is free. refl })
               (λ a v from to w. reads.words a v (omega arith) (omega arith) w) b.body.frame;
           is = b.body.is;
           below = record {
@@ -119,11 +120,7 @@ module _ (setting : Setting) (s : State) (c : Configuration)
         landed = b.landed;
       }
 
-  -- with the same activations, and the same code
+  -- with the same activations
   pub same_activations : represents_elsewhere.body.acts ≡ b.body.acts
   unfolding represents_elsewhere
   same_activations = λ i. b.body.acts
-
-  pub same_code : b.body.slots.code ≡ represents_elsewhere.body.slots.code
-  same_code = some_is b.body.slots.code represents_elsewhere.body.slots.code
-      (sym b.body.slots.body ∙ represents_elsewhere.body.slots.body)

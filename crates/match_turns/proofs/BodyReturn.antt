@@ -1,7 +1,8 @@
 -- A body returns: RAX has the number of its slot, and RIP and RSP are those of its return address.
-use Rattle.std.proofs.Common.{◌≡◌, ℕ, ◌+◌, ◌^◌, ◌<◌, ◌≤◌, ◌==◌, Bool, true, false, Option, Some, None, ◌∷◌, length, refl, sym, ap, subst, ◌∙◌, arith, length-append}
+use Rattle.std.proofs.Common.{◌≡◌, ℕ, ◌+◌, ◌^◌, ◌<◌, ◌≤◌, Bool, true, false, Option, Some, None, ◌∷◌, length, refl, sym, ap, subst, ◌∙◌, arith, length-append}
 use Rattle.std.specs.Prelude.{slice_get}
-use Rattle.match_turns.specs.Words.{kept_of, context_of, Rax, Rsp, State, register, Slot, Local, Temporary, IsSlot, Configuration, read, Layout, return_code, fetch, local_at, fetch_local, MachineView, machine, HasBack, Returned, HaveRoom, IsWellFormed, AllKeep, counts_of, owed_of, Setting, RepresentsAt, moved, Place, InRegister, InFrame, fetch_placed}
+use Rattle.match_turns.specs.Words.{kept_of, context_of, Rax, Rsp, State, register, Slot, Local, Temporary, IsSlot, Configuration, read, Layout, return_code, fetch, local_at, fetch_local, MachineView, machine, HasBack, Returned, HaveRoom, IsWellFormed, AllKeep, counts_of, owed_of, Setting, RepresentsAt, Place, InRegister, InFrame, fetch_placed, IsReached, Arriving}
+use Rattle.template_code.specs.Places.{place_of}
 use Rattle.match_bodies.specs.Callers.{owed_by}
 use Rattle.match_bodies.specs.CodeSites.{body_plan}
 use Rattle.virtual_unwind.specs.Undone.{operations}
@@ -11,17 +12,19 @@ use Rattle.frame_rules.specs.Plan.{FramePlan, IsPlan, epilogue, operations_of}
 use Rattle.frame_rules.specs.States.{registers}
 use Rattle.frame_rules.proofs.Planning.{codes_plan}
 use Rattle.template_code.specs.Frames.{frame_plan, plan_of_layout}
-use Rattle.template_code.specs.Places.{place_of}
 use Rattle.x64_templates.specs.Runs.{Reaches}
+use Rattle.lowering_invariants.specs.Registers.{SlotHas}
 use Rattle.linear_code.specs.declared.instruction.Instruction.TheVariants as instructions
 use Rattle.match_turns.proofs.Lemmas.{body_owed, owed_return, number_small, fetch_fine, return_run, reaches_steps, may_read_written, word_is, reaches_keeps, stays_well_formed, IsCounted, sp_low, frame_top, room_here, holds_here, slots_here, v, frame, slots, same_state, template_here, has_slots, sp_is}
 use Rattle.match_bodies.proofs.FrameCode.{epilogue_count}
 use Rattle.match_bodies.proofs.PrologueSteps.{of_codes, fits, holds, old as before}
 use Rattle.match_bodies.proofs.StackTop.{leaf_layout}
+use Rattle.match_bodies.proofs.ReachedSlots.{slots_reached}
 use Rattle.match_bodies.proofs.RoutineWalks.{Beneath}
 use Rattle.match_bodies.proofs.BodyFrames.{ending_few, frame_plan_is}
 use Rattle.match_bodies.proofs.ReturnKeeping.{LeavesBody, fetch_plain, returns_leave}
 use Rattle.match_turns.proofs.ReturnAddressPlace.{top_of, begins_beneath}
+use Rattle.match_bodies.proofs.TemplateRuns.{are_here}
 
 -- ---- how long a return takes
 
@@ -32,6 +35,7 @@ fetched_by (Some b) d = omega arith
 placed_soon : (y : Layout) (i : ℕ) (p : Place) → length (fetch_placed y Rax i p) ≤ 2
 placed_soon y i (InRegister r) = omega arith
 placed_soon y i InFrame = fetched_by y.base (local_at y i)
+placed_soon y i Arriving = omega arith
 
 fetched_soon : (y : Layout) (x : Slot) → length (fetch y Rax x) ≤ 2
 fetched_soon y (Temporary i) = omega arith
@@ -94,16 +98,22 @@ module _ (setting : Setting) (roomy : HaveRoom setting.program) where
     abbrev pub result : ℕ
     result = (slots setting roomy s c b counted).slots from
 
+    reached : SlotHas (IsReached p c.frame.body) from
+    reached = slots_reached setting c.frame.body b.body.slots.code b.body.slots.body c.frame.next
+        (instructions.Return from) at
+
     pub result_is : (x : ℕ) → read c from ≡ Some x → result ≡ x
-    result_is x reads = by from is_there reads
+    result_is x reads = by from is_there reached reads
       where
         the_same : (a b : ℕ) → Some a ≡ Some b → a ≡ b
         the_same a b e = cc
 
-        by : (slot : Slot) → IsSlot (counts_of b.body.slots.code) slot → read c slot ≡ Some x
+        by : (slot : Slot) → IsSlot (counts_of b.body.slots.code) slot
+            → SlotHas (IsReached p c.frame.body) slot → read c slot ≡ Some x
             → (slots setting roomy s c b counted).slots slot ≡ x
-        by (Local i) lt e = (slots_here setting s c b counted).locals i lt ∙ the_same _ x e
-        by (Temporary i) lt e = (slots_here setting s c b counted).temporaries i x e
+        by (Local i) lt named e =
+            (slots_here setting s c b counted).locals i lt named ∙ the_same _ x e
+        by (Temporary i) lt named e = (slots_here setting s c b counted).temporaries i x e
 
     -- ---- its frame, as its plan says
 
@@ -167,7 +177,8 @@ module _ (setting : Setting) (roomy : HaveRoom setting.program) where
     pub run : Returned n (machine view s.cpu.rip s.cpu.flags) old back result
     run = return_run (frame setting roomy s c b counted) from view old back s.cpu.rip s.cpu.flags
         (slots setting roomy s c b counted) (room_here setting s c b counted) is_there
-        (sp_is setting roomy s c b counted) (holds_here setting s c b counted) is_plan top_low
+        (are_here setting roomy s c b counted) (sp_is setting roomy s c b counted)
+        (holds_here setting s c b counted) is_plan top_low
         (fits t fs f offset top (top + 8) back b.body.others b.body.is is_plan.distance b.body.small
         (let l = top_low in omega arith))
         (subst (λ (x : State). HoldsFrame f offset x.memory old back (registers x)

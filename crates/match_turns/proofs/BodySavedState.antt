@@ -1,10 +1,10 @@
--- The body that runs is in its body too with the state that the host saves of it: RSP is the same,
--- and RIP at the instruction or, where a call is the last of its code, at the next one.
-use Rattle.std.proofs.Common.{◌≡◌, ℕ, zero, suc, ◌+◌, ◌^◌, ◌<◌, ◌≤◌, List, [], ◌∷◌, length, Option, Some, sym, ap, subst, arith}
+-- The body that asks the host is in its body too with the state that the host saves of it: RSP is
+-- the same, and RIP at the instruction or, where a call is the last of its code, at the next one.
+use Rattle.std.proofs.Common.{◌≡◌, ℕ, zero, suc, ◌+◌, ◌^◌, ◌<◌, ◌≤◌, true, false, List, [], ◌∷◌, length, Option, Some, sym, ap, subst, arith}
 use Rattle.std.specs.Prelude.{slice_get, slice_index, take}
-use Rattle.match_turns.specs.Words.{STACK_END, Memory, Rsp, Cpu, kept_of, State, register, Functions, Funclet, Layout, LinearProgram, LinearFunclet, BodyName, FunctionBody, FuncletBody, body_of, Frame, Item, Waits, Searches, Unwinds, Configuration, with_last, context_below, ImagePlan, InCode, activations_below, home_end, below_end, HoldsWords, HasSpace, SameRegions, HasPointers, FuncletIsAbove, IsAbove, On, Sites, slots_end, last_temporary, frame_of, context_of}
+use Rattle.match_turns.specs.Words.{STACK_END, Memory, Rsp, Cpu, kept_of, State, register, Functions, Funclet, Layout, LinearProgram, LinearFunclet, BodyName, FunctionBody, FuncletBody, body_of, Frame, Item, Waits, Searches, Unwinds, Configuration, with_last, context_below, ImagePlan, InCode, activations_below, home_end, below_end, HoldsWords, HasSpace, SameRegions, HasPointers, FuncletIsAbove, IsAbove, On, Sites, slots_end, last_temporary, frame_of, now_of}
 use Rattle.match_bodies.specs.Bodies.{InBody, RepresentsAt}
-use Rattle.match_bodies.proofs.FramePlaces.{activation_with}
+use Rattle.match_bodies.proofs.LeafRegisters.{activation_at, framed_hold}
 use Rattle.match_turns.proofs.Lemmas.{IsFront, frame_with}
 
 -- the first of some words
@@ -41,7 +41,8 @@ module _ (t : Functions) (fs : List Funclet) (program : LinearProgram) (p : Imag
         (registers : kept_of saved.registers ≡ kept_of s.cpu.registers)
         (inside : InCode p c.frame.body label saved.rip)
         (same : SameRegions t fs program p (body_of program c.frame.body) label c.frame.next)
-        (small : saved.rip < 2 ^ 64) (front : IsFront s.memory c.frame.temporaries ts) where
+        (small : saved.rip < 2 ^ 64) (front : IsFront s.memory c.frame.temporaries ts)
+        (framed : p.leaf c.frame.body ≡ false) where
       abbrev y : Layout
       y = p.layout c.frame.body
 
@@ -66,9 +67,10 @@ module _ (t : Functions) (fs : List Funclet) (program : LinearProgram) (p : Imag
           instruction = record { low = inside.low; high = inside.high };
           same = same;
           small = small;
-          activation = activation_with s.memory (p.register c.frame.body) y (context_of s.cpu)
-              (context_of saved) size c.frame.activation b.body.acts c.frame.body registers
-              b.body.slots.activation;
+          activation = activation_at s.memory (p.register c.frame.body) y s.cpu saved
+              (p.leaf c.frame.body) size c.frame.activation b.body.acts c.frame.body registers
+              (framed_hold (now_of true saved) (p.register c.frame.body) (p.leaf c.frame.body)
+              b.body.acts c.frame.body framed) b.body.slots.activation;
           temporaries = subst (λ x. HoldsWords s.memory (x + y.temporaries) (x + end) ts) (sym sp)
               (front _ _ b.body.slots.temporaries);
           space = subst (λ x. HasSpace x below_end (length b.body.acts + c.frame.held)) (sym sp)

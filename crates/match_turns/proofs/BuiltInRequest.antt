@@ -7,7 +7,7 @@ use Rattle.x64_templates.specs.Runs.{Reaches}
 use Rattle.linear_code.specs.declared.instruction.Instruction.TheVariants as instructions
 use Rattle.match_turns.proofs.Lemmas.{sizes_append, call_size, template_sizes, set_small, template_some, reaches_silently, counted_here, code_at, reaches_keeps, stays_well_formed, frame, slots, v, same_state, template_here, has_slots, next_address, sp_is, IsCounted, sp_low, frame_top, room_here, holds_here, others_of}
 use Rattle.match_turns.proofs.FunctionFrame.{same_itself}
-use Rattle.match_turns.proofs.CallResult.{offset_most}
+use Rattle.match_turns.proofs.CallResult.{offset_most, caller_framed}
 use Rattle.match_turns.proofs.BuiltInCall.{with_arguments_of, ServiceReached, service_reached}
 use Rattle.match_turns.proofs.BuiltInShadow.{calls_it, built_in_keeps}
 use Rattle.match_turns.proofs.HostRequest.{Asks, asks_host}
@@ -245,6 +245,8 @@ module _ (setting : Setting) (made : IsWellMade setting.program setting.plan) wh
         (record { low = back_inside.0; high = back_inside.1 })
         (same_itself (regions_of (body_of program c.frame.body)) c.frame.next) back_small
         (first_words s.memory c.frame.temporaries first)
+        (caller_framed setting made c.frame.body body c.frame.next
+        (instructions.CallBuiltIn f first) b.body.slots.body here refl)
 
     pub asks : Asks setting state.cpu saved s.memory
         (pushing.bytes given sp back low_enough high_enough b.memory.data_alone b.memory.stack)

@@ -11,6 +11,7 @@ use Rattle.x64_templates.proofs.Passing.{passed_in_registers}
 use Rattle.match_bodies.proofs.BodyViews.{placed}
 use Rattle.match_turns.proofs.CallStackArguments.{HasOutgoing, AllPassed, passes, passing_fine}
 use Rattle.match_turns.proofs.AtCall.{AtCall}
+use Rattle.match_bodies.proofs.StackTop.{none_arrive}
 
 same_slot : (x z : ℕ) → Some x ≡ Some z → x ≡ z
 same_slot x z e = cc
@@ -174,10 +175,16 @@ module _ {setting : Setting} (at_call : AtCall setting) where
   within : 8 * (4 + (count - 4)) ≤ room
   within = omega (arith, few_passed)
 
+  -- the caller has a frame, so no parameter of its own stays in a register
+  none_stay : layout.arrivals ≡ 0
+  none_stay = none_arrive setting.functions setting.funclets program p setting.sites c.frame.body
+      b.body.slots.code framed
+      (setting.image.laid_out c.frame.body b.body.slots.code b.body.slots.body)
+
   pub handed : AllPassed here (room_here setting s c b counted) room first 4 (count - 4) view
       numbers
   handed =
-      passes here (room_here setting s c b counted) room first 4 (count - 4) view numbers
+      passes here (room_here setting s c b counted) room none_stay first 4 (count - 4) view numbers
       (λ k e. (let z = (bottom.base k e).1 in let t' = top in omega arith)) enough within outgoing
       (sp_is setting roomy s c b counted) (holds_here setting s c b counted)
 

@@ -1,15 +1,16 @@
 -- A call of a function: the callee's first instruction begins, with its arguments in its first
--- locals and what the stack held in the others.
+-- locals and what the stack and the registers held in the others.
 use Rattle.std.proofs.Common.{◌≡◌, ℕ, ◌+◌, ◌-◌, ◌*◌, ◌^◌, ◌<◌, ◌≤◌, Bool, true, false, Some, List, [], ◌∷◌, ◌++◌, length, refl, sym, ap, subst, ◌∙◌, arith, inl, inr, length-append, append_assoc}
 use Rattle.std.specs.Prelude.{nat_lt, slice_get, drop}
 use Rattle.std.proofs.lemmas.Bool.{cases_lt, lt-ltb}
 use Rattle.std.proofs.lemmas.Option.{slice_get_within}
 use Rattle.std.proofs.lemmas.List.{append-nil, length-drop, length-take}
-use Rattle.match_turns.specs.Words.{STACK_START, STACK_END, Memory, may_write, number_at, Protection, Rsp, Instr, State, register, distance, arrivals, Temporary, LinearBody, FunctionBody, body_of, Waits, Configuration, instruction_in, waiting, Layout, sizes, put_back, keep, temporary_at, IsNear, call, return_at, passing_code, parameters_code, passing_call_code, context_below, home_end, HoldsWords, return_of, ReturnsTo, On, AllKeep, Comes, function_arguments, FindsReturn, IsLayoutIf, turns_left, slots_end, KeepsStackBut, begun, LARGEST_FRAME, Setting, IsMachineMemory, IsResumed, RepresentsAt, arguments_code}
+use Rattle.match_turns.specs.Words.{STACK_START, STACK_END, Memory, may_write, Protection, Rsp, Instr, State, register, distance, arrivals, Temporary, LinearBody, FunctionBody, body_of, Waits, Configuration, instruction_in, waiting, Layout, sizes, put_back, keep, temporary_at, IsNear, call, return_at, passing_code, parameters_code, passing_call_code, context_below, home_end, HoldsPlaces, return_of, ReturnsTo, On, AllKeep, Comes, function_arguments, FindsReturn, IsLayoutIf, turns_left, slots_end, KeepsStackBut, begun, LARGEST_FRAME, Setting, IsMachineMemory, IsResumed, RepresentsAt, arguments_code, IsWellFormed, LocalRegisters, local_registers, number_placed, owed_of, now_of, arrived_in}
+use Rattle.template_code.specs.Places.{place_of}
 use Rattle.match_turns.specs.CallOutcome.{turns_per_call}
 use Rattle.lowering_invariants.specs.SmallNumbers.{AreSmall}
 use Rattle.linear_code.specs.declared.instruction.Instruction.TheVariants as instructions
-use Rattle.match_turns.proofs.Lemmas.{sizes_append, call_size, comes_then, others_of, StepsTo, reaches_steps, enters_steps, AllPlain, plain_both, arguments_plain, passing_plain, parameters_plain, EntryRan, entry_ran, calls_keep, CalleeBegins, small_others as small_registers, frame_from, reaches_silently, enters_silently, none_inside, program_reaches, locals_count, KeepsImage, Keeps, keeps_then, enters_keeps, stays_well_formed, stack_is_reserved, room_here, slots_here, may_read_written, word_of}
+use Rattle.match_turns.proofs.Lemmas.{sizes_append, call_size, comes_then, others_of, StepsTo, reaches_steps, enters_steps, AllPlain, AllSteady, locals_own, plain_both, arguments_plain, passing_plain, parameters_steady, EntryRan, entry_ran, calls_keep, CalleeBegins, small_others as small_registers, frame_from, reaches_silently, enters_silently, none_inside, program_reaches, locals_count, KeepsImage, Keeps, keeps_then, enters_keeps, stays_well_formed, stack_is_reserved, room_here, slots_here, locals_small, may_read_written, word_of}
 use Rattle.match_bodies.specs.Bodies.{HasFrame}
 use Rattle.match_bodies.specs.CodeSites as sites
 use Rattle.match_bodies.specs.ProgramImages.{frame_of}
@@ -20,10 +21,11 @@ use Rattle.match_turns.proofs.FunctionFrame.{function_begins}
 use Rattle.match_turns.proofs.CallWaitingCaller as awaiting
 use Rattle.match_turns.proofs.CallArguments as calling
 use Rattle.match_turns.proofs.FunctionParameters as entering
-use Rattle.match_turns.proofs.FunctionLocals.{words_at, words_count, words_small, arguments_then_words}
+use Rattle.match_turns.proofs.FunctionLocals.{numbers_placed, numbers_count, numbers_small, arguments_then_places}
 use Rattle.match_turns.proofs.FunctionEntry as entries
 use Rattle.match_turns.proofs.AtCall.{AtCall}
 use Rattle.match_turns.proofs.CallActs.{passed_in, got_past}
+use Rattle.match_bodies.proofs.BodyViews.{arrived_small}
 
 module _ {setting : Setting} (at_call : AtCall setting) where
   open setting use {functions as t, funclets as fs, program, plan as p, sites as q, image}
@@ -216,15 +218,15 @@ module _ {setting : Setting} (at_call : AtCall setting) where
       n) parameters
 
   arguments_stored : (leaf : Bool) → IsLayoutIf program p layout o leaf
-      → AllPlain layout.slots layout.frame 40 (parameters_code layout 0 count) ×
-      (layout.frame + 8 ≤ LARGEST_FRAME)
+      → AllSteady (owed_of p (FunctionBody f)) layout.slots layout.frame 40
+      (parameters_code layout 0 count) × (layout.frame + 8 ≤ LARGEST_FRAME)
   arguments_stored true l =
       let h = fits in
       let e = l.frame in
       let a = l.locals in
       let n = l.few in (
-        parameters_plain layout.slots layout.frame 40 layout 0 count
-            (image.in_frames (FunctionBody f)) (omega arith) (omega arith)
+        parameters_steady (owed_of p (FunctionBody f)) layout.slots layout.frame 40 layout 0 count
+            (locals_own setting (FunctionBody f) o there) (omega arith) (omega arith)
             (λ j lt. inr (omega arith, omega arith)),
         omega arith,
       )
@@ -233,8 +235,8 @@ module _ {setting : Setting} (at_call : AtCall setting) where
       let a = l.locals in
       let w = l.within in
       let z = l.small in (
-        parameters_plain layout.slots layout.frame 40 layout 0 count
-            (image.in_frames (FunctionBody f)) (omega arith) (omega arith)
+        parameters_steady (owed_of p (FunctionBody f)) layout.slots layout.frame 40 layout 0 count
+            (locals_own setting (FunctionBody f) o there) (omega arith) (omega arith)
             (λ j lt. inl (omega arith)),
         l.small,
       )
@@ -253,8 +255,8 @@ module _ {setting : Setting} (at_call : AtCall setting) where
       (sym (append-nil (sites.arguments_code program p (FunctionBody f)))) inside.exact
       (enters_steps from to inside.turns at_callee after inside.comes) k.rip k.stack k.beneath_it
       (small_registers s b.well_formed) k.program_there stored.1 (omega arith) (omega arith)
-      (subst (λ (xs : List Instr). AllPlain layout.slots layout.frame 40 xs) (sym arguments_are)
-      stored.0)
+      (subst (λ (xs : List Instr). AllSteady (owed_of p (FunctionBody f)) layout.slots
+      layout.frame 40 xs) (sym arguments_are) stored.0)
 
   entry_keeps : AllKeep t fs inside.turns at_callee
   entry_keeps = entry_run.keeps
@@ -291,18 +293,26 @@ module _ {setting : Setting} (at_call : AtCall setting) where
   pub counted_arguments : length arguments ≡ count
   counted_arguments = length-drop first c.frame.temporaries ∙ (let h = held in omega arith)
 
+  well_formed : IsWellFormed after
+  well_formed = stays_well_formed s after keeps rip_small b.well_formed
+
+  abbrev registers : LocalRegisters
+  registers = local_registers after.cpu.registers
+
   -- the other locals
   abbrev pub others : List ℕ
-  others = words_at after.memory (inside.sp + layout.locals + 8 * length arguments)
-      (o.locals - count)
+  others = numbers_placed layout inside.sp (arrived_in after.cpu) registers after.memory
+      (length arguments) (o.locals - count)
 
   pub counted_others : length others ≡ o.locals - count
-  counted_others = words_count after.memory (inside.sp + layout.locals + 8 * length arguments)
-      (o.locals - count)
+  counted_others = numbers_count layout inside.sp (arrived_in after.cpu) registers after.memory
+      (length arguments) (o.locals - count)
 
   pub small_others : AreSmall others
-  small_others = words_small after.memory (inside.sp + layout.locals + 8 * length arguments)
-      (o.locals - count) inside.bytes
+  small_others = numbers_small layout inside.sp (arrived_in after.cpu) registers after.memory
+      (length arguments) (o.locals - count)
+      (arrived_small after.cpu well_formed.count well_formed.small)
+      (locals_small after.cpu.registers well_formed.count well_formed.small) inside.bytes
 
   -- where the callee begins
   abbrev pub callee_begins : Configuration
@@ -383,19 +393,22 @@ module _ {setting : Setting} (at_call : AtCall setting) where
   sp_low = let z = low in let e = inside.place in let n = frame_small (p.leaf (FunctionBody f))
       planned in omega arith
 
-  argument_there : (i v : ℕ) → slice_get arguments i ≡ Some v → number_at after.memory.byte 8
-      (inside.sp + layout.locals + 8 * i) ≡ v
+  argument_there : (i v : ℕ) → slice_get arguments i ≡ Some v
+      → number_placed layout inside.sp (arrived_in after.cpu) registers after.memory i
+      (place_of layout i) ≡ v
   argument_there i v e =
       let lt = slice_get_within arguments i v e in
       let n = counted_arguments in
-      let z : inside.sp + layout.locals + 8 * i ≡ inside.sp + (layout.locals + 8 * i) = omega arith
-      in
-      ap (number_at after.memory.byte 8) z ∙ inside.locals i (omega arith)
+      inside.locals i (omega arith)
       ∙ (slots_here setting s c b counted).temporaries (first + i) v
       (sym (got_past c.frame.temporaries first i) ∙ e)
 
-  numbers : HoldsWords after.memory (inside.sp + layout.locals) (inside.sp + slots_end layout
-      (p.leaf (FunctionBody f))) (arguments ++ others)
+  abbrev HasNumbers : ℕ → Type 0
+  HasNumbers sp = HoldsPlaces after.memory (now_of (p.leaf (FunctionBody f)) after.cpu)
+      (p.register (FunctionBody f)) 0 (sp + layout.locals)
+      (sp + slots_end layout (p.leaf (FunctionBody f))) (arguments ++ others)
+
+  numbers : HasNumbers inside.sp
   numbers =
       let r = slots_fit (p.leaf (FunctionBody f)) planned in
       let r0 = r.0 in
@@ -404,9 +417,9 @@ module _ {setting : Setting} (at_call : AtCall setting) where
       let z = top in
       let lo = sp_low in
       let h = fits in
-      arguments_then_words after.memory (inside.sp + layout.locals)
-      (inside.sp + slots_end layout (p.leaf (FunctionBody f))) arguments (o.locals - count)
-      (omega arith) argument_there
+      arguments_then_places setting f o there inside.sp
+      (inside.sp + slots_end layout (p.leaf (FunctionBody f))) after.cpu after.memory arguments
+      (o.locals - count) (omega arith) argument_there
       (λ a v l u e. word_of after.memory a v (omega arith) (λ x g h. may_read_written after.memory x
       (memory.stack x (omega arith) (omega arith))) e)
 
@@ -439,14 +452,12 @@ module _ {setting : Setting} (at_call : AtCall setting) where
       let up : register after.cpu Rsp + layout.frame + 8 ≡ caller = omega arith in
       let begins = function_begins t fs program p q image after c.store.memory f o there
       (Waits (waiting c first).frame ∷ c.below) b.body.acts c.frame.held c.events
-      (arguments ++ others) (stays_well_formed s after keeps rip_small b.well_formed) memory
+      (arguments ++ others) well_formed memory
       inside.rip some (record { space = omega arith; shallow = omega arith }) tt
       (λ leaf. subst (λ x. x + home_end ≤ STACK_END) (sym stack) (at_home (p.leaf (FunctionBody f))
       planned leaf))
       back returns_to (others_of s.cpu.registers) refl (small_registers s b.well_formed) frame_there
-      (subst (λ x. HoldsWords after.memory (x + layout.locals)
-      (x + slots_end layout (p.leaf (FunctionBody f))) (arguments ++ others)) (sym stack)
-      numbers)
+      (subst HasNumbers (sym stack) numbers)
       waits.0 (subst (λ x. On t fs program p after.memory (context_below back x
       (others_of s.cpu.registers)) waits.0 (Waits (waiting c first).frame ∷ c.below) b.body.acts)
       (sym up) waits.1) in

@@ -1,18 +1,20 @@
 -- RAX goes to the temporary after those that a body has kept: where what it called has returned,
 -- the next instruction begins.
-use Rattle.std.proofs.Common.{◌≡◌, ℕ, zero, suc, ◌+◌, ◌^◌, ◌<◌, ◌≤◌, Bool, true, cond, Option, Some, None, List, [], ◌∷◌, ◌++◌, length, refl, sym, ap, subst, ◌∙◌, arith, inl, inr, length-append}
+use Rattle.std.proofs.Common.{◌≡◌, ℕ, zero, suc, ◌+◌, ◌^◌, ◌<◌, ◌≤◌, Bool, true, false, cond, Option, Some, None, List, [], ◌∷◌, ◌++◌, length, refl, sym, ap, subst, ◌∙◌, arith, inl, inr, length-append}
 use Rattle.std.specs.Prelude.{◌⊎◌, slice_get, slice_index}
-use Rattle.std.proofs.lemmas.Bool.{eq-eqb, ne_eqb}
+use Rattle.std.proofs.lemmas.Bool.{eq-eqb, ne_eqb, false≢true}
 use Rattle.std.proofs.lemmas.Option.{slice_get_within}
-use Rattle.match_turns.specs.Words.{kept_of, Event, Memory, Rax, Rsp, Instr, Context, State, register, Functions, distance, Funclet, arrivals, Temporary, Instruction, BodyState, with_slot, LinearProgram, LinearBody, BodyName, FuncletBody, body_of, Frame, Item, Waits, Configuration, Layout, sizes, keep, template, body_size, offset_of, machine, HasCode, ReachesBody, StackItem, ImagePlan, Activation, locals_of, On, on_top, IsWellFormed, AllKeep, HaveRoom, Sites, links_of, seen_by_templates, counts_of, OwnerHasFrame, with_values, Setting, IsMachineMemory}
+use Rattle.match_turns.specs.Words.{kept_of, Event, Memory, Rax, Rsp, Instr, Context, State, register, Functions, distance, Funclet, arrivals, Temporary, Instruction, BodyState, with_slot, LinearProgram, LinearBody, BodyName, FuncletBody, body_of, Frame, Item, Waits, Configuration, Layout, sizes, keep, template, body_size, offset_of, machine, HasCode, ReachesBody, StackItem, ImagePlan, Activation, locals_of, On, on_top, IsWellFormed, AllKeep, HaveRoom, Sites, links_of, seen_by_templates, counts_of, OwnerHasFrame, with_values, Setting, IsMachineMemory, OtherRegisters, IsWellMade, now_of}
 use Rattle.x64_templates.specs.Runs.{Reaches}
-use Rattle.x64_templates.proofs.Locals.{locals_stay}
-use Rattle.match_turns.proofs.Lemmas.{sizes_append, template_sizes, code_split, call_ends, keep_flow, first_in_code, waits_in_body, locals_count, same_activations, Keeps, reaches_keeps, stays_well_formed, IsCounted, is_machine, room_here, holds_here, slots_here, locals_here, Leaves, Ran, represents_next, is_here, is_after, ends_at, RunsKeep, one_piece, code, y, v, frame, slots, template_here, next_address, sp_is, silent_at, Surroundings, kept_by_view}
+use Rattle.match_turns.proofs.Lemmas.{sizes_append, template_sizes, code_split, call_ends, keep_flow, first_in_code, waits_in_body, locals_count, same_activations, Keeps, reaches_keeps, stays_well_formed, IsCounted, is_machine, room_here, holds_here, slots_here, locals_here, leaves_same, Leaves, Ran, represents_next, is_here, is_after, ends_at, RunsKeep, one_piece, code, y, v, frame, slots, template_here, next_address, sp_is, silent_at, Surroundings}
 use Rattle.x64_templates.specs.Epilogues.{IsReturn}
+use Rattle.lowering_invariants.specs.ReturnRegions.{is_call}
 use Rattle.match_bodies.specs.Bodies.{RepresentsAt}
+use Rattle.match_bodies.proofs.LeafRegisters.{framed_hold}
 use Rattle.match_bodies.proofs.BodyResumption.{again}
 use Rattle.match_bodies.proofs.HomeSpace.{CallerHasFrame}
 use Rattle.match_bodies.proofs.BodyViews.{placed, count}
+use Rattle.match_bodies.proofs.ArrivedParameters.{no_arrivals}
 
 -- an instruction of a body begins within it
 pub offset_most : (y : Layout) (body : List Instruction) (number : ℕ)
@@ -42,13 +44,15 @@ got_more (z ∷ xs) x (suc i) v e = elim (got_more xs x i v e) [
 ]
 
 -- after a write of the temporary past the last, the slots are those of a list that is longer by one
-longer_leaves : (b : LinearBody) (d : BodyState) (values ts : List ℕ) (v : ℕ) → Leaves b d values ts
-    → length ts < b.temporaries → Leaves b (record
-    { slots = with_slot d.slots (Temporary (length ts)) v; memory = d.memory }) values
+longer_leaves : (p : ImagePlan) (name : BodyName) (b : LinearBody) (d : BodyState)
+    (old values ts : List ℕ) (v : ℕ) → Leaves p name b d old values ts
+    → length ts < b.temporaries → Leaves p name b (record
+    { slots = with_slot d.slots (Temporary (length ts)) v; memory = d.memory }) old values
     (ts ++ v ∷ [])
-longer_leaves b d values ts v l lt = record {
+longer_leaves p name b d old values ts v l lt = record {
   count = l.count;
   locals = l.locals;
+  others = l.others;
   few = omega (arith, length-append ts (v ∷ []));
   temporaries = λ i x e. elim (got_more ts v i x e) [
     | inl w ↦ (let small = w.0 in ap (λ (c : Bool). cond c v (d.slots (Temporary i)))
@@ -65,6 +69,17 @@ pub record Resumes (t : Functions) (fs : List Funclet) (program : LinearProgram)
   pub silent : arrivals state.cpu (distance t.base state.cpu.rip) 1 fs ≡ []
   pub begins : RepresentsAt t fs program p q state c
   pub keeps : AllKeep t fs 1 u
+
+-- a body that calls has a frame
+pub caller_framed : (setting : Setting) → IsWellMade setting.program setting.plan
+    → (name : BodyName) (b : LinearBody) (label : ℕ) (i : Instruction)
+    → body_of setting.program name ≡ Some b → slice_get b.code label ≡ Some i → is_call i ≡ true
+    → setting.plan.leaf name ≡ false
+caller_framed setting made name b label i there at calls = by (setting.plan.leaf name) refl
+  where
+    by : (leaf : Bool) → setting.plan.leaf name ≡ leaf → setting.plan.leaf name ≡ false
+    by false e = e
+    by true e = absurd (false≢true (sym (made.leaves name b label i there e at) ∙ calls))
 
 module _ (setting : Setting) (roomy : HaveRoom setting.program) where
   open setting use {functions as t, funclets as fs, program, plan as p, sites as q, image}
@@ -96,7 +111,8 @@ module _ (setting : Setting) (roomy : HaveRoom setting.program) where
       ≡ done ++ keep (p.layout w.body) (Temporary first))
       (fits : first < o.temporaries) (within : w.next + 1 < length o.code)
       (held : length w.temporaries ≡ first) (free : w.landed ≡ None)
-      (back : u.cpu.rip ≡ p.address w.body w.next + sizes done) where
+      (back : u.cpu.rip ≡ p.address w.body w.next + sizes done)
+      (framed : p.leaf w.body ≡ false) where
     -- the same state, but that the instruction of the call begins
     abbrev pub earlier : State
     earlier = record {
@@ -131,7 +147,9 @@ module _ (setting : Setting) (roomy : HaveRoom setting.program) where
                 rip_small = small_address;
                 count = well_formed.count;
                 small = well_formed.small;
-              }) (λ at end h. h);
+              }) (λ at end h. h)
+              (framed_hold (now_of true u.cpu) (p.register w.body) (p.leaf w.body) acts w.body
+              framed);
           landed = λ code e. absurd (nothing w.landed code free e);
         }
 
@@ -200,7 +218,7 @@ module _ (setting : Setting) (roomy : HaveRoom setting.program) where
           call_ends (frame setting roomy earlier caller waits counted) (Temporary first)
           (seen_by_templates u) u.cpu.rip u.cpu.flags
           (slots setting roomy earlier caller waits counted)
-          (room_here setting earlier caller waits counted) (omega arith)
+          (room_here setting earlier caller waits counted) (omega arith) tt
           (result_small u.cpu.registers well_formed.count well_formed.small)
           (sp_is setting roomy earlier caller waits counted)
           (holds_here setting earlier caller waits counted) keeps_code
@@ -229,33 +247,34 @@ module _ (setting : Setting) (roomy : HaveRoom setting.program) where
       abbrev values_here : List ℕ
       values_here = (placed setting earlier caller waits counted).values
 
-      as_they_were : Leaves body (slots setting roomy earlier caller waits counted) values_here
-          w.temporaries
+      as_they_were : Leaves p w.body body (slots setting roomy earlier caller waits counted)
+          values_here values_here w.temporaries
       as_they_were =
           let s = slots_here setting earlier caller waits counted in
           let r = room_slots in
           record {
             count = count setting earlier caller waits counted;
-            locals = λ i lt. s.locals i lt ∙ ap (λ xs. slice_index xs i)
+            locals = λ i lt reached. s.locals i lt reached ∙ ap (λ xs. slice_index xs i)
                 (locals_here setting earlier caller waits counted);
+            others = λ k e. leaves_same (p.register w.body) 0 values_here;
             few = omega (arith, held);
             temporaries = s.temporaries;
           }
 
-      leaves : Leaves body (record {
+      leaves : Leaves p w.body body (record {
         slots = with_slot
             (slots setting roomy earlier caller waits counted).slots (Temporary first) result;
         memory = source;
-      }) values_here (w.temporaries ++ result ∷ [])
+      }) values_here values_here (w.temporaries ++ result ∷ [])
       leaves =
           let r = room_slots in
-          subst (λ n. Leaves body (record {
+          subst (λ n. Leaves p w.body body (record {
             slots = with_slot
                 (slots setting roomy earlier caller waits counted).slots (Temporary n) result;
             memory = source;
-          }) values_here (w.temporaries ++ result ∷ [])) held
-          (longer_leaves body (slots setting roomy earlier caller waits counted) values_here
-          w.temporaries result as_they_were (omega (arith, held)))
+          }) values_here values_here (w.temporaries ++ result ∷ [])) held
+          (longer_leaves p w.body body (slots setting roomy earlier caller waits counted)
+          values_here values_here w.temporaries result as_they_were (omega (arith, held)))
 
       same_locals : locals_of (with_values waits.body.acts w.activation values_here)
           ≡ locals_of acts
@@ -299,9 +318,6 @@ module _ (setting : Setting) (roomy : HaveRoom setting.program) where
             count = k.count;
             small = k.small;
           } in
-          let same = kept_by_view r.after u.cpu.registers r.rest
-          (locals_stay layout (seen_by_templates u).locals r.after.locals (image.in_frames w.body)
-          r.locals) in
           let d : BodyState = record {
             slots = with_slot
                 (slots setting roomy earlier caller waits counted).slots (Temporary first) result;
@@ -312,7 +328,7 @@ module _ (setting : Setting) (roomy : HaveRoom setting.program) where
           ts = record {
             changed = record { changes = r.changes; keeps = keeps };
             holds = r.holds;
-            kept = same;
+            kept = record { rest = r.rest; locals = r.locals };
             leaves = leaves;
           } in
           let inside : w.next + 1 < length body.code = subst
@@ -321,9 +337,10 @@ module _ (setting : Setting) (roomy : HaveRoom setting.program) where
           let begins = represents_next setting earlier caller waits counted z d
           values_here ts ran (w.next + 1) w.landed es next_place inside
           (stays_well_formed earlier z keeps small waits.well_formed)
-          (λ code e. absurd (nothing w.landed code free e)) around.caller around.owner in
+          (λ code e. absurd (nothing w.landed code free e)) around.caller around.owner
+          (no_arrivals setting w.body o there framed earlier.cpu z.cpu) in
           let ends = ends_at setting earlier caller waits counted z (w.next + 1)
-          next_place inside same
+          next_place inside (ap (λ (o : OtherRegisters). o.rsp) r.rest)
           (is_after setting earlier caller waits counted z d values_here ts ran around.caller
           around.owner) in
           record {

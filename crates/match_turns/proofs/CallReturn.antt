@@ -1,6 +1,6 @@
 -- The body that waits for a call has its result: RAX goes to the temporary of the first argument,
 -- and the next instruction begins.
-use Rattle.std.proofs.Common.{◌≡◌, ℕ, ◌+◌, ◌-◌, ◌<◌, Some, None, List, [], ◌∷◌, ◌++◌, length, sym, arith, append_assoc}
+use Rattle.std.proofs.Common.{◌≡◌, ℕ, ◌+◌, ◌-◌, ◌<◌, false, Some, None, List, [], ◌∷◌, ◌++◌, length, sym, arith, append_assoc}
 use Rattle.std.specs.Prelude.{slice_get}
 use Rattle.match_turns.specs.Words.{Event, Memory, Rax, Instr, Context, kept_of, State, register, Temporary, HasSlots, LinearBody, body_of, Frame, Item, Waits, Layout, sizes, keep, call, return_at, begin_call, passing_code, template_size, StackItem, Activation, On, on_top, IsWellFormed, HaveRoom, counts_of, Setting, IsMachineMemory, arguments_code}
 use Rattle.linear_code.specs.declared.instruction.Instruction.TheVariants as instructions
@@ -34,40 +34,40 @@ module _ (setting : Setting) (roomy : HaveRoom setting.program) where
       (within : w.next + 1 < length o.code)
       (held : length w.temporaries ≡ first) (free : w.landed ≡ None)
       (back : u.cpu.rip ≡ returns_at (p.layout w.body) first arguments (p.address w.body w.next))
-    where
-      abbrev layout : Layout
-      layout = p.layout w.body
+      (framed : p.leaf w.body ≡ false) where
+    abbrev layout : Layout
+    layout = p.layout w.body
 
-      abbrev passing : List Instr
-      passing = passing_code layout first 4 (arguments - 4)
+    abbrev passing : List Instr
+    passing = passing_code layout first 4 (arguments - 4)
 
-      abbrev beginning : List Instr
-      beginning = begin_call layout first (p.address w.body w.next + sizes passing) (q.function f)
+    abbrev beginning : List Instr
+    beginning = begin_call layout first (p.address w.body w.next + sizes passing) (q.function f)
 
-      fits : first < o.temporaries
-      fits = let h = each (HasSlots (counts_of o)) o.code w.next
-          (instructions.Call f first arguments)
-          (roomy w.body o there).slots calls in let few = h.0 in omega arith
+    fits : first < o.temporaries
+    fits = let h = each (HasSlots (counts_of o)) o.code w.next
+        (instructions.Call f first arguments)
+        (roomy w.body o there).slots calls in let few = h.0 in omega arith
 
-      back_is : u.cpu.rip ≡ p.address w.body w.next + sizes (passing ++ beginning)
-      back_is =
-          let at = p.address w.body w.next + sizes passing in
-          let five = call_size (return_at layout first at) (q.function f) in
-          omega (
-            arith,
-            back,
-            sizes_append passing beginning,
-            sizes_append (arguments_code layout first)
-                (call (return_at layout first at) (q.function f) ∷ []),
-          )
+    back_is : u.cpu.rip ≡ p.address w.body w.next + sizes (passing ++ beginning)
+    back_is =
+        let at = p.address w.body w.next + sizes passing in
+        let five = call_size (return_at layout first at) (q.function f) in
+        omega (
+          arith,
+          back,
+          sizes_append passing beginning,
+          sizes_append (arguments_code layout first)
+              (call (return_at layout first at) (q.function f) ∷ []),
+        )
 
-      -- in one turn, which keeps the shadow, the next instruction begins
-      pub resumes : IsCounted setting (on_top w items source acts es)
-          → IsSurrounded setting roomy w.body w.activation items (length acts)
-          → kept.Resumes t fs program p q u (answered setting roomy w items source acts es
-          (register u.cpu Rax))
-      resumes counted surrounded =
-          kept.resumes setting roomy u w items acts source es above is on registers well_formed
-          memory o there (instructions.Call f first arguments) first (passing ++ beginning) calls
-          (λ h. h) (sym (append_assoc passing beginning (keep layout (Temporary first)))) fits
-          within held free back_is counted surrounded
+    -- in one turn, which keeps the shadow, the next instruction begins
+    pub resumes : IsCounted setting (on_top w items source acts es)
+        → IsSurrounded setting roomy w.body w.activation items (length acts)
+        → kept.Resumes t fs program p q u (answered setting roomy w items source acts es
+        (register u.cpu Rax))
+    resumes counted surrounded =
+        kept.resumes setting roomy u w items acts source es above is on registers well_formed
+        memory o there (instructions.Call f first arguments) first (passing ++ beginning) calls
+        (λ h. h) (sym (append_assoc passing beginning (keep layout (Temporary first)))) fits
+        within held free back_is framed counted surrounded

@@ -57,10 +57,11 @@ module _ (p : FramePlace) (roomy : Roomy p) (room : ℕ) where
       let hi = roomy.high in
       let n = out.near in
       record {
-        slot = slot_by_words p.layout p.counts p.reserved p.sp p.base roomy l m (stored m at x) b
+        slot = slot_by_words p.layout p.counts p.reserved p.sp p.base p.arrived roomy l m
+            (stored m at x) b
             (λ z iz. (let up = out.slots z iz in
             same_number (stored m at x).byte m.byte 8 (slot_at p.layout p.sp p.base z)
-            (slot_high p.layout p.counts p.reserved p.sp p.base roomy z iz)
+            (slot_high p.layout p.counts p.reserved p.sp p.base p.arrived roomy z iz)
             (λ a g k. beside_at m at x a (omega arith) (inr (omega arith))))) h;
         small = h.small;
         kept_base = base_beside m at x p.layout.base le (omega arith)
@@ -101,11 +102,11 @@ module _ (p : FramePlace) (roomy : Roomy p) (room : ℕ) where
     pub protection : memory.protection ≡ v.memory.protection
     pub bytes : IsBytes v.memory → IsBytes memory
 
-  pub passes : (first i n : ℕ) (v : MachineView) (b : BodyState)
+  pub passes : p.layout.arrivals ≡ 0 → (first i n : ℕ) (v : MachineView) (b : BodyState)
       → ((k : ℕ) → p.layout.base ≡ Some k → p.sp + k + 8 < 2 ^ 64)
       → first + i + n ≤ p.counts.temporaries → 8 * (i + n) ≤ room → HasOutgoing p v.memory room
       → sp_of v ≡ p.sp → FrameHolds p v.locals v.memory b → AllPassed first i n v b
-  passes first i zero v b base_high le fits out at h = record {
+  passes none first i zero v b base_high le fits out at h = record {
     rax = v.rax;
     memory = v.memory;
     does = executes_nothing v;
@@ -115,7 +116,7 @@ module _ (p : FramePlace) (roomy : Roomy p) (room : ℕ) where
     protection = refl;
     bytes = λ x. x;
   }
-  passes first i (suc n) v b base_high le fits out at h =
+  passes none first i (suc n) v b base_high le fits out at h =
       let y = p.layout in
       let hi = roomy.high in
       let near_room = out.near in
@@ -125,13 +126,14 @@ module _ (p : FramePlace) (roomy : Roomy p) (room : ℕ) where
       let to = p.sp + 8 * i in
       let w = put true v x in
       let d1 : Executes (fetched Rax Rsp (temporary_at y (first + i)) ∷ []) v w = fetch_does y
-      p.counts p.reserved p.sp p.base roomy true (Temporary (first + i)) v b there at h in
+      p.counts p.reserved p.sp p.base p.arrived roomy true (Temporary (first + i)) v b there
+      (λ j lt. absurd (omega arith)) at h in
       let spot : (sp_of w + 0 + 8 * i) % 2 ^ 64 ≡ to = omega (arith, at) in
       let may = all_may (may_write v.memory) 8 to (omega arith)
       (λ a l u. out.writable a (omega arith) (omega arith)) in
       let d2 = keeps_register Rax w (8 * i) to x refl spot may small in
       let u = kept_at w to x in
-      let r = passes first (i + 1) n u b base_high (omega arith) (omega arith)
+      let r = passes none first (i + 1) n u b base_high (omega arith) (omega arith)
       (still_outgoing v.memory u.memory refl out) at
       (holds_beside v.locals v.memory to x b out (omega arith) (omega arith) base_high h) in
       let last : MachineView = record v { rax = r.rax; memory = r.memory } in

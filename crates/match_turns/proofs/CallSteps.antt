@@ -8,7 +8,7 @@ use Rattle.match_turns.proofs.Lemmas.{fails_at_once, locals_count, some_is, labe
 use Rattle.lowering_invariants.specs.Waiting.{IsAbove}
 use Rattle.lowering_invariants.specs.Activations.{WorksOn}
 use Rattle.match_turns.specs.CallLaws.{ReturnsAreMatched, CallsBegin}
-use Rattle.match_turns.proofs.CallResult.{IsSurrounded}
+use Rattle.match_turns.proofs.CallResult.{IsSurrounded, caller_framed}
 use Rattle.match_turns.proofs.FunctionReturn as returning
 use Rattle.match_turns.proofs.CallActs.{call_acts}
 use Rattle.match_turns.proofs.CallEntry as called
@@ -84,6 +84,8 @@ module _ (setting : Setting) (made : IsWellMade setting.program setting.plan) wh
         body.1 by.2 in
         let within = (made.apart w.body body.0 body.1).within w.next (instructions.Call f by.0 by.1)
         calls refl in
+        let has_frame = caller_framed setting made w.body body.0 w.next
+        (instructions.Call f by.0 by.1) body.1 calls refl in
         let same : waits.0.instruction ≡ instructions.Call f by.0 by.1 = some_is waits.0.instruction
         (instructions.Call f by.0 by.1) (sym waits.0.at ∙ by.2) in
         let held : length w.temporaries ≡ by.0 = subst
@@ -91,17 +93,17 @@ module _ (setting : Setting) (made : IsWellMade setting.program setting.plan) wh
         let counted = counted_here setting made c known in
         let next_one = returning.next_one setting made.room s c b counted f function
         from here value.0 value.1 w items e body.0 body.1 f by.0 by.1 calls within held
-        waits.0.landed in
+        waits.0.landed has_frame in
         let goes = returning.goes setting made.room s c b counted f function from
         here value.0 value.1 w items e body.0 body.1 f by.0 by.1 calls within held
-        waits.0.landed in
+        waits.0.landed has_frame in
         let known_next = after next_one goes in
         let acts = returning.outer setting made.room s c b counted f function from
         here value.0 value.1 w items e body.0 body.1 f by.0 by.1 calls within held
-        waits.0.landed in
+        waits.0.landed has_frame in
         inl (returning.moves setting made.room s c b counted f function from here value.0 value.1 w
         items e body.0 body.1 f by.0 by.1 calls within held waits.0.landed
-        (counted_here setting made next_one known_next)
+        has_frame (counted_here setting made next_one known_next)
         (surrounded next_one known_next body.0 body.1 (length acts) (sym (locals_count acts))))
 
     returned : (items : List Item) → c.below ≡ items → Goal
@@ -138,12 +140,8 @@ module _ (setting : Setting) (made : IsWellMade setting.program setting.plan) wh
         (made.room c.frame.body body b.body.slots.body).calls call_here
 
     framed : p.leaf c.frame.body ≡ false
-    framed = by (p.leaf c.frame.body) refl
-      where
-        by : (leaf : Bool) → p.leaf c.frame.body ≡ leaf → p.leaf c.frame.body ≡ false
-        by false e = e
-        by true e = absurd (let no : true ≡ false = made.leaves c.frame.body body c.frame.next i
-            b.body.slots.body e call_here in cc)
+    framed = caller_framed setting made c.frame.body body c.frame.next i b.body.slots.body call_here
+        refl
 
     held : length c.frame.temporaries ≡ first + count
     held = (ready_here setting made s c b known i at).0

@@ -1,15 +1,16 @@
 -- Where a function was called its caller waits on the list, in the memory that the callee has by
 -- then.
-use Rattle.std.proofs.Common.{◌≡◌, ℕ, zero, suc, ◌+◌, ◌-◌, ◌*◌, ◌^◌, ◌<◌, ◌≤◌, false, Option, Some, List, [], ◌∷◌, ◌++◌, refl, sym, subst, ◌∙◌, arith}
+use Rattle.std.proofs.Common.{◌≡◌, ℕ, zero, suc, ◌+◌, ◌-◌, ◌*◌, ◌^◌, ◌<◌, ◌≤◌, true, false, Option, Some, List, [], ◌∷◌, ◌++◌, refl, sym, subst, ◌∙◌, arith}
 use Rattle.std.specs.Prelude.{slice_get, take}
 use Rattle.std.proofs.lemmas.List.{append_assoc}
-use Rattle.match_turns.specs.Words.{IMAGE_BASE, IMAGE_RANGE_END, Memory, Rsp, Instr, context_of, State, register, Temporary, LinearBody, LinearFunclet, BodyName, FunctionBody, FuncletBody, body_of, Item, Waits, Searches, Unwinds, waiting, regions_of, Layout, sizes, put_back, keep, temporary_at, call, return_at, begin_call, passing_code, template_size, StackItem, context_below, HoldsWords, IsAbove, FuncletIsAbove, IsData, On, KeepsStackBut, Setting, InBody, IsResumed, IsLinkedStack, arguments_code, frame_of}
+use Rattle.match_turns.specs.Words.{IMAGE_BASE, IMAGE_RANGE_END, Memory, Rsp, Instr, context_of, State, register, Temporary, LinearBody, LinearFunclet, BodyName, FunctionBody, FuncletBody, body_of, Item, Waits, Searches, Unwinds, waiting, regions_of, Layout, sizes, put_back, keep, temporary_at, call, return_at, begin_call, passing_code, template_size, StackItem, context_below, HoldsWords, IsAbove, FuncletIsAbove, IsData, On, KeepsStackBut, Setting, InBody, IsResumed, IsLinkedStack, arguments_code, frame_of, slots_end, now_of}
 use Rattle.linear_code.specs.declared.instruction.Instruction.TheVariants as instructions
 use Rattle.match_turns.proofs.Lemmas.{sizes_append, call_size, template_some, others_of, frame_with, body_on_top, sp_low, next_address}
 use Rattle.match_turns.proofs.CallResult.{offset_most}
 use Rattle.match_turns.proofs.CallReturn.{returns_at, call_template}
 use Rattle.match_turns.proofs.FunctionFrame.{same_itself}
 use Rattle.match_bodies.proofs.ArgumentSpace.{outgoing_is_free}
+use Rattle.match_bodies.proofs.LeafRegisters.{activation_at, framed_hold}
 use Rattle.match_turns.proofs.AtCall.{AtCall}
 
 kept_some : (y : Layout) (first : ℕ) → 1 ≤ sizes (keep y (Temporary first))
@@ -151,7 +152,11 @@ module _ {setting : Setting} (at_call : AtCall setting) where
       instruction = record { low = back_inside.0; high = back_inside.1 };
       same = same_itself (regions_of (body_of program c.frame.body)) c.frame.next;
       small = back_small;
-      activation = b.body.slots.activation;
+      activation = activation_at s.memory (p.register c.frame.body) y s.cpu later.cpu
+          (p.leaf c.frame.body) (slots_end y (p.leaf c.frame.body)) c.frame.activation b.body.acts
+          c.frame.body refl
+          (framed_hold (now_of true later.cpu) (p.register c.frame.body) (p.leaf c.frame.body)
+          b.body.acts c.frame.body framed) b.body.slots.activation;
       temporaries = front s.memory _ _ c.frame.temporaries first b.body.slots.temporaries;
       space = b.body.slots.space;
     };

@@ -1,7 +1,7 @@
 -- At the host's return addresses: a filter has answered, a `__finally` block has ended.
-use Rattle.std.proofs.Common.{◌≡◌, ℕ, zero, ◌+◌, ◌*◌, ◌≤◌, Bool, true, List, [], ◌∷◌, ◌++◌, Option, Some, None, refl, sym, ap, subst, ◌∙◌, arith, inl, inr, append_assoc, length-append}
+use Rattle.std.proofs.Common.{◌≡◌, ℕ, zero, ◌+◌, ◌*◌, ◌≤◌, Bool, List, [], ◌∷◌, ◌++◌, Option, Some, None, refl, sym, ap, subst, ◌∙◌, arith, inl, inr, append_assoc, length-append}
 use Rattle.std.proofs.lemmas.List.{append-nil}
-use Rattle.match_turns.specs.Words.{W32, Event, signed, Rsp, Context, context_of, State, register, rsp, distance, DispatchRecord, placed, Turn, Continues, with_event, arrivals, arrived, accepted, searches_on, unwinds_on, finally_returned, eax, again, restored, if_unwinding, Exception, noncontinuable, raise_event, Region, Handler, Target, Resumption, AfterCall, SameOperation, Waits, Unwinds, Item, Frame, Store, Seen, Next, Configuration, handlers, search, accept, resumed, unwind, end_finally, exec, StackItem, Unwinding, Activation, locals_of, On, RecordHasRoom, store_of, IsWellFormed, Unwound, placed_in, SearchIsAnswered, AnswersAs, filter_turn, linear_answer, with_answer, answered, AsksTheNext, AskedTakesOver, ContinuesException, IsRaisedAnew, HasRule, WalkGives, callers, held_below, turns_left, FlagsFit, NoneLanded, Setting, IsMachineMemory, Continuations, Outcome, Shows}
+use Rattle.match_turns.specs.Words.{W32, Event, signed, Rsp, Context, context_of, State, register, rsp, distance, DispatchRecord, placed, Turn, Continues, with_event, arrivals, arrived, accepted, searches_on, unwinds_on, finally_returned, eax, again, restored, if_unwinding, Exception, noncontinuable, raise_event, Region, Handler, Target, Resumption, AfterCall, SameOperation, Waits, Unwinds, Item, Frame, Store, Seen, Next, Configuration, handlers, search, accept, resumed, unwind, end_finally, exec, StackItem, Unwinding, Activation, locals_of, On, RecordHasRoom, store_of, IsWellFormed, Unwound, placed_in, SearchIsAnswered, AnswersAs, filter_turn, linear_answer, with_answer, answered, AsksTheNext, AskedTakesOver, ContinuesException, IsRaisedAnew, HasRule, WalkGives, callers, held_below, turns_left, FlagsFit, NoneLanded, Setting, IsMachineMemory, Continuations, Outcome, Shows, ResumesFrom}
 use Rattle.seh_records.specs.Record.{fetched}
 use Rattle.seh_num.specs.declared.event.Event.TheVariants as events
 use Rattle.match_turns.proofs.Lemmas.{in_stack, answers_continue, finally_returns_unwind, none_below, on_stack, stack_rises}
@@ -45,7 +45,7 @@ module _ (setting : Setting) (fits : FlagsFit setting.program) where
     onward = answers_continue t fs program p s r is acts exception resumption asked rest c'
         (record { gives = answers.gives; well_formed = answers.well_formed; on = answers.on })
 
-    resumes : p.resumes resumption c.frame r.saved ≡ true
+    resumes : ResumesFrom p resumption c.frame acts r.saved
     resumes = answers.on.is_there.linked.0.resumes
 
     shows : (x : Turn) → filter_turn t s ≡ with_answer s x

@@ -1,9 +1,10 @@
 -- Where a fault is continued, the saved state is within the same operation.
-use Rattle.std.proofs.Common.{◌≡◌, ℕ, true, List, [], ◌∷◌, Some, refl, sym, ap, subst, arith}
+use Rattle.std.proofs.Common.{◌≡◌, ℕ, List, [], ◌∷◌, Some, refl, sym, ap, subst, arith}
 use Rattle.std.specs.Prelude.{slice_get}
-use Rattle.match_turns.specs.Words.{Cpu, context_of, State, distance, arrivals, Temporary, Instruction, LinearBody, body_of, SameOperation, Waits, Configuration, StackItem, InCode, Activation, locals_of, On, IsWellFormed, WorksAgain, IsWellMade, template_size, Setting, InBody, IsMachineMemory, WorksOn}
+use Rattle.match_turns.specs.Words.{Cpu, context_of, State, distance, arrivals, Temporary, Instruction, LinearBody, body_of, SameOperation, Waits, Configuration, StackItem, InCode, Activation, locals_of, On, IsWellFormed, WorksAgain, IsWellMade, template_size, Setting, InBody, IsMachineMemory, WorksOn, ResumesFrom, leaf_values, slots_end, rsp}
 use Rattle.linear_code.specs.declared.instruction.Instruction.TheVariants as instructions
 use Rattle.match_turns.proofs.Lemmas.{address_next, waits_in_body, all_front, get_or_is, label_in, body_there}
+use Rattle.match_bodies.proofs.LeafRegisters.{running_hold}
 use Rattle.match_turns.proofs.OperationCode.{some_finish, whole_size, silent_within}
 
 module _ (setting : Setting) (made : IsWellMade setting.program setting.plan)
@@ -11,13 +12,16 @@ module _ (setting : Setting) (made : IsWellMade setting.program setting.plan)
     (on : On setting.functions setting.funclets setting.program setting.plan s.memory
     (context_of saved) is (Waits c.frame ∷ c.below) acts)
     (well_formed : IsWellFormed (record { cpu = saved; memory = s.memory }))
-    (resumes : setting.plan.resumes SameOperation c.frame saved ≡ true)
+    (resumes : ResumesFrom setting.plan SameOperation c.frame acts saved)
     (memory : IsMachineMemory setting s.memory c.store.memory)
     (store : c.store.activations ≡ locals_of acts) where
   open setting use {functions as t, funclets as fs, program, plan as p, sites as q, image}
 
-  again : WorksAgain t fs program p q c.frame saved
-  again = (image.resumptions SameOperation c.frame saved).said resumes
+  abbrev values : List ℕ
+  values = leaf_values (p.leaf c.frame.body) c.frame.body acts
+
+  again : WorksAgain t fs program p q c.frame values saved
+  again = (image.resumptions SameOperation c.frame values saved).said resumes
 
   abbrev i : Instruction
   i = instructions.Compute again.to again.operation (Temporary again.first) (Temporary again.second)
@@ -56,7 +60,26 @@ module _ (setting : Setting) (made : IsWellMade setting.program setting.plan)
       (record c { store = record { memory = c.store.memory; activations = xs } })) (sym store)
       (waits_in_body t fs program p q image u (context_of saved) is c.frame c.below acts
       c.frame.next c.frame.temporaries c.frame.landed c.store.memory c.events on refl inside
-      well_formed (all_front s.memory c.frame.temporaries))
+      well_formed (all_front s.memory c.frame.temporaries) again.locals)
 
   pub works_on : WorksOn setting u c
-  works_on = record { again = again; well_formed = well_formed; memory = memory; body = in_body }
+  works_on = record {
+    well_formed = well_formed;
+    memory = memory;
+    body = in_body;
+    again = record {
+      to = again.to;
+      operation = again.operation;
+      first = again.first;
+      second = again.second;
+      works = again.works;
+      here = again.here;
+      has_first = again.has_first;
+      has_second = again.has_second;
+      ready = again.ready;
+      locals = running_hold s.memory (p.register c.frame.body) (p.layout c.frame.body) saved
+          (p.leaf c.frame.body) (rsp (context_of saved))
+          (slots_end (p.layout c.frame.body) (p.leaf c.frame.body)) c.frame.activation
+          in_body.acts c.frame.body in_body.slots.activation;
+    };
+  }

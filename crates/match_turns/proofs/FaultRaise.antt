@@ -3,7 +3,7 @@
 use Rattle.std.proofs.Common.{◌≡◌, ℕ, zero, suc, ◌^◌, ◌<◌, Bool, true, false, List, [], ◌∷◌, ◌++◌, Option, Some, None, Err, refl, ap, subst, ◌∙◌, arith}
 use Rattle.std.specs.Prelude.{slice_index, replicate}
 use Rattle.std.proofs.lemmas.Bool.{ne_eqb}
-use Rattle.match_turns.specs.Words.{Code, Instr, context_of, State, step, rsp, arrived, write_number, parameters, raised, Raises, Exception, raise_event, is_reserved, Operation, Slot, Temporary, Instruction, Layout, SameOperation, Configuration, Next, raise, act, exec, operands_code, finish_code, KeepsAbove, IsException, IsLive, HasRule, IsMatched, callers, turns_left, IsWellMade, IsKnown, KnownNext, seen_by_templates, FlagsFit, ComesTo, Setting, IsResumed, Represents, Shows, WorksOn, AllSmall, IsSmallAccess}
+use Rattle.match_turns.specs.Words.{Code, Instr, context_of, State, step, rsp, arrived, write_number, parameters, raised, Raises, Exception, raise_event, is_reserved, Operation, Slot, Temporary, Instruction, Layout, SameOperation, Configuration, Next, raise, act, exec, operands_code, finish_code, KeepsAbove, IsException, IsLive, HasRule, IsMatched, callers, turns_left, IsWellMade, IsKnown, KnownNext, seen_by_templates, FlagsFit, ComesTo, Setting, IsResumed, Represents, Shows, WorksOn, AllSmall, IsSmallAccess, leaf_values}
 use Rattle.x64_machine.specs.declared.outcome.Stop.TheVariants as stops
 use Rattle.linear_code.specs.declared.instruction.Instruction.TheVariants as instructions
 use Rattle.x64_templates.specs.Runs.{Finished}
@@ -134,7 +134,9 @@ module _ (setting : Setting) (made : IsWellMade setting.program setting.plan)
       shows rule =
           raised_as setting fits s s.cpu asks.is w.body.acts c asks.asks w.memory w.body.store code
           0 access (exception_of code access) SameOperation (is_exception code access small)
-          ((image.resumptions SameOperation c.frame s.cpu).says w.again) (subst HasRule
+          ((image.resumptions SameOperation c.frame
+          (leaf_values (p.leaf c.frame.body) c.frame.body w.body.acts) s.cpu).says w.again)
+          (subst HasRule
           (acts (exec program zero)) rule)
 
       pub raised_at_once : HasRule (act program i (exec program zero) c) → KnownNext program c i

@@ -12,8 +12,7 @@ use Rattle.linear_code.specs.declared.program.FuncletKind.TheVariants as funclet
 use Rattle.match_turns.proofs.FuncletShadow.{base_code, arguments_are, base_is_plain, funclet_ran}
 use Rattle.match_turns.proofs.FuncletPrologue.{LeadsBy}
 use Rattle.match_turns.proofs.FuncletFrame.{ArrivesBelow, arrives_below, IsPlanned, funclet_planned, HasFrame, begins, word_within, stack_writable}
-use Rattle.match_bodies.proofs.FramePlaces.{same_registers}
-use Rattle.match_turns.proofs.FuncletConfiguration.{IsFilterOfSome, filter_of_some, is_filter, parent_locals, leads_by}
+use Rattle.match_turns.proofs.FuncletConfiguration.{IsFilterOfSome, filter_of_some, is_filter, parent_locals, parent_registers, leads_by}
 use Rattle.match_turns.proofs.DispatchSpace.{shallow_is, HasRecordSpace, search_space}
 use Rattle.match_turns.proofs.FuncletFirstTurns.{HasEntered, begun, plan, entered, first_small, silent_there}
 
@@ -238,8 +237,7 @@ module _ (setting : Setting) where
       number = subst (λ r. number_at u.memory.byte 8 (r + l.plan.layout.slot) ≡ a.reaches.base)
           (sym stack_here) base_here;
       distance = subst (IsActivation acts handler.activation a.reaches.base y.locals)
-          (same_registers (p.register a.name) (p.register (FuncletBody k))
-          (image.no_registers a.name) (image.no_registers (FuncletBody k)))
+          (parent_registers setting k f f.parent a.name known.funclet.there parent owner)
           (subst (λ d. IsActivation acts handler.activation a.reaches.base d (p.register a.name))
           (parent_locals setting k f f.parent a.name known.funclet.there parent owner)
           a.reaches.activation);

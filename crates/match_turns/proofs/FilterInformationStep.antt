@@ -4,8 +4,9 @@ use Rattle.std.specs.Prelude.{slice_get}
 use Rattle.match_turns.specs.Words.{State, Field, field_of, Slot, Local, Temporary, BodyState, with_slot, LinearBody, FuncletBody, Configuration, Next, act, Layout, sizes, template_size, machine, ReachesBody, IsField, Moves, HaveRoom, IsFuncletPlan, turns_left, IsFilterBody, Setting, RepresentsAt, information_code, IsNextSlot}
 use Rattle.linear_code.specs.declared.instruction.Instruction.TheVariants as instructions
 use Rattle.linear_machine.specs.Frames as linear
-use Rattle.match_turns.proofs.Lemmas.{keep_length, information_run, IsCounted, room_here, holds_here, code, frame, slots, v, sp_is, has_slots, template_here, next_address, Surroundings, locals_after, temporaries_after, FitsAfter, one_more, information_keeps, GoesInside, from_here, label_small, moves_to, stored, writes, leaves_stored}
+use Rattle.match_turns.proofs.Lemmas.{keep_length, information_run, IsCounted, room_here, holds_here, code, frame, slots, v, sp_is, has_slots, template_here, next_address, Surroundings, locals_after, temporaries_after, FitsAfter, one_more, information_keeps, GoesInside, from_here, label_small, reached_here, moves_to, stored, writes, leaves_stored}
 use Rattle.match_turns.proofs.FilterRecord.{pointers_here, reads_exception}
+use Rattle.match_bodies.proofs.TemplateRuns.{keeps_here, template_spared}
 
 information_size : (y : Layout) (to : Slot) (field : Field)
     → template_size y (instructions.Information to field) ≡ sizes (information_code y to field)
@@ -53,6 +54,8 @@ module _ (setting : Setting) (roomy : HaveRoom setting.program) (s : State)
       let value = field_of field c.frame.exception in
       let there = has_slots setting roomy s c b counted
       (instructions.Information to field) e in
+      let reached = reached_here setting roomy s c b counted around
+      (instructions.Information to field) e in
       let fits = fits_next to next in
       let acts : (next : Next) → act program (instructions.Information to field) next c
       ≡ next (stored setting roomy s c b counted around to value c.store.memory) =
@@ -67,7 +70,9 @@ module _ (setting : Setting) (roomy : HaveRoom setting.program) (s : State)
       let near = pointers_near filter in
       let run = information_run (frame setting roomy s c b counted) to field
       (v setting roomy s c b counted) s.cpu.rip s.cpu.flags now value
-      (room_here setting s c b counted) there is (omega arith) (sp_is setting roomy s c b counted)
+      (room_here setting s c b counted) there
+      (keeps_here setting roomy s c b counted (instructions.Information to field) e) is
+      (omega arith) (sp_is setting roomy s c b counted)
       (holds_here setting s c b counted) reads.small reads.has
       (template_here setting roomy s c b counted (instructions.Information to field) e) in
       let len = keep_length y to in
@@ -89,6 +94,8 @@ module _ (setting : Setting) (roomy : HaveRoom setting.program) (s : State)
       (v setting roomy s c b counted).rest (v setting roomy s c b counted).locals
       (record { slots = with_slot now.slots to x; memory = c.store.memory })) reads.fits run))
       (omega arith) lt (omega arith) (leaves_stored setting roomy s c b counted around to value
-      c.store.memory held fits there) free
-      (information_keeps setting roomy s c b counted to field e is (omega arith)) acts (omega arith)
+      c.store.memory held fits there reached) free
+      (information_keeps setting roomy s c b counted to field e is (omega arith))
+      (template_spared setting roomy s c b counted (instructions.Information to field) e (λ h. h))
+      acts (omega arith)
       (omega arith)

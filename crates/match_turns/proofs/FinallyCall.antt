@@ -3,7 +3,7 @@
 use Rattle.std.proofs.Common.{◌≡◌, ℕ, ◌+◌, ◌-◌, ◌^◌, ◌<◌, ◌≤◌, true, false, Option, Some, None, Ok, List, [], ◌∷◌, length, refl, sym, ap, subst, ◌∙◌, arith, inl}
 use Rattle.std.specs.Prelude.{slice_get}
 use Rattle.seh_num.specs.declared.event.Event.TheVariants as events
-use Rattle.match_turns.specs.Words.{STACK_START, STACK_END, Rdx, Rsp, context_of, State, register, distance, arrivals, by_kind, of_test, LinearBody, BodyName, FuncletBody, body_of, funclet_body, Waits, Configuration, instruction_in, Layout, sizes, IsNear, finally_arguments, MachineView, machine, pushed, HasBelow, context_below, InCode, by_parent, parent_body, IsFunclet, HasActivation, return_of, ReturnsTo, KeepsAbove, On, IsWellFormed, AllKeep, Comes, AllReturnsStayInRegions, IsFinallyKind, parent_of, IsFuncletOf, HaveRoom, slots_end, Setting, InBody, IsMachineMemory, IsResumed, RepresentsAt, is_finally, frame_of, get}
+use Rattle.match_turns.specs.Words.{STACK_START, STACK_END, Rdx, Rsp, context_of, State, register, distance, arrivals, by_kind, of_test, LinearBody, BodyName, FuncletBody, body_of, funclet_body, Waits, Configuration, instruction_in, Layout, sizes, IsNear, finally_arguments, MachineView, machine, pushed, HasBelow, context_below, InCode, by_parent, parent_body, IsFunclet, HasActivation, return_of, ReturnsTo, KeepsAbove, On, IsWellFormed, AllKeep, Comes, AllReturnsStayInRegions, IsFinallyKind, parent_of, IsFuncletOf, HaveRoom, slots_end, Setting, InBody, IsMachineMemory, IsResumed, RepresentsAt, is_finally, frame_of, get, now_of}
 use Rattle.virtual_unwind.specs.Undone.{word}
 use Rattle.x64_templates.specs.Runs.{Reaches}
 use Rattle.x64_instr.specs.declared.instruction.Instr.TheVariants as instrs
@@ -18,6 +18,7 @@ use Rattle.match_turns.proofs.FuncletFrame.{ArrivesBelow}
 use Rattle.match_turns.proofs.CallRegions.{apart_same}
 use Rattle.match_turns.proofs.DispatchMemory.{memory_untouched}
 use Rattle.match_turns.proofs.ReturnAddressPush as pushing
+use Rattle.match_bodies.proofs.LeafRegisters.{framed_hold, activation_at}
 
 same_parents : (function : ℕ) (o : Option ℕ) → by_parent function o ≡ parent_of function o
 same_parents function None = refl
@@ -238,7 +239,10 @@ module _ (setting : Setting) (roomy : HaveRoom setting.program)
         same = apart_same t fs program p apart name code c.frame.next (instructions.CallFinally k)
             b.body.slots.body at refl;
         small = back_small;
-        activation = b.body.slots.activation;
+        activation = activation_at s.memory (p.register name) y s.cpu later.cpu (p.leaf name)
+            (slots_end y (p.leaf name)) c.frame.activation b.body.acts name refl
+            (framed_hold (now_of true later.cpu) (p.register name) (p.leaf name) b.body.acts name
+            framed) b.body.slots.activation;
         temporaries = b.body.slots.temporaries;
         space = b.body.slots.space;
       };
@@ -278,7 +282,7 @@ module _ (setting : Setting) (roomy : HaveRoom setting.program)
 
     held : HasActivation s.memory (get (context_of s.cpu)) (p.register name) y sp y.slots
         c.frame.activation b.body.acts name
-    held = subst (λ z. HasActivation s.memory (get (context_of s.cpu)) (p.register name) y sp
+    held = subst (λ z. HasActivation s.memory (now_of z s.cpu) (p.register name) y sp
         (slots_end y z) c.frame.activation b.body.acts name) framed b.body.slots.activation
 
     activation : linked.Reaches t fs program p called.memory name (register called.cpu Rdx)

@@ -1,14 +1,15 @@
 -- A `__finally` block that a body has called returns: the body continues after its call.
-use Rattle.std.proofs.Common.{◌≡◌, ℕ, zero, suc, ◌+◌, ◌<◌, ◌≤◌, Option, Some, None, List, [], ◌∷◌, length, get_or, refl, sym, ap, subst, ◌∙◌, arith}
+use Rattle.std.proofs.Common.{◌≡◌, ℕ, zero, suc, ◌+◌, ◌<◌, ◌≤◌, Option, Some, None, List, [], ◌∷◌, length, get_or, refl, sym, ap, subst, ◌∙◌, arith, true, false}
 use Rattle.std.specs.Prelude.{slice_get}
 use Rattle.std.proofs.lemmas.List.{append-nil}
-use Rattle.match_turns.specs.Words.{kept_of, Rsp, Context, State, register, distance, arrivals, Slot, Instruction, LinearBody, LinearFunclet, BodyName, FuncletBody, body_of, Frame, Item, Waits, Configuration, Next, with_some, read, forth, instruction_in, end_finally, end_funclet, end_body, act, Layout, sizes, call, finally_arguments, return_code, template_size, body_size, offset_of, HasBack, context_below, AllReturnsStayInRegions, HaveRoom, InCode, Activation, locals_of, activations_below, return_of, ReturnsTo, On, IsWellFormed, Moves, links_of, held_below, turns_left, Setting, InBody, RepresentsAt}
+use Rattle.match_turns.specs.Words.{kept_of, Rsp, Context, State, register, distance, arrivals, Slot, Instruction, LinearBody, LinearFunclet, BodyName, FuncletBody, body_of, Frame, Item, Waits, Configuration, Next, with_some, read, forth, instruction_in, end_finally, end_funclet, end_body, act, Layout, sizes, call, finally_arguments, return_code, template_size, body_size, offset_of, HasBack, context_below, AllReturnsStayInRegions, HaveRoom, InCode, Activation, locals_of, activations_below, return_of, ReturnsTo, On, IsWellFormed, Moves, links_of, held_below, turns_left, Setting, InBody, RepresentsAt, now_of}
 use Rattle.x64_templates.specs.Runs.{Reaches}
 use Rattle.linear_code.specs.declared.instruction.Instruction.TheVariants as instructions
 use Rattle.linear_code.specs.declared.program.FuncletKind.TheVariants as funclets
 use Rattle.match_turns.proofs.Lemmas.{sizes_append, call_size, template_sizes, offset_next, reaches_silently, waits_in_body, all_front, IsCounted, get_or_is}
 use Rattle.match_bodies.proofs.BodyResumption.{again}
 use Rattle.match_turns.proofs.BodyReturn as leaving
+use Rattle.match_bodies.proofs.LeafRegisters.{framed_hold}
 
 -- an instruction of a body begins within it
 pub offset_most : (y : Layout) (body : List Instruction) (number : ℕ)
@@ -67,7 +68,7 @@ module _ (setting : Setting) (roomy : HaveRoom setting.program)
       (w : Frame) (items : List Item) (below : c.below ≡ Waits w ∷ items) (o : LinearBody)
       (there : body_of program w.body ≡ Some o) (j : ℕ)
       (calls : slice_get o.code w.next ≡ Some (instructions.CallFinally j))
-      (free : w.landed ≡ None) where
+      (free : w.landed ≡ None) (framed : p.leaf w.body ≡ false) where
     abbrev layout : Layout
     layout = p.layout c.frame.body
 
@@ -153,7 +154,9 @@ module _ (setting : Setting) (roomy : HaveRoom setting.program)
         (waits_in_body t fs program p q image after above b.body.is w items outer (w.next + 1)
         w.temporaries w.landed c.store.memory c.events on registers_after back_code
         well_formed_after
-        (all_front s.memory w.temporaries))
+        (all_front s.memory w.temporaries)
+        (framed_hold (now_of true after.cpu) (p.register w.body) (p.leaf w.body) outer w.body
+        framed))
 
     begins : RepresentsAt setting after next_one
     begins = record {

@@ -9,6 +9,7 @@ use Rattle.match_turns.proofs.Lemmas.{silently_after, fails_at_once, locals_coun
 use Rattle.match_turns.proofs.FinallyEntry.{block_leads}
 use Rattle.match_turns.proofs.DispatchSpace.{shallow_is}
 use Rattle.match_turns.specs.BlockLaws.{BlockCallsAreMatched}
+use Rattle.match_turns.proofs.CallResult.{caller_framed}
 use Rattle.match_turns.proofs.FinallyCall as calling
 
 -- a `__finally` block has a flag
@@ -49,12 +50,7 @@ module _ (setting : Setting) (made : IsWellMade setting.program setting.plan)
         flagged.1
 
     framed : p.leaf c.frame.body ≡ false
-    framed = by (p.leaf c.frame.body) refl
-      where
-        by : (leaf : Bool) → p.leaf c.frame.body ≡ leaf → p.leaf c.frame.body ≡ false
-        by false e = e
-        by true e = absurd (let no : true ≡ false = made.leaves c.frame.body body c.frame.next i
-            b.body.slots.body e here in cc)
+    framed = caller_framed setting made c.frame.body body c.frame.next i b.body.slots.body here refl
 
     abbrev next_one : Configuration
     next_one = begin_finally k flagged.0 false c.frame.held (Waits c.frame ∷ c.below) c

@@ -3,25 +3,25 @@ use Rattle.std.proofs.Common.{◌≡◌, ℕ, ◌+◌, ◌*◌, ◌^◌, ◌<◌
 use Rattle.std.specs.Prelude.{slice_get, slice_index, slice_set}
 use Rattle.std.proofs.lemmas.Option.{slice_get_within, slice_get_cases}
 use Rattle.std.proofs.lemmas.List.{append-nil}
-use Rattle.match_turns.specs.Words.{STACK_START, STACK_END, W32, low, Event, Memory, number_at, Rax, Rcx, Rdx, Rsp, Instr, State, register, of_test, no_exception, Local, BodyState, with_slot, LinearBody, LinearFunclet, BodyName, FuncletBody, funclet_body, Item, Store, Configuration, flag_of, Layout, sizes, move, put_back, keep, local_at, keep_local, fetched, machine, HasCode, Enters, FramePlace, ReachesBody, Steps, StackItem, is_encodable, IsFinallyKind, parent_of, function_of, owner_of, IsFuncletOf, owners_of, by_parent, Activation, locals_of, IsActivation, HasSpace, below_end, record_room, HasPointers, FuncletIsAbove, IsWellFormed, KeepsShadow, AllKeep, is_call, LeadsTo, parent_base, keep_argument, begin_of, making_size, context_of, FindsOwed, Owed, owed_of, with_values, OwnerHasFrame, IsKnown, entry_turns, FlagsFit, LARGEST_FRAME, Setting, HasProgram, IsMachineMemory, RepresentsAt, frame_at, state_of, OtherRegisters, keep_placed}
+use Rattle.match_turns.specs.Words.{STACK_START, STACK_END, W32, low, Event, Memory, number_at, Rax, Rcx, Rdx, Rsp, Instr, State, register, of_test, no_exception, Local, BodyState, with_slot, LinearFunclet, BodyName, FuncletBody, funclet_body, Item, Store, Configuration, flag_of, Layout, sizes, move, put_back, keep, local_at, keep_local, fetched, machine, HasCode, Enters, FramePlace, ReachesBody, Steps, StackItem, is_encodable, IsFinallyKind, parent_of, owner_of, IsFuncletOf, by_parent, Activation, locals_of, IsActivation, HasSpace, below_end, record_room, HasPointers, FuncletIsAbove, IsWellFormed, KeepsShadow, AllKeep, is_call, LeadsTo, parent_base, keep_argument, begin_of, making_size, context_of, FindsOwed, Owed, owed_of, with_values, OwnerHasFrame, IsKnown, entry_turns, FlagsFit, LARGEST_FRAME, Setting, HasProgram, IsMachineMemory, RepresentsAt, frame_at, state_of, OtherRegisters, keep_placed, IsReached, arrived_in}
 use Rattle.match_bodies.specs.CodeSites.{arguments_code}
 use Rattle.linear_code.specs.declared.program.FuncletKind.TheVariants as funclets
+use Rattle.lowering_invariants.specs.Registers.{FlagHas}
 use Rattle.linear_machine.specs.Frames as linear
 use Rattle.match_bodies.specs.ProgramImages.{frame_of}
-use Rattle.match_turns.proofs.Lemmas.{frame_from, frame_with, sizes_append, code_split, near, enters_then, flag_run, Within, straight, keep_first, others_of, program_kept, enters_silently, none_inside, read_here, StepsTo, reaches_steps, enters_steps, keeps_split, Beneath, beneath_by, callers_above, Finds, ran, label_found, argument_found, frame_there, EntryRan, locals_count, activated, reaches_keeps, enters_keeps, stays_well_formed, SlotsPlaced, IsCounted, frame_top, room_here, holds_here, slots_here, locals_here, Leaves, Ran, frame_after, new_on, represents_next, set_length, local_after, gives_above, owed_with, frame_owed, kept_alike, keep_length}
-use Rattle.x64_templates.proofs.Locals.{locals_stay}
+use Rattle.match_turns.proofs.Lemmas.{frame_from, frame_with, sizes_append, code_split, near, enters_then, flag_run, Within, straight, keep_first, others_of, program_kept, enters_silently, none_inside, read_here, StepsTo, reaches_steps, enters_steps, keeps_split, Beneath, beneath_by, callers_above, Finds, plain_steady, ran, label_found, argument_found, frame_there, EntryRan, locals_count, activated, reaches_keeps, enters_keeps, stays_well_formed, SlotsPlaced, IsCounted, frame_top, room_here, holds_here, slots_here, locals_here, leaves_set, Leaves, Ran, frame_after, new_on, represents_next, set_length, local_after, gives_above, owed_with, frame_owed, keep_length}
 use Rattle.match_bodies.proofs.RoutineWalks.{Ran as MidRan}
 use Rattle.match_bodies.proofs.BodyFrames.{codes_above}
 use Rattle.match_bodies.proofs.BodyViews.{placed, count}
 use Rattle.match_turns.proofs.FuncletPrologue.{LeadsBy}
 use Rattle.match_turns.proofs.FuncletFrame.{ArrivesBelow, IsPlanned, funclet_planned, HasFrame, first_frame, beginning, begins}
-use Rattle.match_bodies.proofs.FramePlaces.{same_registers}
-use Rattle.match_turns.proofs.FuncletConfiguration.{HasLocals, activation_at, as_many, no_leaf, parent_locals, leads_by, locals_counted, owner_framed}
+use Rattle.match_turns.proofs.FuncletConfiguration.{parent_locals, parent_registers, leads_by}
 use Rattle.match_turns.proofs.FuncletFirstTurns.{HasEntered, begun, entered, first_small, silent_there}
 use Rattle.match_turns.proofs.ReturnAddressPlace.{top_of, begins_beneath}
 use Rattle.match_turns.proofs.FuncletShadow.{base_code, arguments_are, base_is_plain, funclet_ran}
 use Rattle.match_turns.proofs.FilterEntry.{has_first, parent_is}
-use Rattle.match_turns.proofs.FinallyFlag.{same_number, same_body, same_list, set_count, set_here, kind_of_flag, low_test, nothing_landed, block_begins}
+use Rattle.match_turns.proofs.FinallyActivation.{block_counted, owner_has_frame}
+use Rattle.match_turns.proofs.FinallyFlag.{kind_of_flag, low_test, nothing_landed, block_begins}
 
 module _ (setting : Setting) where
   open setting use {functions as t, funclets as fs, program, plan as p, sites as q, image}
@@ -142,8 +142,7 @@ module _ (setting : Setting) where
       number = subst (λ r. number_at s1.memory.byte 8 (r + l.plan.layout.slot) ≡ a.reaches.base)
           (sym stack_1) e.number;
       distance = subst (IsActivation acts activation a.reaches.base y.locals)
-          (same_registers (p.register a.name) (p.register (FuncletBody k))
-          (image.no_registers a.name) (image.no_registers (FuncletBody k)))
+          (parent_registers setting k f f.parent a.name known.there parent owner)
           (subst (λ d. IsActivation acts activation a.reaches.base d (p.register a.name))
           (parent_locals setting k f f.parent a.name known.there parent owner)
           a.reaches.activation);
@@ -175,44 +174,13 @@ module _ (setting : Setting) where
 
     -- ---- the activation of the block
 
-    abbrev works : (function : ℕ) × (owner_of program (FuncletBody k) ≡ Some function) × (slice_get
-        (owners_of items) activation ≡ Some function)
-    works = typed.activations.working.0
-
-    has_locals : HasLocals program (slice_set store.activations activation
-        (slice_set (linear.locals_of store activation) flag (of_test abnormal))) activation works.0
-    has_locals = activation_at program (owners_of items) _ activation works.0
-        typed.activations.stored works.2
-
-    function_is : f.function ≡ works.0
-    function_is = same_number f.function works.0 (sym (ap function_of known.there) ∙ works.1)
-
     counted : IsCounted setting c1
-    counted b is =
-        let h = has_locals in
-        let lt = slice_get_within _ activation h.locals h.there in
-        let n = set_count store.activations activation
-        (slice_set (linear.locals_of store activation) flag (of_test abnormal)) in
-        let same : h.locals ≡ slice_set (linear.locals_of store activation) flag
-        (of_test abnormal) = same_list h.locals _ (sym h.there
-        ∙ set_here store.activations activation
-        (slice_set (linear.locals_of store activation) flag (of_test abnormal)) (omega arith))
-        in
-        sym (set_length (linear.locals_of store activation) flag (of_test abnormal)) ∙ sym
-        (ap length same) ∙ locals_counted setting k f works.0 h.locals known.there function_is
-        h.of
-        ∙ ap (λ (z : LinearBody). z.locals) (same_body f.body b (sym (ap funclet_body known.there)
-        ∙ is))
+    counted = block_counted setting k flag activation held abnormal items store events f known.there
+        typed
 
     framed_owner : OwnerHasFrame t fs program p activation items acts
-    framed_owner = owner_framed setting activation items acts
-        (sym (ap length stored ∙ locals_count acts)
-        ∙ sym (set_count store.activations activation
-        (slice_set (linear.locals_of store activation) flag (of_test abnormal)))
-        ∙ sym (as_many program (owners_of items) _ typed.activations.stored))
-        typed.activations.working.1
-        (λ function z. subst (λ j. p.leaf (linear.FunctionBody j) ≡ false)
-        (same_number works.0 function (sym works.2 ∙ z)) (no_leaf setting k works.0 works.1).1)
+    framed_owner = owner_has_frame setting k flag activation held abnormal items store events f
+        known.there typed acts stored
 
     -- ---- the flag is stored
 
@@ -221,6 +189,7 @@ module _ (setting : Setting) where
 
     abbrev fr : FramePlace
     fr = frame_at program p (FuncletBody k) f.body (register s1.cpu Rsp) here.base
+        (arrived_in s1.cpu)
 
     abbrev old : BodyState
     old = state_of program p s1 c1 here.base
@@ -238,7 +207,8 @@ module _ (setting : Setting) where
           memory = old.memory;
         })
     r = flag_run fr (Local flag) e.after e.rip e.flags old (room_here setting s1 c1 b1 counted)
-        flag_fits (e.at ∙ sym stack_1) (holds_here setting s1 c1 b1 counted) code_here
+        flag_fits (let none = l.plan.layout.none_arrive in omega arith) (e.at ∙ sym stack_1)
+        (holds_here setting s1 c1 b1 counted) code_here
 
     abbrev u : State
     u = machine r.after (e.rip + sizes last) r.flags
@@ -255,15 +225,21 @@ module _ (setting : Setting) where
     abbrev d : BodyState
     d = record { slots = with_slot old.slots (Local flag) stored_flag; memory = old.memory }
 
-    leaves : Leaves f.body d values []
+    reached : IsReached p (FuncletBody k) flag
+    reached = subst (FlagHas (IsReached p (FuncletBody k))) kind_is
+        (image.spares k f known.there).flag
+
+    leaves : Leaves p (FuncletBody k) f.body d here.values values []
     leaves =
         let n = count setting s1 c1 b1 counted in
         let w = slots_here setting s1 c1 b1 counted in
         record {
           count = set_length here.values flag stored_flag ∙ n;
-          locals = λ i lt. local_after old.slots here.values (Local flag) stored_flag i
-              (omega arith) (w.locals i lt ∙ ap (λ xs. slice_index xs i) (locals_here setting s1 c1
-              b1 counted));
+          locals = λ i lt named. local_after old.slots here.values (Local flag) stored_flag i
+              (omega arith) (w.locals i lt named ∙ ap (λ xs. slice_index xs i) (locals_here setting
+              s1 c1 b1 counted));
+          others = λ j e. leaves_set (p.register (FuncletBody k)) here.values flag stored_flag
+              reached;
           few = omega arith;
           temporaries = λ i v z. cc;
         }
@@ -287,9 +263,7 @@ module _ (setting : Setting) where
                 };
           };
           holds = r.holds;
-          kept = kept_alike r.after e.after r.rest
-              (locals_stay y e.after.locals r.after.locals (image.in_frames (FuncletBody k))
-              r.locals);
+          kept = record { rest = r.rest; locals = r.locals };
           leaves = leaves;
         }
 
@@ -335,7 +309,8 @@ module _ (setting : Setting) where
         } in RepresentsAt setting u o) store_is
         (represents_next setting s1 c1 b1 counted u d values [] ran_here 0 None events rip_here some
         well_formed_here (λ x z. absurd (nothing_landed x z))
-        (λ z. let w : true ≡ false = sym z ∙ l.plan.framed in absurd cc) (λ j z. framed_owner))
+        (λ z. let w : true ≡ false = sym z ∙ l.plan.framed in absurd cc) (λ j z. framed_owner)
+        (λ i lt. let none = l.plan.layout.none_arrive in absurd (omega arith)))
 
     last_few : length last ≤ 3
     last_few = let few = keep_length y (Local flag) in omega arith
@@ -354,7 +329,7 @@ module _ (setting : Setting) where
 
     last_is : last ≡ mid ++ (storing ∷ [])
     last_is = ap (λ q. move W32 Rax Rcx ∷ keep_placed y flag q)
-        (image.in_frames (FuncletBody k) flag)
+        (l.plan.layout.in_frame flag)
         ∙ ap (λ o. move W32 Rax Rcx ∷ keep_local o (local_at y flag)) l.plan.layout.base
 
     all_parts : arguments_code program p (FuncletBody k) ≡ (base ++ mid) ++ (storing ∷ [])
@@ -420,7 +395,8 @@ module _ (setting : Setting) where
         assoc a b c d = ap (λ (xs : List Instr). xs ++ d) (sym (append_assoc a b c))
             ∙ append_assoc (a ++ b) c d
 
-    middle : MidRan t fs program p q owed top1 (top1 + 8) b1.body.back others1 list1 y1 x mid
+    middle : MidRan t fs program p q owed top1 (top1 + 8) b1.body.back others1 list1 y.slots
+        y.frame 8 y1 x mid
     middle =
         let place : begin + sizes base ≡ y1.cpu.rip = sym kept_base.rip in
         let code = (code_split y1.memory (begin + sizes base) mid []
@@ -432,7 +408,8 @@ module _ (setting : Setting) where
         let within = l.plan.layout.within in
         ran t fs program p q owed top1 (top1 + 8) b1.body.back others1 list1 mid y1 x y.slots
         y.frame 8 (run_3.0, run_3.1, (x, run_2.1, refl))
-        ((refl, inl refl), ((near slot (omega arith), inl refl), tt))
+        (plain_steady owed y.slots y.frame 8 mid
+        ((refl, inl refl), ((near slot (omega arith), inl refl), tt)))
         (subst (λ n. HasCode y1.memory n mid) place code) kept_base.has beneath_1 refl refl
         (omega arith) (codes_above setting (FuncletBody k) f.body (ap funclet_body l.there)
         (register y1.cpu Rsp)) finds

@@ -134,6 +134,27 @@ module _ (setting : Setting) where
       ap (λ n. (p.layout n).locals) (sym e) ∙ own_locals j i.funclet i.there
       ∙ ap (λ g. (p.layout (FunctionBody g)).locals) i.function_is ∙ sym (own_locals k f there)
 
+  -- and in the same registers
+  own_registers : (k : ℕ) (f : LinearFunclet) → slice_get program.funclets k ≡ Some f
+      → p.register (FuncletBody k) ≡ p.register (FunctionBody f.function)
+  own_registers k f there =
+      let plan : IsFuncletPlan program p k f.body = image.laid_out (FuncletBody k) f.body
+      (ap funclet_body there) in
+      (λ j x. plan.same_registers x j)
+      ∙ ap (λ (g : LinearFunclet). p.register (FunctionBody g.function))
+      (same_funclet plan.funclet f (sym plan.there ∙ there))
+
+  pub parent_registers : (k : ℕ) (f : LinearFunclet) (o : Option ℕ) (name : BodyName)
+      → slice_get program.funclets k ≡ Some f → by_parent f.function o ≡ name
+      → owner_of program (parent_of f.function o) ≡ Some f.function
+      → p.register name ≡ p.register (FuncletBody k)
+  parent_registers k f None name there e owner = ap (λ n. p.register n) (sym e)
+      ∙ sym (own_registers k f there)
+  parent_registers k f (Some j) name there e owner =
+      let i = is_there j f.function owner in
+      ap (λ n. p.register n) (sym e) ∙ own_registers j i.funclet i.there
+      ∙ ap (λ g. p.register (FunctionBody g)) i.function_is ∙ sym (own_registers k f there)
+
   -- what RDX leads to, by the parent
   pub leads_by : (m : Memory) (f : LinearFunclet) (o : Option ℕ) (name : BodyName) (frame base : ℕ)
       → by_parent f.function o ≡ name → owner_of program (parent_of f.function o) ≡ Some f.function

@@ -4,7 +4,7 @@ use Rattle.std.proofs.Common.{◌≡◌, ℕ, ◌+◌, ◌^◌, ◌<◌, ◌≤�
 use Rattle.std.specs.Prelude.{◌⊎◌, slice_get}
 use Rattle.std.specs.List.{AllByRecursion}
 use Rattle.std.proofs.lemmas.Bool.{cases_lt}
-use Rattle.match_turns.specs.Words.{STACK_START, STACK_END, Event, Protection, is_writable, Memory, may_write, number_at, Rcx, Rdx, Rsp, context_of, get, State, register, Functions, Funclet, Exception, is_reserved, Region, LinearProgram, LinearFunclet, BodyName, FuncletBody, body_of, funclet_body, Frame, Item, Store, Configuration, holds, regions_of, Layout, StackItem, context_below, ImagePlan, InCode, IsFunclet, Activation, locals_of, IsActivation, HasActivation, HoldsWords, HasSpace, below_end, HasPointers, FuncletIsAbove, BodyWaits, ReturnsTo, Reaches, KeepsStack, On, IsWellFormed, Arrives, IsFuncletPlan, slots_end, last_temporary, Setting, InBody, IsMachineMemory, RepresentsAt}
+use Rattle.match_turns.specs.Words.{STACK_START, STACK_END, Event, Protection, is_writable, Memory, may_write, number_at, Rcx, Rdx, Rsp, context_of, get, State, register, Functions, Funclet, Exception, is_reserved, Region, LinearProgram, LinearFunclet, BodyName, FuncletBody, body_of, funclet_body, Frame, Item, Store, Configuration, holds, regions_of, Layout, StackItem, context_below, ImagePlan, InCode, IsFunclet, Activation, locals_of, IsActivation, HasActivation, HoldsWords, HasSpace, below_end, HasPointers, FuncletIsAbove, BodyWaits, ReturnsTo, Reaches, KeepsStack, On, IsWellFormed, Arrives, IsFuncletPlan, slots_end, last_temporary, Setting, InBody, IsMachineMemory, RepresentsAt, now_of}
 use Rattle.virtual_unwind.specs.Undone.{word}
 use Rattle.match_bodies.specs.Bodies as bodies
 use Rattle.match_bodies.specs.ProgramImages.{frame_of}
@@ -269,6 +269,7 @@ module _ (setting : Setting) where
     no_temporaries = let w = l.plan.layout.temporaries in omega arith
 
     abbrev pub slots : BodyWaits t fs program p u.memory (context_of u.cpu)
+        (now_of (p.leaf (FuncletBody k)) u.cpu)
         (slots_end y (p.leaf (FuncletBody k))) (last_temporary y (FuncletBody k)
         (p.leaf (FuncletBody k))) (first_frame k activation exception held) acts
     slots = record {
@@ -278,7 +279,7 @@ module _ (setting : Setting) where
       instruction = in_code;
       same = same_regions (regions_of (body_of program (FuncletBody k))) 0;
       small = h.well_formed.rip_small;
-      activation = subst (λ z. HasActivation u.memory (get (context_of u.cpu))
+      activation = subst (λ z. HasActivation u.memory (now_of z u.cpu)
           (p.register (FuncletBody k)) y sp (slots_end y z) activation acts (FuncletBody k))
           (sym l.plan.framed) kept_base;
       temporaries = subst (λ z. HoldsWords u.memory (sp + y.temporaries)

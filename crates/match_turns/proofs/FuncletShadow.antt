@@ -1,9 +1,9 @@
 -- A funclet's frame is made and its arguments are stored, and the shadow is kept.
 use Rattle.std.proofs.Common.{◌≡◌, ℕ, ◌+◌, ◌^◌, ◌<◌, ◌≤◌, Option, Some, None, List, ◌++◌, length, refl, sym, ap, ◌∙◌, arith}
-use Rattle.match_turns.specs.Words.{STACK_START, STACK_END, Memory, Rsp, Instr, State, register, FuncletBody, funclet_body, Item, Activation, parent_base, keep_base, keep_argument, funclet_arguments, Setting, IsMachineMemory}
+use Rattle.match_turns.specs.Words.{STACK_START, STACK_END, Memory, Rsp, Instr, State, register, FuncletBody, funclet_body, Item, Activation, parent_base, keep_base, keep_argument, funclet_arguments, owed_of, Setting, IsMachineMemory}
 use Rattle.match_bodies.specs.CodeSites.{arguments_code, body_plan}
 use Rattle.x64_templates.specs.Prologues.{prologue_turns}
-use Rattle.match_turns.proofs.Lemmas.{others_of, small_others, StepsTo, AllPlain, making_steps, EntryRan, entry_ran, base_plain}
+use Rattle.match_turns.proofs.Lemmas.{others_of, small_others, StepsTo, AllPlain, plain_steady, making_steps, EntryRan, entry_ran, base_plain}
 use Rattle.match_turns.proofs.FuncletPrologue.{LeadsBy}
 use Rattle.match_turns.proofs.FuncletFrame.{ArrivesBelow, IsPlanned}
 use Rattle.match_turns.proofs.ReturnAddressPlace.{arrives_beneath}
@@ -63,4 +63,6 @@ module _ (setting : Setting) where
         n s w stored left 8 parts
         (count ∙ ap (λ x. x + length stored) (sym made)) run a.rip refl
         (arrives_beneath setting s k activation argument items acts a high)
-        (small_others s a.well_formed) memory.code (omega arith) (omega arith) refl plain
+        (small_others s a.well_formed) memory.code (omega arith) (omega arith) refl
+        (plain_steady (owed_of p (FuncletBody k)) (p.layout (FuncletBody k)).slots
+        (p.layout (FuncletBody k)).frame 8 stored plain)

@@ -8,6 +8,7 @@ use Rattle.match_turns.proofs.Lemmas.{counted_here, code_at, ready_here}
 use Rattle.match_turns.specs.FuncletLaws.{CalledFiltersBegin, CalledBlocksBegin, ReturnsOfBlocksAreMatched}
 use Rattle.match_turns.proofs.FilterEntry.{filters_begin}
 use Rattle.match_turns.proofs.FinallyUnwindEntry.{blocks_begin}
+use Rattle.match_turns.proofs.CallResult.{caller_framed}
 use Rattle.match_turns.proofs.FinallyCallReturn.{return_of_block}
 
 -- a slot that is held is read
@@ -69,3 +70,5 @@ returns_of_blocks_are_matched t fs program p q image made s c from b known at ca
     called.name from here x.0 x.1 called.funclet called.there called.flag called.kind
     called.body called.items called.below calls.body calls.there called.number calls.at
     waits.0.landed
+    (caller_framed (setting_of t fs program p q image) made called.body.body calls.body
+    called.body.next (instructions.CallFinally called.number) calls.there calls.at refl)

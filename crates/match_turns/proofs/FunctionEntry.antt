@@ -1,7 +1,7 @@
 -- A function is entered after its call, whatever its frame is.
-use Rattle.std.proofs.Common.{◌≡◌, ℕ, ◌+◌, ◌-◌, ◌≤◌, Bool, true, false, Some, List, length, refl, sym, ap, subst, ◌∙◌, arith, inl, inr}
-use Rattle.match_turns.specs.Words.{STACK_START, STACK_END, Rsp, Instr, register, LinearBody, FunctionBody, body_of, Layout, sizes, spelled, parameters_code, check_stack, HasCode, IsFunctionLayout, IsLeafLayout, IsLayoutIf, Setting}
-use Rattle.match_bodies.specs.CodeSites.{body_plan}
+use Rattle.std.proofs.Common.{◌≡◌, ℕ, ◌+◌, ◌-◌, ◌≤◌, Bool, true, false, Some, List, [], length, refl, sym, ap, subst, ◌∙◌, arith, inl, inr}
+use Rattle.match_turns.specs.Words.{STACK_START, STACK_END, Rsp, Instr, register, LinearBody, FunctionBody, body_of, Layout, sizes, spelled, parameters_code, check_stack, HasCode, IsFunctionLayout, IsLeafLayout, IsLayoutIf, Setting, Enters, arrived_in, local_registers, number_placed}
+use Rattle.match_bodies.specs.CodeSites.{body_plan, making_size}
 use Rattle.frame_rules.specs.Bytes.{prologue_code}
 use Rattle.frame_rules.specs.Plan.{FramePlan}
 use Rattle.frame_rules.specs.States.{IsEntry}
@@ -11,10 +11,11 @@ use Rattle.match_bodies.proofs.PlannedPrologues.{body_planned, body_probed}
 use Rattle.match_bodies.proofs.PrologueSteps.{small_at}
 use Rattle.match_turns.proofs.Lemmas.{bytes_kept, may_read_written, stays_well_formed}
 use Rattle.match_turns.proofs.CallArguments as calling
-use Rattle.match_turns.proofs.FunctionParameters.{with_home, home_parameters}
+use Rattle.match_bodies.proofs.LocalRegisters.{place_early}
+use Rattle.match_turns.proofs.FunctionParameters.{parameters_stay, arguments_arrive}
 use Rattle.match_turns.proofs.FunctionParameters as entering
 use Rattle.match_turns.proofs.FunctionEntryCode.{making_frame, HasEntry, has_entry}
-use Rattle.match_turns.proofs.FunctionPrologue.{Made, no_frame, planned_frame}
+use Rattle.match_turns.proofs.FunctionPrologue.{Made, planned_frame}
 use Rattle.match_turns.proofs.AtCall.{AtCall}
 
 module _ {setting : Setting} (at_call : AtCall setting) where
@@ -73,57 +74,39 @@ module _ {setting : Setting} (at_call : AtCall setting) where
 
   leaf_entered : p.leaf (FunctionBody f) ≡ true → IsLeafLayout layout o → Goal
   leaf_entered leaf l =
-      let h = fits in
       let x = low in
       let z = top in
       let e = l.frame in
-      let m = l.locals in
-      let k = l.temporaries in
       let n = l.few in
-      let small : 0 + count ≤ 4 = omega arith in
-      let none : target + sizes (making_frame p q f true) ≡ target = omega arith in
-      let same = home_parameters layout 0 count small in
-      let made = no_frame (entering.called at_call) target
-      (entering.flags at_call) (caller - 8) (entering.arguments at_call) (calling.called_sp at_call)
-      (calling.in_registers at_call) in
-      entering.entered at_call (caller - 8) target 0 made (with_home layout)
-      (image.in_frames (FunctionBody f)) (record {
-        none = l.none;
-        low = omega arith;
-        temporaries = omega arith;
-        locals = omega arith;
-        temporaries_small = omega arith;
-        locals_small = omega arith;
-        apart = inl (omega arith);
-      })
-      (record {
-        base = refl;
-        temporaries = omega arith;
-        locals = omega arith;
-        within = omega arith;
-      }) refl (omega arith)
-      (λ i ge lt. absurd (omega arith)) (omega arith)
-      (subst (λ code. HasCode s.memory target code) (sym same)
-      (subst (λ a. HasCode s.memory a (parameters_code layout 0 count)) none
-      (entry true leaf).storing))
-      (ap (λ code. target + sizes code) same ∙ (let y = (entry true leaf).ends in omega arith))
-      (λ a out i. elim i [
-        | inl w ↦ (let g = w.0 in let h = w.1 in
-            elim out [
-              | inl o1 ↦ absurd (omega arith)
-              | inr (inl o1) ↦ absurd (omega arith)
-              | inr (inr (inl o1)) ↦ (let o2 = o1.0 in let o3 = o1.1 in absurd (omega arith))
-              | inr (inr (inr o1)) ↦ absurd (omega arith)
-            ])
-        | inr w ↦ (let g = w.0 in let h = w.1 in
-            elim out [
-              | inl o1 ↦ absurd (omega arith)
-              | inr (inl o1) ↦ absurd (omega arith)
-              | inr (inr (inl o1)) ↦ (let o2 = o1.0 in let o3 = o1.1 in absurd (omega arith))
-              | inr (inr (inr o1)) ↦ absurd (omega arith)
-            ])
-      ]) (ap (λ code. 0 + length code) same ∙ (entry true leaf).turns)
-      (omega (arith, ap (λ x. sizes (making_frame p q f x)) leaf))
+      let all : layout.arrivals ≡ count = image.arrivals f fn callee leaf ∙ parameters in
+      let some = l.arrive in
+      let none : parameters_code layout 0 count ≡ [] = parameters_stay layout 0 count (omega arith)
+      in
+      let begin = entry true leaf in
+      let called = entering.called at_call in
+      record {
+        sp = caller - 8;
+        place = omega arith;
+        state = entering.at_callee at_call;
+        turns = 0;
+        exact = omega (arith, ap length none, begin.turns);
+        soon = omega arith;
+        comes = (let at : target ≡ target + making_size p q (FunctionBody f) =
+            omega (arith, ap (λ x. sizes (making_frame p q f x)) leaf) in
+            subst (λ a. Enters target a 0 (entering.at_callee at_call)
+            (entering.at_callee at_call)) at refl);
+        rip = (let y = begin.ends in omega (arith, ap sizes none));
+        stack = calling.called_sp at_call;
+        locals = λ i lt.
+            ap (number_placed layout (caller - 8) (arrived_in (entering.at_callee at_call).cpu)
+            (local_registers (entering.at_callee at_call).cpu.registers) called.memory i)
+            (place_early layout i (omega arith))
+            ∙ arguments_arrive called (entering.arguments at_call) (calling.in_registers at_call) i
+            (omega arith);
+        bytes = calling.called_bytes at_call;
+        agrees = calling.called_agrees at_call;
+        same = λ a own_byte out. refl;
+      }
 
   -- ---- a function with a frame
 
@@ -183,8 +166,8 @@ module _ {setting : Setting} (at_call : AtCall setting) where
         let j = l.within in
         let k = l.small in
         entering.entered at_call sp (target + sizes (making_frame p q f false))
-        (prologue_turns plan) made layout
-        (image.in_frames (FunctionBody f)) (record {
+        (prologue_turns plan) made
+        (record {
           none = l.none;
           low = omega arith;
           temporaries = omega arith;
@@ -194,12 +177,12 @@ module _ {setting : Setting} (at_call : AtCall setting) where
           apart = inr (omega arith);
         })
         (record {
+          none_arrive = l.none_arrive;
           base = refl;
           temporaries = omega arith;
           locals = omega arith;
           within = l.within;
-        }) refl k
-        (λ i ge lt. (let w : sp + frame + 8 ≡ caller = omega arith in w)) (omega arith)
+        }) k (omega arith)
         (entry false leaf).storing (entry false leaf).ends (λ a out i. elim i [
           | inl w ↦ (let g = w.0 in let h = w.1 in
               elim out [

@@ -1,11 +1,10 @@
 -- A function begins: its frame is below its return address, and on top of what waits.
 use Rattle.std.proofs.Common.{◌≡◌, ℕ, suc, ◌+◌, ◌<◌, ◌≤◌, Bool, true, false, Some, None, List, [], ◌∷◌, length, refl, arith}
 use Rattle.std.specs.List.{AllByRecursion}
-use Rattle.match_turns.specs.Words.{Event, STACK_END, Memory, Rsp, context_of, get, State, register, Functions, Funclet, no_exception, Region, LinearProgram, LinearBody, FunctionBody, body_of, Item, Waits, Searches, Unwinds, holds, regions_of, Layout, StackItem, context_below, ImagePlan, Activation, locals_of, HasSpace, below_end, HoldsWords, home_end, BodyWaits, HasPointers, ReturnsTo, FunctionIsAbove, On, IsWellFormed, Sites, IsLayoutIf, IsProgramImage, slots_end, last_temporary, begun}
+use Rattle.match_turns.specs.Words.{Event, STACK_END, Memory, Rsp, context_of, State, register, Functions, Funclet, no_exception, Region, LinearProgram, LinearBody, FunctionBody, body_of, Item, Waits, Searches, Unwinds, holds, regions_of, Layout, StackItem, context_below, ImagePlan, Activation, locals_of, HasSpace, below_end, HoldsPlaces, home_end, BodyWaits, HasPointers, ReturnsTo, FunctionIsAbove, On, IsWellFormed, Sites, IsLayoutIf, IsProgramImage, slots_end, last_temporary, begun, now_of}
 use Rattle.seh_records.specs.Laws.{AllSmall}
 use Rattle.match_bodies.specs.ProgramImages.{frame_of, IsMachineMemory}
 use Rattle.match_bodies.specs.Bodies.{HasFrame, RepresentsAt}
-use Rattle.match_bodies.proofs.FramePlaces.{places_of_words}
 use Rattle.match_turns.proofs.Lemmas.{locals_count}
 use Rattle.match_turns.proofs.CallResult.{nothing}
 
@@ -37,7 +36,9 @@ module _ (t : Functions) (fs : List Funclet) (program : LinearProgram) (p : Imag
       (back : ℕ) (returns_to : ReturnsTo t fs program p items back) (others : List ℕ)
       (eight : length others ≡ 8) (small : AllSmall others)
       (frame : HasFrame z (p.leaf (FunctionBody f)) (frame_of p (FunctionBody f) back others))
-      (numbers : HoldsWords z.memory (register z.cpu Rsp + (p.layout (FunctionBody f)).locals)
+      (numbers : HoldsPlaces z.memory (now_of (p.leaf (FunctionBody f)) z.cpu)
+      (p.register (FunctionBody f)) 0
+      (register z.cpu Rsp + (p.layout (FunctionBody f)).locals)
       (register z.cpu Rsp + slots_end (p.layout (FunctionBody f)) (p.leaf (FunctionBody f)))
       values)
       (is : List StackItem)
@@ -69,6 +70,7 @@ module _ (t : Functions) (fs : List Funclet) (program : LinearProgram) (p : Imag
     room false l = let a = l.temporaries in omega arith
 
     slots : BodyWaits t fs program p z.memory (context_of z.cpu)
+        (now_of (p.leaf (FunctionBody f)) z.cpu)
         (slots_end y (p.leaf (FunctionBody f)))
         (last_temporary y (FunctionBody f) (p.leaf (FunctionBody f)))
         (record {
@@ -98,9 +100,7 @@ module _ (t : Functions) (fs : List Funclet) (program : LinearProgram) (p : Imag
               distance = refl;
               registers = refl;
             };
-            values = places_of_words z.memory (get (context_of z.cpu)) (p.register (FunctionBody f))
-                (image.no_registers (FunctionBody f)) 0 (sp + y.locals)
-                (sp + slots_end y (p.leaf (FunctionBody f))) values numbers;
+            values = numbers;
           };
           temporaries = (let r = room (p.leaf (FunctionBody f)) planned in omega arith);
           space = space;

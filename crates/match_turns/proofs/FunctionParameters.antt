@@ -1,15 +1,16 @@
 -- A function is entered after its call: its frame is made, and its parameters go to their locals.
-use Rattle.std.proofs.Common.{◌≡◌, ℕ, zero, suc, ◌+◌, ◌-◌, ◌*◌, ◌^◌, ◌<◌, ◌≤◌, true, false, Some, None, List, ◌++◌, length, refl, sym, ap, subst, ◌∙◌, arith, inl, inr, length-append}
-use Rattle.std.specs.Prelude.{◌⊎◌, nat_lt}
+use Rattle.std.proofs.Common.{◌≡◌, ℕ, zero, suc, ◌+◌, ◌-◌, ◌*◌, ◌^◌, ◌<◌, ◌≤◌, true, false, Some, None, List, [], ◌++◌, length, refl, sym, ap, subst, ◌∙◌, arith, inl, inr, length-append}
+use Rattle.std.specs.Prelude.{◌⊎◌, nat_lt, slice_index}
 use Rattle.std.proofs.lemmas.Bool.{cases_lt, lt-ltb, le-ltb}
-use Rattle.match_turns.specs.Words.{STACK_START, STACK_END, Memory, may_write, number_at, Protection, is_writable, Rsp, Flags, State, register, is_reserved, Local, Temporary, LinearBody, FunctionBody, body_of, function_body, Layout, sizes, spelled, IsNear, return_at, passing_code, parameters_code, stack_parameter, parameter_code, MachineView, machine, with_arguments, OnStack, IsFunctionFrame, body_in_memory, FreshFrame, HasBase, MemoryKeepsBase, IsBytes, Agrees, InTemporaries, InLocals, KeepsReserved, HasCode, Enters, FramePlace, Roomy, ReachesBody, counts_of, LARGEST_FRAME, Setting, OtherRegisters, LocalRegisters, local_in, registers_of, Place, InRegister, InFrame, parameter_placed}
-use Rattle.match_bodies.specs.CodeSites.{arguments_code, body_plan, making_size}
+use Rattle.match_turns.specs.Words.{STACK_START, STACK_END, Memory, may_write, number_at, Protection, is_writable, Rsp, Flags, State, register, is_reserved, Local, Temporary, LinearBody, FunctionBody, body_of, function_body, Layout, sizes, spelled, IsNear, return_at, passing_code, parameters_code, stack_parameter, parameter_code, MachineView, machine, with_arguments, OnStack, IsFunctionFrame, body_in_memory, FreshFrame, HasBase, MemoryKeepsBase, IsBytes, Agrees, InTemporaries, InLocals, KeepsReserved, HasCode, Enters, FramePlace, Roomy, ReachesBody, counts_of, LARGEST_FRAME, Setting, OtherRegisters, LocalRegisters, local_in, registers_of, Place, InRegister, InFrame, Arriving, InRegisters, arrived_in, parameter_register, parameter_placed, number_placed, local_registers}
 use Rattle.template_code.specs.Places.{place_of}
+use Rattle.template_code.proofs.Places.{arriving_low}
+use Rattle.x64_instr.specs.Registers.{number}
+use Rattle.match_bodies.proofs.LocalRegisters.{place_early}
+use Rattle.match_bodies.specs.CodeSites.{arguments_code, body_plan, making_size}
 use Rattle.x64_templates.specs.Runs.{Reaches}
-use Rattle.match_turns.proofs.Lemmas.{bytes_kept, same_number, enters_then, within_agrees, making_steps, stack_is_reserved, may_read_written, holds_here, Keeps, keeps_then, reaches_keeps, enters_keeps}
+use Rattle.match_turns.proofs.Lemmas.{bytes_kept, same_number, enters_then, within_agrees, making_steps, stack_is_reserved, may_read_written, holds_here, Keeps, keeps_then, reaches_keeps, enters_keeps, locals_small}
 use Rattle.x64_instr.specs.declared.register.Reg.{Reg}
-use Rattle.x64_templates.specs.Frames.{number_placed}
-use Rattle.match_bodies.proofs.BodyViews.{locals_small}
 use Rattle.match_bodies.proofs.ChainKeeping.{all_are, are_all}
 use Rattle.x64_templates.proofs.Entering.{fresh_holds, parameters_run}
 use Rattle.match_turns.proofs.CallArguments as calling
@@ -28,6 +29,7 @@ module _ (globals : List ℕ) (y : Layout) (o : LinearBody) (sp : ℕ) where
     reserved = is_reserved globals;
     sp = sp;
     base = sp;
+    arrived = λ i. 0;
   }
 
   -- slots of the stack, apart from one another
@@ -72,6 +74,7 @@ module _ (globals : List ℕ) (y : Layout) (o : LinearBody) (sp : ℕ) where
       → Agrees (is_reserved globals) m source → FreshFrame own_frame l m source
   fresh_own l m source h small bytes may agrees = record {
     small = small;
+    arrived = λ i. omega arith;
     bytes = bytes;
     writable = λ a i. (let r = own_slots a h i in may a r.0 r.1);
     own = λ a i. (let r = own_slots a h i in stack_is_reserved globals a r.0 r.1);
@@ -80,27 +83,35 @@ module _ (globals : List ℕ) (y : Layout) (o : LinearBody) (sp : ℕ) where
     agrees = agrees;
   }
 
--- ---- a leaf function's parameters, which come in registers
+-- ---- a leaf function's parameters, which stay in the registers in which they come
 
--- the layout with a frame that ends above the home space: no parameter is above it
-abbrev pub with_home : Layout → Layout
-with_home y = record y { slots = 40; frame = 40 }
+pub parameters_stay : (y : Layout) (i n : ℕ) → i + n ≤ y.arrivals → parameters_code y i n ≡ []
+parameters_stay y i zero le = refl
+parameters_stay y i (suc n) le =
+    ap (λ q. parameter_placed y i q ++ parameters_code y (i + 1) n)
+    (place_early y i (omega arith)) ∙ parameters_stay y (i + 1) n (omega arith)
 
-pub home_parameters : (y : Layout) (i n : ℕ) → i + n ≤ 4
-    → parameters_code (with_home y) i n ≡ parameters_code y i n
-home_parameters y i zero le = refl
-home_parameters y i (suc n) le =
-    let lt : nat_lt i 4 ≡ true = lt-ltb i 4 (omega arith) in
-    ap (λ rest. parameter_code (with_home y) i ++ rest) (home_parameters y (i + 1) n (omega arith))
-    ∙ ap (λ one. one ++ parameters_code y (i + 1) n) (same_code y i lt)
+-- they are there where a call has put them
+pub arguments_arrive : (v : MachineView) (arguments : ℕ → ℕ) → InRegisters v arguments → (i : ℕ)
+    → i < 4 → slice_index (registers_of v) (number (parameter_register i)) ≡ arguments i
+arguments_arrive v arguments h zero lt = h.first
+arguments_arrive v arguments h (suc zero) lt = h.second
+arguments_arrive v arguments h (suc (suc zero)) lt = h.third
+arguments_arrive v arguments h (suc (suc (suc zero))) lt = h.fourth
+arguments_arrive v arguments h (suc (suc (suc (suc i)))) lt = absurd (omega arith)
+
+-- where a body has a frame numbers don't rest on them
+pub number_unarrived : (y : Layout) (base : ℕ) (a r : ℕ → ℕ) (l : LocalRegisters) (m : Memory)
+    (i : ℕ) → y.arrivals ≡ 0 → number_placed y base a l m i (place_of y i)
+    ≡ number_placed y base r l m i (place_of y i)
+number_unarrived y base a r l m i none = by (place_of y i) (λ e.
+    let lt = arriving_low y i e in absurd (omega arith))
   where
-    same_code : (y : Layout) (i : ℕ) → nat_lt i 4 ≡ true
-        → parameter_code (with_home y) i ≡ parameter_code y i
-    same_code y i e = placed (place_of y i)
-      where
-        placed : (q : Place) → parameter_placed (with_home y) i q ≡ parameter_placed y i q
-        placed (InRegister r) = rw e refl
-        placed InFrame = rw e refl
+    by : (q : Place) → (q ≡ Arriving → ⊥)
+        → number_placed y base a l m i q ≡ number_placed y base r l m i q
+    by (InRegister x) away = refl
+    by InFrame away = refl
+    by Arriving away = absurd (away refl)
 
 -- ---- how many turns parameters take
 
@@ -122,6 +133,7 @@ one_placed y i InFrame = elim (cases_lt i 4) [
       let z : length (parameter_placed y i InFrame) ≡ 2 = rw e refl in
       (λ h. absurd (omega arith), omega arith))
 ]
+one_placed y i Arriving = (λ h. omega arith, omega arith)
 
 one_parameter : (y : Layout) (i : ℕ) → (i < 4 → length (parameter_code y i) ≤ 1)
     × (length (parameter_code y i) ≤ 2)
@@ -226,8 +238,8 @@ module _ {setting : Setting} (at_call : AtCall setting) where
     pub comes : Enters target (target + making_size p q (FunctionBody f)) turns at_callee state
     pub rip : state.cpu.rip ≡ p.address (FunctionBody f) 0
     pub stack : register state.cpu Rsp ≡ sp
-    pub locals : (i : ℕ) → i < count → number_at state.memory.byte 8 (sp + (layout.locals + 8 * i))
-        ≡ arguments i
+    pub locals : (i : ℕ) → i < count → number_placed layout sp (arrived_in state.cpu)
+        (local_registers state.cpu.registers) state.memory i (place_of layout i) ≡ arguments i
     pub bytes : IsBytes state.memory
     pub agrees : Agrees (is_reserved program.globals) state.memory c.store.memory
     pub same : (a : ℕ) → is_reserved program.globals a ≡ true → Outside a
@@ -246,18 +258,20 @@ module _ {setting : Setting} (at_call : AtCall setting) where
   -- ---- once the frame is made, the parameters
 
   module _ (sp to n : ℕ) (made : Made called target to flags (caller - 8) sp arguments n)
-      (y : Layout) (framed : (i : ℕ) → place_of y i ≡ InFrame) (own : IsOwn program.globals y o sp)
-      (whole : IsFunctionFrame (own_frame program.globals y o sp))
-      (same_locals : y.locals ≡ layout.locals) (short : y.frame + 8 ≤ LARGEST_FRAME)
-      (up : (i : ℕ) → 4 ≤ i → i < count → sp + y.frame + 8 ≡ caller)
-      (place : sp + layout.frame + 8 ≡ caller)
-      (code : HasCode s.memory to (parameters_code y 0 count))
-      (ends : to + sizes (parameters_code y 0 count) ≡ p.address (FunctionBody f) 0)
-      (outside : (a : ℕ) → Outside a → InTemporaries y (counts_of o) sp a
-      ⊎ InLocals y (counts_of o) sp a → ⊥) (counted_turns : n + length (parameters_code y 0 count) ≡
-      making_steps (p.leaf (FunctionBody f)) (body_plan p q (FunctionBody f)) + length
+      (own : IsOwn program.globals layout o sp)
+      (whole : IsFunctionFrame (own_frame program.globals layout o sp))
+      (short : layout.frame + 8 ≤ LARGEST_FRAME) (place : sp + layout.frame + 8 ≡ caller)
+      (code : HasCode s.memory to (parameters_code layout 0 count))
+      (ends : to + sizes (parameters_code layout 0 count) ≡ p.address (FunctionBody f) 0)
+      (outside : (a : ℕ) → Outside a → InTemporaries layout (counts_of o) sp a
+      ⊎ InLocals layout (counts_of o) sp a → ⊥)
+      (counted_turns : n + length (parameters_code layout 0 count)
+      ≡ making_steps (p.leaf (FunctionBody f)) (body_plan p q (FunctionBody f)) + length
       (arguments_code program p (FunctionBody f)))
       (prologue : to ≡ target + making_size p q (FunctionBody f)) where
+    abbrev y : Layout
+    y = layout
+
     abbrev k : State
     k = machine made.after to made.flags
 
@@ -290,15 +304,15 @@ module _ {setting : Setting} (at_call : AtCall setting) where
         let x = calling.low at_call in
         let z = calling.room_top at_call in
         record {
-          number = λ i ge lt. (let e = up i ge lt in
+          number = λ i ge lt. (let e = place in
               ap (number_at made.after.memory.byte 8)
               (let w : sp + stack_parameter y i ≡ caller + 8 * i = omega arith in w)
               ∙ same_number made.after.memory.byte called.memory.byte 8 (caller + 8 * i)
               (omega arith) (λ a l h. made.within.byte a (inr (omega arith)))
               ∙ calling.on_stack at_call i ge lt);
-          readable = λ i a ge lt l u. (let e = up i ge lt in
+          readable = λ i a ge lt l u. (let e = place in
               may_read_written made.after.memory a (made_may a (omega arith) (omega arith)));
-          own = λ i a ge lt l u. (let e = up i ge lt in
+          own = λ i a ge lt l u. (let e = place in
               stack_is_reserved program.globals a (omega arith) (omega arith));
           near = λ i lt. (let w : stack_parameter y i < 2 ^ 31 = omega arith in w);
           small = small_argument;
@@ -306,14 +320,15 @@ module _ {setting : Setting} (at_call : AtCall setting) where
 
     run : ReachesBody (own_frame program.globals y o sp) (length (parameters_code y 0 count)) k
         (to + sizes (parameters_code y 0 count)) made.after.rest made.after.locals (record {
-          slots = with_arguments (body_in_memory y sp sp made.after.locals made.after.memory
+          slots = with_arguments (body_in_memory y sp sp (λ i. 0) made.after.locals
+              made.after.memory
               c.store.memory).slots
               arguments 0 count;
           memory = c.store.memory;
         })
     run =
         parameters_run (own_frame program.globals y o sp) count arguments made.after to made.flags
-        (body_in_memory y sp sp made.after.locals made.after.memory c.store.memory)
+        (body_in_memory y sp sp (λ i. 0) made.after.locals made.after.memory c.store.memory)
         (roomy_own program.globals y o sp own) whole fits made.stack
         (fresh_holds (own_frame program.globals y o sp) made.after.locals made.after.memory
         c.store.memory
@@ -343,13 +358,12 @@ module _ {setting : Setting} (at_call : AtCall setting) where
               run.comes);
           rip = ends;
           stack = ap (λ (r : OtherRegisters). r.rsp) run.rest ∙ made.stack;
-          locals = λ i lt. (let w : sp + (layout.locals + 8 * i)
-              ≡ sp + (y.locals + 8 * i) = omega arith in
-              ap (number_at run.after.memory.byte 8) w
-              ∙ sym (ap (number_placed y sp run.after.locals run.after.memory i)
-              (framed i)) ∙ run.holds.slot (Local i)
+          locals = λ i lt. (number_unarrived y sp
+              (arrived_in (machine run.after (to + sizes (parameters_code y 0 count))
+              run.flags).cpu) (λ j. 0) run.after.locals run.after.memory i
+              whole.none_arrive ∙ run.holds.slot (Local i)
               (let z : i < o.locals = omega (arith, fits) in z)
-              ∙ argument_is (body_in_memory y sp sp made.after.locals made.after.memory
+              ∙ argument_is (body_in_memory y sp sp (λ i. 0) made.after.locals made.after.memory
               c.store.memory).slots
               arguments 0 count i (omega arith) (omega arith));
           bytes = run.changes.bytes made_bytes;

@@ -1,5 +1,4 @@
--- From a function's first byte its frame is made: by the prologue of its plan, or not at all in a
--- leaf function.
+-- From a function's first byte its frame is made, by the prologue of its plan.
 use Rattle.std.proofs.Common.{◌≡◌, ℕ, ◌+◌, ◌-◌, ◌≤◌, true, [], refl, sym, subst, ◌∙◌, arith}
 use Rattle.match_turns.specs.Words.{Flags, sizes, check_stack, MachineView, machine, sp_of, InRegisters, HasCode, Enters, seen_by_templates}
 use Rattle.frame_rules.specs.Bytes.{prologue_code}
@@ -9,7 +8,6 @@ use Rattle.frame_rules.specs.States.{IsEntry, registers, return_address}
 use Rattle.frame_rules.proofs.Undoing.{stack_depth}
 use Rattle.x64_templates.specs.Prologues.{AreProbed, Within, none_stores, prologue_turns}
 use Rattle.x64_templates.proofs.PrologueRuns.{prologue_run}
-use Rattle.x64_templates.proofs.Ranges.{within_same}
 use Rattle.match_turns.proofs.Lemmas.{is_machine}
 
 -- after so many turns RSP is the frame's, arguments are where they were, and memory has changed at
@@ -69,17 +67,6 @@ made_view p check v target f is_plan entry code probed checks =
 
 module _ (v : MachineView) (target : ℕ) (f : Flags) (top : ℕ) (arguments : ℕ → ℕ)
     (at : sp_of v ≡ top) (regs : InRegisters v arguments) where
-  pub no_frame : Made v target target f top top arguments 0
-  no_frame = record {
-    few = omega arith;
-    after = v;
-    flags = f;
-    comes = refl;
-    stack = at;
-    registers = regs;
-    within = within_same top top v.memory;
-  }
-
   -- where its codes lead so far down
   pub planned_frame : (p : FramePlan) (check frame : ℕ) → IsPlan p → prologue_turns p ≤ 17
       → depth (operations_of p) ≡ frame → IsEntry frame (machine v target f)

@@ -1,9 +1,9 @@
 -- A function returns: to the body that waits for it, or out of `main`.
-use Rattle.std.proofs.Common.{◌≡◌, ◌≢◌, ℕ, ◌+◌, ◌<◌, Some, None, List, [], ◌∷◌, length, sym, ap, subst, ◌∙◌, arith, length-append}
+use Rattle.std.proofs.Common.{◌≡◌, ◌≢◌, ℕ, ◌+◌, ◌<◌, Some, None, List, [], ◌∷◌, length, sym, ap, subst, ◌∙◌, arith, length-append, false}
 use Rattle.std.specs.Prelude.{get_or, slice_get}
 use Rattle.std.proofs.lemmas.List.{append-nil}
 use Rattle.std.proofs.lemmas.Option.{slice_get-get_or}
-use Rattle.match_turns.specs.Words.{kept_of, W32, signed, Rax, Rsp, Context, context_of, get, State, register, distance, arrivals, Slot, LinearBody, LinearFunclet, FunctionBody, FuncletBody, body_of, funclet_body, Frame, Item, Waits, Store, Configuration, Finished, Next, with_some, read, instruction_in, left_store, end_body, act, return, Layout, return_code, HasBack, context_below, Activation, activations_below, return_of, ReturnsTo, On, store_of, on_top, IsWellFormed, AllKeep, Moves, Exits, HaveRoom, held_below, turns_left, slots_end, Setting, RepresentsAt}
+use Rattle.match_turns.specs.Words.{kept_of, W32, signed, Rax, Rsp, Context, State, register, distance, arrivals, Slot, LinearBody, LinearFunclet, FunctionBody, FuncletBody, body_of, funclet_body, Frame, Item, Waits, Store, Configuration, Finished, Next, with_some, read, instruction_in, left_store, end_body, act, return, Layout, return_code, HasBack, context_below, Activation, activations_below, return_of, ReturnsTo, On, store_of, on_top, IsWellFormed, AllKeep, Moves, Exits, HaveRoom, held_below, turns_left, slots_end, Setting, RepresentsAt, now_of}
 use Rattle.x64_templates.specs.Runs.{Reaches}
 use Rattle.linear_code.specs.declared.instruction.Instruction.TheVariants as instructions
 use Rattle.linear_code.specs.declared.program.FuncletKind.TheVariants as kinds
@@ -68,7 +68,7 @@ module _ (setting : Setting) (roomy : HaveRoom setting.program) where
         left_store c.frame.body c.frame.activation o) b.body.store
         ∙ left_activations s.memory c.store.memory layout sp
         (slots_end layout (p.leaf c.frame.body)) c.frame.activation b.body.acts c.frame.body
-        (get (context_of s.cpu)) (p.register c.frame.body) b.body.slots.activation
+        (now_of (p.leaf c.frame.body) s.cpu) (p.register c.frame.body) b.body.slots.activation
 
     acts_as : (next : Next) → act program (instructions.Return from) next c
         ≡ return next x c.below c.events (store_of c.store.memory
@@ -124,7 +124,7 @@ module _ (setting : Setting) (roomy : HaveRoom setting.program) where
         (there : body_of program w.body ≡ Some o) (g first arguments : ℕ)
         (calls : slice_get o.code w.next ≡ Some (instructions.Call g first arguments))
         (within : w.next + 1 < length o.code) (held : length w.temporaries ≡ first)
-        (free : w.landed ≡ None) where
+        (free : w.landed ≡ None) (framed : p.leaf w.body ≡ false) where
       returns : back ≡ returns_at (p.layout w.body) first arguments (p.address w.body w.next)
       returns =
           let to : ReturnsTo t fs program p (Waits w ∷ items) back = subst
@@ -179,7 +179,7 @@ module _ (setting : Setting) (roomy : HaveRoom setting.program) where
             arena = b.memory.arena;
             code = b.memory.code;
           }) o there g first
-          arguments calls within held free returns counts surrounded) in
+          arguments calls within held free returns framed counts surrounded) in
           let credit : held_below c.below ≡ length w.temporaries
           + held_below items = ap held_below below in
           record {

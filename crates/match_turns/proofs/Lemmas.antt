@@ -14,6 +14,7 @@ pub use Rattle.x64_templates.proofs.Flows.{keep_flow}
 pub use Rattle.x64_templates.proofs.FuncletEntries.{pointers_kept, flag_run}
 pub use Rattle.x64_templates.proofs.Funclets.{HasCell, keeps_of_cell, base_kept}
 pub use Rattle.x64_templates.proofs.Information.{information_run, field_number}
+pub use Rattle.x64_templates.proofs.Operands.{performed_same}
 pub use Rattle.x64_templates.proofs.Parameters.{kept_at, keeps_register}
 pub use Rattle.x64_templates.proofs.PlacedCode.{reaches_then, bytes_kept, same_number, all_may, enters_then, bytes_split, spells, reads, load_at}
 pub use Rattle.x64_templates.proofs.Returns.{return_run, call_ends}
@@ -32,22 +33,24 @@ pub use Rattle.match_stack.proofs.ListKeeping.{reads_other, kept_by_other_memori
 pub use Rattle.match_bodies.proofs.ActivationPlaces.{locals_count, got_before, got_last, activations_are_at}
 pub use Rattle.match_bodies.proofs.ActivationStores.{same_activations, activated}
 pub use Rattle.match_bodies.proofs.BodyCallers.{gives_caller, begin_finds}
-pub use Rattle.match_bodies.proofs.BodyFrames.{body_owed, frame_from, frame_owed, frame_stays, frame_with, slots_within, small_others}
-pub use Rattle.match_bodies.proofs.BodyResumption.{IsFront, waits_in_body, frame_size, all_front, no_front}
-pub use Rattle.match_bodies.proofs.BodyViews.{IsCounted, sp_low, frame_top, room_here, holds_here, slots_here, AsFunction, AsFunclet, kind, is_machine, locals_here}
+pub use Rattle.match_bodies.proofs.BodyFrames.{locals_own, body_owed, frame_from, frame_owed, frame_stays, frame_with, slots_within, small_others}
+pub use Rattle.match_bodies.proofs.BodyResumption.{IsFront, waits_in_body, all_front, no_front}
+pub use Rattle.match_bodies.proofs.BodyViews.{IsCounted, locals_small, sp_low, frame_top, room_here, holds_here, slots_here, AsFunction, AsFunclet, kind, is_machine, locals_here}
 pub use Rattle.match_bodies.proofs.CallKeeping.{calls_keep, CalleeBegins, callee_begins, thunk_keeps}
 pub use Rattle.match_bodies.proofs.ChainKeeping.{reaches_keeps, stays_well_formed, Keeps, keeps_then, enters_keeps}
-pub use Rattle.match_bodies.proofs.ComputeStep.{stored, writes, leaves_stored, fits_when_read, same_constant}
-pub use Rattle.match_bodies.proofs.EntryKeeping.{arguments_plain, plain_both, passing_plain, parameters_plain, entry_ran, kept_plain, EntryRan, base_plain}
+pub use Rattle.match_bodies.proofs.ComputeStep.{stored, writes, leaves_stored, fits_when_read}
+pub use Rattle.match_bodies.proofs.EntryKeeping.{arguments_plain, plain_both, passing_plain, parameters_steady, entry_ran, kept_plain, EntryRan, base_plain}
 pub use Rattle.match_bodies.proofs.FrameMaking.{making_steps}
 pub use Rattle.match_bodies.proofs.PlannedPrologues.{frame_there}
 pub use Rattle.match_bodies.proofs.InstructionEffects.{others_of}
-pub use Rattle.match_bodies.proofs.NextInstruction.{Ran, represents_next, frame_after, new_on, further}
+pub use Rattle.match_bodies.proofs.NextInstruction.{represents_next, new_on, further}
+pub use Rattle.match_bodies.proofs.NextSlots.{Ran, frame_after}
+pub use Rattle.match_bodies.proofs.LocalPlaces.{places_are, place_of_local, leaves_same, leaves_set}
 pub use Rattle.match_bodies.proofs.OwedCallers.{finds_return, frame_is_owed, owed_return, owed_with, returns_alone}
-pub use Rattle.match_bodies.proofs.PlainSteps.{GoesInside, from_here, label_small, moves_to, at_other, is_read}
+pub use Rattle.match_bodies.proofs.PlainSteps.{GoesInside, from_here, label_small, moves_to, at_other, reached_here, is_read}
 pub use Rattle.match_bodies.proofs.ProgramKeeping.{program_stays, KeepsImage}
 pub use Rattle.match_bodies.proofs.ReturnAddresses.{label_found, argument_found, template_there}
-pub use Rattle.match_bodies.proofs.RoutineWalks.{reaches_steps, StepsTo, steps_split, keeps_split, AllPlain, enters_steps, read_here, Beneath, beneath_by, callers_above, gives_above, Finds, ran}
+pub use Rattle.match_bodies.proofs.RoutineWalks.{reaches_steps, StepsTo, steps_split, keeps_split, AllPlain, AllSteady, plain_steady, enters_steps, read_here, Beneath, beneath_by, callers_above, gives_above, Finds, ran}
 pub use Rattle.match_bodies.proofs.SilentTurns.{none_inside, reaches_silently, enters_silently, program_reaches, KeepsCode, program_kept, reaches_comes, funclet_makes, silent_here}
 pub use Rattle.match_bodies.proofs.SlotPlaces.{KeepsSlot, stack_is_reserved, SlotsPlaced}
 pub use Rattle.match_bodies.proofs.SlotWrites.{locals_after, temporaries_after, FitsAfter, one_more, set_length, local_after}
@@ -56,7 +59,8 @@ pub use Rattle.match_bodies.proofs.StackWalks.{on_stack, stack_rises, keep_then}
 pub use Rattle.match_bodies.proofs.StackWords.{may_read_written, word_is, word_of}
 pub use Rattle.match_bodies.proofs.StepNeeds.{some_is, counted_here, code_at, label_in, body_there, owned_count, leaf_or_funclet, owner_waits, ready_here, held_here, goes_inside, around_here}
 pub use Rattle.match_bodies.proofs.TemplateKeeping.{information_keeps, finish_keeps, operands_keep}
-pub use Rattle.match_bodies.proofs.TemplateRuns.{v, frame, slots, same_state, template_here, has_slots, sp_is, next_address, base, code, y, silent_at, Surroundings, each, get_or_is}
-pub use Rattle.match_bodies.proofs.TemplateShadows.{kept_by_view, kept_alike, is_here, is_after, ends_at, RunsKeep, one_piece, caller_here, beyond_here, ends_gives, IsPast, past_ends, kept_here, Below}
+pub use Rattle.match_bodies.proofs.ArrivedParameters.{each}
+pub use Rattle.match_bodies.proofs.TemplateRuns.{v, frame, slots, same_state, template_here, has_slots, sp_is, next_address, base, code, y, silent_at, Surroundings, get_or_is}
+pub use Rattle.match_bodies.proofs.TemplateShadows.{kept_by_view, is_here, is_after, ends_at, RunsKeep, one_piece, caller_here, beyond_here, ends_gives, IsPast, past_ends, kept_here, Below}
 pub use Rattle.match_bodies.proofs.TemplateSizes.{template_some, first_in_code, address_next}
 pub use Rattle.match_bodies.proofs.TemplateSlots.{Leaves}

@@ -23,6 +23,7 @@ pub mod FuncletFirstTurns
 pub mod FuncletShadow
 pub mod FilterEntry
 pub mod FinallyFlag
+pub mod FinallyActivation
 pub mod FinallyEntry
 pub mod FinallyUnwindEntry
 pub mod BodyReturn
@@ -52,6 +53,7 @@ pub mod RecordFields
 pub mod FilterRecord
 pub mod FilterInformationStep
 pub mod BodyOtherMemory
+pub mod BodyWithin
 pub mod ServiceShadow
 pub mod ArenaRights
 pub mod ServiceCall

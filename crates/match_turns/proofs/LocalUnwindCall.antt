@@ -10,7 +10,7 @@ use Rattle.x64_instr.specs.declared.instruction.Instr.TheVariants as instrs
 use Rattle.linear_code.specs.declared.instruction.Instruction.TheVariants as instructions
 use Rattle.match_turns.proofs.Lemmas.{address_size, call_size, short, template_sizes, reaches_then, thunk_reaches, pushed_thunk, with_two, local_unwind_begins, set_small, reaches_silently, others_of, StepsTo, reaches_steps, steps_split, keeps_split, AllPlain, calls_keep, CalleeBegins, callee_begins, thunk_keeps, all_front, some_is, counted_here, code_at, reaches_keeps, stays_well_formed, v, same_state, template_here, next_address, sp_is, IsCounted, sp_low, frame_top}
 use Rattle.match_turns.proofs.ReturnAddressPlace.{top_of, begins_beneath}
-use Rattle.match_turns.proofs.CallResult.{offset_most}
+use Rattle.match_turns.proofs.CallResult.{offset_most, caller_framed}
 use Rattle.match_turns.proofs.CallRegions.{apart_same}
 use Rattle.match_turns.proofs.DispatchStart.{unwound_to}
 use Rattle.match_turns.proofs.HostRequest.{Asks, asks_host}
@@ -119,12 +119,7 @@ module _ (setting : Setting) (made : IsWellMade setting.program setting.plan)
     high_enough = let h = top in omega arith
 
     framed : p.leaf c.frame.body ≡ false
-    framed = by (p.leaf c.frame.body) refl
-      where
-        by : (leaf : Bool) → p.leaf c.frame.body ≡ leaf → p.leaf c.frame.body ≡ false
-        by false e = e
-        by true e = absurd (let no : true ≡ false = made.leaves c.frame.body body c.frame.next i
-            b.body.slots.body e here in cc)
+    framed = caller_framed setting made c.frame.body body c.frame.next i b.body.slots.body here refl
 
     free : c.frame.landed ≡ None
     free = nothing_landed program c i c.frame.landed known.stacked.landed at refl
@@ -326,7 +321,7 @@ module _ (setting : Setting) (made : IsWellMade setting.program setting.plan)
     at_return = in_body t fs program p q s c b saved (c.frame.next + 1) c.frame.temporaries
         registers_saved
         (record { low = inside.low; high = inside.high }) same_regions back_small
-        (all_front s.memory c.frame.temporaries)
+        (all_front s.memory c.frame.temporaries) framed
 
     asks : Asks setting state.cpu saved s.memory
         (pushing.bytes given sp back low_enough high_enough b.memory.data_alone b.memory.stack) c

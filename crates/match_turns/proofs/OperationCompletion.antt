@@ -3,12 +3,11 @@ use Rattle.std.proofs.Common.{◌≡◌, ℕ, zero, ◌+◌, ◌*◌, ◌^◌, �
 use Rattle.std.specs.Prelude.{slice_set}
 use Rattle.std.proofs.lemmas.List.{append-nil}
 use Rattle.std.proofs.lemmas.Option.{slice_get_within}
-use Rattle.match_turns.specs.Words.{Memory, Rax, Rcx, Instr, State, register, Gives, Operation, Slot, Temporary, Layout, Instruction, BodyState, with_slot, HasSlots, LinearBody, Configuration, Next, act, written, exec, sizes, operands_code, finish_code, machine, ReachesBody, FramePlace, locals_of, AllKeep, Comes, HasRule, Moves, turns_left, IsWellMade, IsKnown, seen_by_templates, counts_of, with_values, ComesTo, Setting, RepresentsAt, WorksOn}
+use Rattle.match_turns.specs.Words.{Memory, Rax, Rcx, Instr, State, register, Gives, Operation, Slot, Temporary, Layout, Instruction, BodyState, with_slot, HasSlots, LinearBody, Configuration, Next, act, written, exec, sizes, operands_code, finish_code, machine, ReachesBody, FramePlace, locals_of, AllKeep, Comes, HasRule, Moves, turns_left, IsWellMade, IsKnown, seen_by_templates, counts_of, with_values, ComesTo, Setting, RepresentsAt, WorksOn, OtherRegisters}
 use Rattle.linear_code.specs.declared.instruction.Instruction.TheVariants as instructions
 use Rattle.linear_machine.specs.Frames as linear
-use Rattle.x64_templates.proofs.Locals.{locals_stay}
-use Rattle.match_turns.proofs.Lemmas.{compute_length, reaches_silently, locals_count, activated, IsCounted, is_machine, Keeps, reaches_keeps, stays_well_formed, Leaves, further, Ran, represents_next, is_here, is_after, ends_at, RunsKeep, finish_keeps, Surroundings, has_slots, next_address, silent_at, locals_after, temporaries_after, FitsAfter, one_more, at_other, label_small, stored, writes, fits_when_read, leaves_stored, held_here, goes_inside, kept_by_view}
-use Rattle.x64_templates.specs.Runs.{Finished}
+use Rattle.match_turns.proofs.Lemmas.{compute_length, reaches_silently, locals_count, activated, IsCounted, is_machine, Keeps, reaches_keeps, stays_well_formed, Leaves, further, Ran, represents_next, is_here, is_after, ends_at, RunsKeep, finish_keeps, Surroundings, has_slots, next_address, silent_at, locals_after, temporaries_after, FitsAfter, one_more, at_other, label_small, reached_here, stored, writes, fits_when_read, leaves_stored, held_here, goes_inside}
+use Rattle.x64_templates.specs.Runs.{Finished, Reaches}
 use Rattle.match_bodies.proofs.BodyViews.{placed}
 use Rattle.match_turns.proofs.OperationMeaning.{acts_as}
 use Rattle.match_turns.proofs.OperationCode.{some_finish, whole_size}
@@ -77,8 +76,10 @@ module _ (setting : Setting) (made : IsWellMade setting.program setting.plan)
         (seen_by_templates s).locals d)
         (at : rip ≡ p.address c.frame.body label) (lt : label < length body.code)
         (small : rip < 2 ^ 64)
-        (leaves : Leaves body d values ts) (nothing : landed ≡ None)
-        (keep : RunsKeep setting old c begins counted n s) where
+        (leaves : Leaves p c.frame.body body d (placed setting old c begins counted).values values
+        ts) (nothing : landed ≡ None)
+        (keep : RunsKeep setting old c begins counted n s)
+        (whole : n ≡ length (finish_code y o to)) where
       abbrev u : State
       u = machine r.after rip r.flags
 
@@ -97,9 +98,7 @@ module _ (setting : Setting) (made : IsWellMade setting.program setting.plan)
           };
         };
         holds = r.holds;
-        kept = kept_by_view r.after s.cpu.registers r.rest
-            (locals_stay y (seen_by_templates s).locals r.after.locals
-            (image.in_frames c.frame.body) r.locals);
+        kept = record { rest = r.rest; locals = r.locals };
         leaves = leaves;
       }
 
@@ -107,9 +106,7 @@ module _ (setting : Setting) (made : IsWellMade setting.program setting.plan)
       keeps_shadow : AllKeep t fs n s
       keeps_shadow =
           keep u r.comes (ends_at setting old c begins counted u label at lt
-          (kept_by_view r.after s.cpu.registers r.rest
-          (locals_stay y (seen_by_templates s).locals r.after.locals (image.in_frames c.frame.body)
-          r.locals))
+          (ap (λ (o : OtherRegisters). o.rsp) r.rest)
           (is_after setting old c begins counted u d values ts ran around.caller around.owner))
 
       silently : Comes t fs n s [] u
@@ -123,6 +120,8 @@ module _ (setting : Setting) (made : IsWellMade setting.program setting.plan)
           (stays_well_formed s u keeps small w.well_formed)
           (λ value e. let z : ◌≡◌ {A = Option ℕ} None (Some value) = sym nothing ∙ e in absurd cc)
           around.caller around.owner
+          (inside.finish_spared setting made s c w known u
+          (subst (λ k. Reaches k s u) whole r.comes))
 
       moves_on : ((next : Next) → act program i next c
           ≡ next (at_other setting made.room c label values ts landed d.memory c.events))
@@ -229,12 +228,14 @@ module _ (setting : Setting) (made : IsWellMade setting.program setting.plan)
           let at = next_at in
           let there : HasSlots (counts_of body) i = has_slots setting made.room old c
           begins counted i (inside.at_here setting made s c w known) in
+          let reached = reached_here setting made.room old c begins counted around i
+          (inside.at_here setting made s c w known) in
           moves_on (length finish) (c.frame.next + 1) (s.cpu.rip + sizes finish) after
           (locals_after (linear.locals_of c.store c.frame.activation) to value)
           (temporaries_after c.frame.temporaries to value) c.frame.landed
           run at within (omega arith)
           (leaves_stored setting made.room old c begins counted around to value m
-          (held_here setting made old c begins known) fits there.0)
-          (inside.free setting made s c w known) rest_keeps acts
+          (held_here setting made old c begins known) fits there.0 reached.0)
+          (inside.free setting made s c w known) rest_keeps refl acts
           (some_length finish (some_finish y o to))
           (omega (arith, length-append ops finish))

@@ -1,70 +1,26 @@
 -- Within an operation: the body is as where the operation's instruction begins, and the
 -- operation is made on what memory holds.
-use Rattle.std.proofs.Common.{◌≡◌, ℕ, ◌+◌, ◌^◌, ◌<◌, ◌≤◌, Bool, true, false, List, [], ◌∷◌, length, Option, Some, None, refl, sym, ap, subst, ◌∙◌, arith}
-use Rattle.std.specs.Prelude.{slice_get, slice_index}
-use Rattle.std.specs.List.{AllByRecursion}
+use Rattle.std.proofs.Common.{◌≡◌, ℕ, ◌^◌, ◌<◌, true, false, Option, Some, None, refl, sym, subst, ◌∙◌, arith, length}
+use Rattle.std.specs.Prelude.{slice_get}
 use Rattle.std.proofs.lemmas.Option.{slice_get_within}
-use Rattle.match_turns.specs.Words.{STACK_END, Rax, Rcx, Rsp, Cpu, kept_of, State, register, Functions, Funclet, Operation, OperationResult, performed, is_reserved, Slot, Temporary, Instruction, BodyState, Region, LinearProgram, LinearBody, body_of, Configuration, holds, regions_of, is_constant, operand, Layout, finish_code, MachineView, HasCode, FramePlace, context_below, ImagePlan, InCode, activations_below, home_end, below_end, HoldsWords, HasPointers, HasSpace, On, Sites, view_of, slots_end, last_temporary, IsWellMade, IsKnown, seen_by_templates, ComesTo, Setting, RepresentsAt, WorksOn, frame_of, context_of}
+use Rattle.match_turns.specs.Words.{Rax, Rcx, State, register, Operation, OperationResult, performed, is_reserved, Slot, Temporary, Instruction, BodyState, LinearBody, body_of, Configuration, is_constant, operand, Layout, finish_code, MachineView, HasCode, FramePlace, view_of, IsWellMade, IsKnown, seen_by_templates, ComesTo, Setting, RepresentsAt, WorksOn, arrived_in, parameter_register, IsSpare, counts_of, Rsp}
 use Rattle.c_operations.specs.declared.operation.Operation.TheVariants as operations
+use Rattle.c_operations.specs.declared.operation.Pure.TheVariants.{Constant}
 use Rattle.linear_code.specs.declared.instruction.Instruction.TheVariants as instructions
+use Rattle.template_code.specs.Operands as operands
 use Rattle.x64_templates.specs.Implements.{IsReady, HasOperands}
-use Rattle.x64_templates.specs.Runs.{Finished}
-use Rattle.match_turns.proofs.Lemmas.{frame_with, finish_run, first_in_code, IsCounted, room_here, holds_here, code, frame, slots, has_slots, sp_is, Surroundings, same_constant, some_is, label_in, counted_here, around_here, code_at}
-use Rattle.match_bodies.specs.Bodies.{InBody}
-use Rattle.match_bodies.proofs.FramePlaces.{activation_with}
+use Rattle.x64_templates.specs.Runs.{Finished, Reaches}
+use Rattle.match_turns.proofs.Lemmas.{finish_run, performed_same, first_in_code, IsCounted, room_here, holds_here, code, frame, slots, has_slots, sp_is, Surroundings, some_is, label_in, counted_here, around_here, code_at}
+use Rattle.match_turns.proofs.BodyWithin.{in_body_at}
 use Rattle.match_turns.proofs.OperationMeaning.{nothing_landed}
 use Rattle.match_turns.proofs.OperationCode.{finish_is_at}
-
--- ---- the body, with RIP elsewhere in the same instruction
-
-all_same : (label : ℕ) (rs : List Region) → AllByRecursion
-    (λ (r : Region). holds label r ≡ holds label r) rs
-all_same label [] = tt
-all_same label (r ∷ rs) = (refl, all_same label rs)
-
-pub in_body_at : (t : Functions) (fs : List Funclet) (program : LinearProgram) (p : ImagePlan)
-    (q : Sites) (s : State) (c : Configuration) (cpu : Cpu)
-    → InBody t fs program p q s c → kept_of cpu.registers ≡ kept_of s.cpu.registers
-    → InCode p c.frame.body c.frame.next cpu.rip → cpu.rip < 2 ^ 64
-    → InBody t fs program p q (record { cpu = cpu; memory = s.memory }) c
-in_body_at t fs program p q s c cpu b registers inside small =
-    let m = s.memory in
-    let sp : register cpu Rsp ≡ register s.cpu Rsp = ap (λ (ks : List ℕ). slice_index ks 0)
-    registers in
-    let y = p.layout c.frame.body in
-    let leaf = p.leaf c.frame.body in
-    record {
-      acts = b.acts;
-      store = b.store;
-      slots = record {
-        code = b.slots.code;
-        body = b.slots.body;
-        label = c.frame.next;
-        instruction = record { low = inside.low; high = inside.high };
-        same = all_same c.frame.next (regions_of (body_of program c.frame.body));
-        small = small;
-        activation = activation_with m (p.register c.frame.body) y (context_of s.cpu)
-            (context_of cpu) (slots_end y leaf) c.frame.activation b.acts c.frame.body registers
-            b.slots.activation;
-        temporaries = subst (λ x. HoldsWords m (x + y.temporaries)
-            (x + last_temporary y c.frame.body leaf) c.frame.temporaries) (sym sp)
-            b.slots.temporaries;
-        space = subst (λ x. HasSpace x below_end (length b.acts + c.frame.held)) (sym sp)
-            b.slots.space;
-      };
-      pointers = subst (λ x. HasPointers t fs program p m y x y.frame c.below) (sym sp) b.pointers;
-      above = b.above;
-      home = λ e. subst (λ x. x + home_end ≤ STACK_END) (sym sp) (b.home e);
-      back = b.back;
-      returns_to = b.returns_to;
-      others = b.others;
-      eight = b.eight;
-      small = b.small;
-      frame = frame_with s cpu leaf (frame_of p c.frame.body b.back b.others) registers b.frame;
-      is = b.is;
-      below = subst (λ x. On t fs program p m (context_below b.back (x + y.frame + 8) b.others) b.is
-          c.below (activations_below c.frame.body b.acts)) (sym sp) b.below;
-    }
+use Rattle.match_bodies.proofs.StackTop.{arrives_in_leaf, leaf_layout}
+use Rattle.x64_templates.proofs.SparedRegisters.{run_spares, rax_spares, finish_rax, parameter_number}
+use Rattle.x64_templates.proofs.Encoded.{encodable_of, finish_fine}
+use Rattle.x64_instr.specs.Registers.{number}
+use Rattle.match_bodies.proofs.BodyViews.{placed}
+use Rattle.match_bodies.proofs.ArrivedParameters.{each}
+use Rattle.match_bodies.proofs.TemplateRuns.{keeps_here}
 
 -- what an operation needs beside its operands is in RAX and RDX
 pub ready_same : (o : Operation) (v w : MachineView) → v.rax ≡ w.rax → v.rdx ≡ w.rdx → IsReady o v
@@ -74,6 +30,15 @@ ready_same (operations.Divide s z) v w a d h = rw (← a, ← d) h
 ready_same (operations.Remainder s z) v w a d h = rw (← a, ← d) h
 ready_same (operations.Load z) v w a d h = tt
 ready_same (operations.Store z) v w a d h = tt
+
+-- an operation that reads an operand is no constant
+reads_first : (o : Operation) → operands.has_first o ≡ true → is_constant o ≡ false
+reads_first (operations.Pure (Constant n)) h = absurd cc
+reads_first o h = refl
+
+reads_second : (o : Operation) → operands.has_second o ≡ true → is_constant o ≡ false
+reads_second (operations.Pure (Constant n)) h = absurd cc
+reads_second o h = refl
 
 module _ (setting : Setting) (made : IsWellMade setting.program setting.plan)
     (s : State) (c : Configuration) (w : WorksOn setting s c) (known : IsKnown setting.program c)
@@ -131,7 +96,7 @@ module _ (setting : Setting) (made : IsWellMade setting.program setting.plan)
             w.well_formed.small;
       };
       memory = w.memory;
-      body = in_body_at t fs program p q s c before.cpu w.body refl
+      body = in_body_at t fs program p q s c before.cpu w.body refl w.again.locals
           (first_in_code t fs program p q image c.frame.body w.body.slots.code c.frame.next
           w.body.slots.body (slice_get_within w.body.slots.code.code c.frame.next here there))
           begin_small;
@@ -168,8 +133,8 @@ module _ (setting : Setting) (made : IsWellMade setting.program setting.plan)
     pub operands_wait : HasOperands o (register s.cpu Rax) (register s.cpu Rcx)
         (seen_by_templates s)
     operands_wait = record {
-      first = refl;
-      second = refl;
+      first = λ reads. refl;
+      second = λ reads. refl;
       ready = ready_same o (view_of s.cpu) (seen_by_templates s) refl refl w.again.ready;
     }
 
@@ -190,24 +155,47 @@ module _ (setting : Setting) (made : IsWellMade setting.program setting.plan)
         finish_run frame_here o to (seen_by_templates s) s.cpu.rip s.cpu.flags slots_now
         (register s.cpu Rax) (register s.cpu Rcx)
         (room_here setting before c represents_before counted)
-        (has_slots setting made.room before c represents_before counted here at_here).0 first_small
+        (has_slots setting made.room before c represents_before counted here at_here).0
+        (keeps_here setting made.room before c represents_before counted here at_here) first_small
         second_small operands_wait (sp_is setting made.room before c represents_before counted)
         (holds_here setting before c represents_before counted) code_here
 
+    -- a run over what is left of its template leaves the parameters of a leaf function where they
+    -- arrived
+    pub finish_spared : (u : State) → Reaches (length (finish_code y o to)) s u → (i : ℕ)
+        → i < y.arrivals → arrived_in u.cpu i ≡ arrived_in s.cpu i
+    finish_spared u comes i lt =
+        let name = c.frame.body in
+        let there = represents_before.body.slots.body in
+        let leaf = arrives_in_leaf t fs program p q image name body there i lt in
+        let l = leaf_layout t fs program p q name body leaf
+        (image.laid_out name body there) in
+        let spare = each IsSpare body.code c.frame.next here l.spares at_here in
+        run_spares (finish_code y o to) s u
+        (encodable_of (finish_code y o to) (finish_fine y (counts_of body) (register s.cpu Rsp)
+        (placed setting before c represents_before counted).base o to
+        (room_here setting before c represents_before counted)
+        (has_slots setting made.room before c represents_before counted here at_here).0))
+        (rax_spares (finish_code y o to)
+        (finish_rax y o to l.none l.in_frame
+        (keeps_here setting made.room before c represents_before counted here at_here) spare))
+        code_here comes (number (parameter_register i)) (parameter_number i)
+
     -- on the same numbers as in linear code
-    pub same_outcome : (x : OperationResult) → ComesTo program c o first second x → outcome ≡ x
-    same_outcome x h = by (is_constant o) refl h.reads_first h.reads_second
-      where
-        by : (constant : Bool) → is_constant o ≡ constant → operand constant c first ≡ Some h.a
-            → operand constant c second ≡ Some h.b → outcome ≡ x
-        by true k f g = same_constant (is_reserved program.globals) o (register s.cpu Rax)
-            (register s.cpu Rcx) h.a h.b c.store.memory k ∙ h.comes
-        by false k f g =
-            let a : register s.cpu Rax ≡ h.a = some_is (register s.cpu Rax) h.a
-            (sym w.again.has_first ∙ f) in
-            let b : register s.cpu Rcx ≡ h.b = some_is (register s.cpu Rcx) h.b
-            (sym w.again.has_second ∙ g) in
-            ap (λ z. performed (is_reserved program.globals) o z (register s.cpu Rcx)
-            c.store.memory)
-            a
-            ∙ ap (λ z. performed (is_reserved program.globals) o h.a z c.store.memory) b ∙ h.comes
+    module _ (x : OperationResult) (h : ComesTo program c o first second x) where
+      holds_first : operands.has_first o ≡ true → register s.cpu Rax ≡ h.a
+      holds_first reads =
+          some_is (register s.cpu Rax) h.a (sym (w.again.has_first reads)
+          ∙ subst (λ constant. operand constant c first ≡ Some h.a) (reads_first o reads)
+          h.reads_first)
+
+      holds_second : operands.has_second o ≡ true → register s.cpu Rcx ≡ h.b
+      holds_second reads =
+          some_is (register s.cpu Rcx) h.b (sym (w.again.has_second reads)
+          ∙ subst (λ constant. operand constant c second ≡ Some h.b) (reads_second o reads)
+          h.reads_second)
+
+      pub same_outcome : outcome ≡ x
+      same_outcome =
+          performed_same (is_reserved program.globals) c.store.memory o (register s.cpu Rax)
+          (register s.cpu Rcx) h.a h.b holds_first holds_second ∙ h.comes

@@ -1,10 +1,10 @@
 -- A call of RaiseException: the exception is raised where the call returns to.
-use Rattle.std.proofs.Common.{◌≡◌, ℕ, zero, suc, ◌+◌, ◌%◌, ◌^◌, ◌<◌, ◌≤◌, Bool, true, List, [], ◌∷◌, length, drop, get_or, Some, None, refl, sym, ap, subst, ◌∙◌, arith, length-take}
+use Rattle.std.proofs.Common.{◌≡◌, ℕ, zero, suc, ◌+◌, ◌%◌, ◌^◌, ◌<◌, ◌≤◌, Bool, List, [], ◌∷◌, length, drop, get_or, Some, None, refl, sym, ap, subst, ◌∙◌, arith, length-take}
 use Rattle.std.specs.Prelude.{nat_eq, replicate, slice_get, slice_index, if◌then◌else◌}
 use Rattle.std.proofs.lemmas.Bool.{eq-eqb}
 use Rattle.std.proofs.lemmas.List.{get_or-drop}
 use Rattle.std.proofs.lemmas.Option.{slice_get-get_or}
-use Rattle.match_turns.specs.Words.{W32, Code, low, Rcx, Rdx, address_of, context_of, State, register, arrived, raised, RaiseException, Exception, raise_event, Temporary, Instruction, LinearProgram, AfterCall, Configuration, Next, with_some, last_temporaries, raise, count_of, waiting, built_in, act, instruction_at, exec, IsException, HasRule, IsMatched, callers, turns_left, IsWellMade, IsKnown, KnownNext, turns_per_step, FlagsFit, Setting, setting_of, RepresentsAt, Represents, RaisesAreMatched}
+use Rattle.match_turns.specs.Words.{W32, Code, low, Rcx, Rdx, address_of, context_of, State, register, arrived, raised, RaiseException, Exception, raise_event, Temporary, Instruction, LinearProgram, AfterCall, Configuration, Next, with_some, last_temporaries, raise, count_of, waiting, built_in, act, instruction_at, exec, IsException, HasRule, IsMatched, callers, turns_left, IsWellMade, IsKnown, KnownNext, turns_per_step, FlagsFit, Setting, setting_of, RepresentsAt, Represents, RaisesAreMatched, leaf_values, ResumesFrom}
 use Rattle.host_layout.specs.declared.service.Service.TheVariants as services
 use Rattle.source_meaning.specs.Expressions as expressions
 use Rattle.linear_code.specs.declared.instruction.Instruction.TheVariants as instructions
@@ -96,9 +96,10 @@ module _ (setting : Setting) (made : IsWellMade setting.program setting.plan)
       access_small = λ j lt. zeros 15 j;
     }
 
-    resumes : p.resumes AfterCall (waiting c first).frame
-        (asking.saved setting made s c b known RaiseException first at) ≡ true
+    resumes : ResumesFrom p AfterCall (waiting c first).frame b.body.acts
+        (asking.saved setting made s c b known RaiseException first at)
     resumes = (image.resumptions AfterCall (waiting c first).frame
+        (leaf_values (p.leaf c.frame.body) c.frame.body b.body.acts)
         (asking.saved setting made s c b known RaiseException first at)).says
         (record { first = first; calls = at; here = refl; no_result = refl })
 

@@ -2,7 +2,7 @@
 -- begins, with the result 0.
 use Rattle.std.proofs.Common.{◌≡◌, ℕ, suc, ◌+◌, ◌*◌, ◌≤◌, Bool, true, false, List, [], ◌∷◌, ◌++◌, length, Some, None, refl, sym, ap, subst, ◌∙◌, arith, length-append}
 use Rattle.std.specs.Prelude.{slice_get}
-use Rattle.match_turns.specs.Words.{Rsp, Instr, Cpu, context_of, State, distance, arrivals, RaiseException, Temporary, Instruction, HasSlots, LinearProgram, LinearBody, BodyName, FunctionBody, FuncletBody, body_of, AfterCall, Waits, Configuration, resumed, Layout, sizes, put_back, keep, temporary_at, call, return_at, begin_call, clear_result, HasCode, StackItem, ImagePlan, Activation, locals_of, On, on_top, IsWellFormed, LeadsTo, IsLayoutIf, IsLaidOut, IsWellMade, IsKnown, counts_of, entry_turns, LARGEST_FRAME, Setting, setting_of, IsMachineMemory, RepresentsAt, ReturnsThere, ContinuationsAfterCalls, arguments_code}
+use Rattle.match_turns.specs.Words.{Rsp, Instr, Cpu, context_of, State, distance, arrivals, RaiseException, Temporary, Instruction, HasSlots, LinearProgram, LinearBody, BodyName, FunctionBody, FuncletBody, body_of, AfterCall, Waits, Configuration, resumed, Layout, sizes, put_back, keep, temporary_at, call, return_at, begin_call, clear_result, HasCode, StackItem, ImagePlan, Activation, locals_of, On, on_top, IsWellFormed, LeadsTo, IsLayoutIf, IsLaidOut, IsWellMade, IsKnown, counts_of, entry_turns, LARGEST_FRAME, Setting, setting_of, IsMachineMemory, RepresentsAt, ReturnsThere, ContinuationsAfterCalls, arguments_code, leaf_values, ResumesFrom}
 use Rattle.linear_code.specs.declared.instruction.Instruction.TheVariants as instructions
 use Rattle.match_turns.proofs.Lemmas.{sizes_append, call_size, code_split, near, template_there, reaches_silently, locals_count, label_in, body_there, counted_here, each, IsCounted}
 use Rattle.lowering_invariants.specs.Depths.{depth_at, depth_in}
@@ -11,6 +11,7 @@ use Rattle.match_turns.proofs.CallResult as kept
 use Rattle.match_turns.proofs.CallSteps.{surrounded}
 use Rattle.match_turns.proofs.BuiltInRequest.{clear_size}
 use Rattle.match_turns.proofs.FuncletFirstInstruction.{silent_code}
+use Rattle.match_turns.proofs.CallResult.{caller_framed}
 
 -- the locals of an activation
 abbrev locals_in : List (List ℕ) → ℕ → List ℕ
@@ -37,7 +38,7 @@ module _ (setting : Setting) where
       (acts : List Activation) (c : Configuration)
       (on : On t fs program p s.memory (context_of saved) is (Waits c.frame ∷ c.below) acts)
       (well_formed : IsWellFormed (record { cpu = saved; memory = s.memory }))
-      (says : p.resumes AfterCall c.frame saved ≡ true)
+      (says : ResumesFrom p AfterCall c.frame acts saved)
       (memory : IsMachineMemory setting s.memory c.store.memory)
       (store : c.store.activations ≡ locals_of acts) where
     abbrev name : BodyName
@@ -50,7 +51,8 @@ module _ (setting : Setting) where
     place = p.address c.frame.body c.frame.next
 
     returns : ReturnsThere t fs program p q c.frame saved
-    returns = (image.resumptions AfterCall c.frame saved).said says
+    returns = (image.resumptions AfterCall c.frame
+        (leaf_values (p.leaf c.frame.body) c.frame.body acts) saved).said says
 
     abbrev first : ℕ
     first = returns.first
@@ -125,6 +127,7 @@ module _ (setting : Setting) where
           first
           done here (λ h. h) refl (omega arith)
           ((made.apart name code.0 code.1).within c.frame.next i here refl) held free back_is
+          (caller_framed setting made name code.0 c.frame.next i code.1 here refl)
           counted around in
           record {
             turns = 1;

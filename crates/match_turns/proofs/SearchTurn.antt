@@ -1,7 +1,7 @@
 -- A turn that searches: a filter begins, a handler takes over, or nobody does.
-use Rattle.std.proofs.Common.{◌≡◌, ℕ, zero, ◌+◌, ◌%◌, ◌^◌, ◌<◌, true, List, [], ◌∷◌, None, refl, sym, ap, subst, arith, inl, inr}
+use Rattle.std.proofs.Common.{◌≡◌, ℕ, zero, ◌+◌, ◌%◌, ◌^◌, ◌<◌, List, [], ◌∷◌, None, refl, sym, ap, subst, arith, inl, inr}
 use Rattle.seh_num.specs.declared.event.Event.TheVariants as events
-use Rattle.match_turns.specs.Words.{context_of, State, rsp, DispatchRecord, placed, Turn, arrived, accepted, searches_on, unwinds_on, accepting, Exception, Handler, Resumption, Waits, Store, Next, Configuration, begin_filter, accept, target_of, unwind, exec, StackItem, Activation, locals_of, Aimed, RecordHasRoom, store_of, FilterBegins, placed_in, from_body, HasRule, callers, turns_left, FlagsFit, Setting, IsMachineMemory, EntersFunclet, Outcome, IsSearching}
+use Rattle.match_turns.specs.Words.{context_of, State, rsp, DispatchRecord, placed, Turn, arrived, accepted, searches_on, unwinds_on, accepting, Exception, Handler, Resumption, Waits, Store, Next, Configuration, begin_filter, accept, target_of, unwind, exec, StackItem, Activation, locals_of, Aimed, RecordHasRoom, store_of, FilterBegins, placed_in, from_body, HasRule, callers, turns_left, FlagsFit, Setting, IsMachineMemory, EntersFunclet, Outcome, IsSearching, ResumesFrom}
 use Rattle.linear_machine.specs.Searching as linear
 use Rattle.match_turns.proofs.Lemmas.{in_stack, acceptance_unwinds}
 use Rattle.match_stack.proofs.SearchTurns.{search_turns}
@@ -96,7 +96,7 @@ module _ (setting : Setting) (fits : FlagsFit setting.program) where
 
     -- ---- all of them
 
-    pub searched : (resumption : Resumption) → p.resumes resumption c.frame r.saved ≡ true
+    pub searched : (resumption : Resumption) → ResumesFrom p resumption c.frame acts r.saved
         → HasRule (linear.search program (exec program zero) found exception resumption c)
         → Outcome setting (arrived t fs (searches_on t s at r))
         (λ next. linear.search program next found exception resumption c) c.events (turns_left c)

@@ -1,20 +1,22 @@
 -- A service returns: its result goes to the temporary of the first argument, and the next
 -- instruction begins.
-use Rattle.std.proofs.Common.{◌≡◌, ℕ, zero, suc, ◌+◌, ◌-◌, ◌%◌, ◌^◌, ◌<◌, ◌≤◌, false, List, [], ◌∷◌, ◌++◌, length, take, set, Option, Some, None, refl, sym, ap, subst, ◌∙◌, arith}
+use Rattle.std.proofs.Common.{◌≡◌, ℕ, zero, suc, ◌+◌, ◌-◌, ◌%◌, ◌^◌, ◌<◌, ◌≤◌, false, List, [], ◌∷◌, ◌++◌, length, take, set, Option, Some, None, refl, sym, ap, subst, ◌∙◌, arith, true}
 use Rattle.std.specs.Prelude.{slice_get}
 use Rattle.std.proofs.lemmas.List.{append-nil}
 use Rattle.std.proofs.lemmas.Option.{slice_get_within}
-use Rattle.match_turns.specs.Words.{Event, Memory, Rsp, Instr, Context, kept_of, State, register, distance, arrivals, Continues, turn, BuiltIn, Temporary, BodyState, with_slot, LinearBody, Configuration, Next, act, sizes, keep, call, return_at, begin_call, clear_result, MachineView, machine, AreSmall, sp_of, with_sp, ReachesBody, locals_of, KeepsAbove, KeepsStack, WalkGives, KeepsShadow, AllKeep, Comes, Moves, HaveRoom, turns_left, counts_of, with_values, OwnerHasFrame, Setting, HasProgram, IsMachineMemory, RepresentsAt, arguments_code}
+use Rattle.match_turns.specs.Words.{Event, Memory, Rsp, Instr, Context, kept_of, State, register, distance, arrivals, Continues, turn, BuiltIn, Temporary, BodyState, with_slot, LinearBody, Configuration, Next, act, sizes, keep, call, return_at, begin_call, clear_result, MachineView, machine, AreSmall, sp_of, with_sp, ReachesBody, locals_of, KeepsAbove, KeepsStack, WalkGives, KeepsShadow, AllKeep, Comes, Moves, HaveRoom, turns_left, counts_of, with_values, OwnerHasFrame, Setting, HasProgram, IsMachineMemory, RepresentsAt, arguments_code, InCode, OtherRegisters, now_of, RegistersHold, leaf_values}
 use Rattle.linear_code.specs.declared.instruction.Instruction.TheVariants as instructions
 use Rattle.linear_machine.specs.Frames as linear
-use Rattle.x64_templates.proofs.Locals.{locals_stay}
-use Rattle.match_turns.proofs.Lemmas.{sizes_append, call_size, call_ends, keep_flow, comes_then, silent_here, reaches_silently, program_reaches, locals_count, same_activations, IsCounted, room_here, holds_here, locals_here, Keeps, keeps_then, reaches_keeps, stays_well_formed, Ran, represents_next, kept_alike, others_of, caller_here, beyond_here, is_here, is_after, ends_at, ends_gives, IsPast, one_piece, past_ends, frame, slots, has_slots, silent_at, Surroundings, one_more, label_small, leaves_stored}
+use Rattle.match_turns.proofs.Lemmas.{sizes_append, call_size, call_ends, keep_flow, comes_then, silent_here, first_in_code, reaches_silently, program_reaches, locals_count, same_activations, IsCounted, some_is, room_here, holds_here, locals_here, Keeps, reaches_keeps, stays_well_formed, Ran, represents_next, others_of, caller_here, beyond_here, is_here, is_after, ends_at, ends_gives, IsPast, one_piece, past_ends, frame, slots, has_slots, silent_at, Surroundings, one_more, label_small, leaves_stored}
 use Rattle.match_bodies.proofs.BodyViews.{placed}
 use Rattle.match_turns.proofs.BuiltInRequest.{clear_size}
 use Rattle.match_turns.proofs.ReturnAddressPush.{keeps_above, sp_there as returned_sp, sp_saved}
-use Rattle.match_turns.proofs.BodyOtherMemory.{elsewhere, source_elsewhere, represents_elsewhere, same_activations as same_acts, same_code}
+use Rattle.match_turns.proofs.BodyOtherMemory.{elsewhere, source_elsewhere, represents_elsewhere, same_activations as same_acts}
 use Rattle.match_turns.proofs.ServiceCall.{sp, given, back, at_service, flags_there, low, top, next_is, back_small, reaches, comes_there, live_there, returns, code_after}
+use Rattle.match_bodies.proofs.LeafRegisters.{framed_hold}
+use Rattle.match_turns.proofs.BodyWithin.{in_body_at, acts_at}
 use Rattle.match_turns.proofs.ServiceShadow.{is_elsewhere, service_keeps}
+use Rattle.match_bodies.proofs.ArrivedParameters.{no_arrivals}
 
 -- numbers of 64 bits, with another of 64 bits among them
 small_set : (xs : List ℕ) (i v : ℕ) → AreSmall xs → v < 2 ^ 64 → AreSmall (set xs i v)
@@ -104,31 +106,84 @@ module _ (setting : Setting) (roomy : HaveRoom setting.program) where
         no_more_code = keeps.no_more_code;
       }
 
+      abbrev u : State
+      u = returned_to x m
+
+      -- RSP and the nonvolatile registers are those of the body before the call
+      kept_back : kept_of u.cpu.registers ≡ kept_of s.cpu.registers
+      kept_back = ap (λ r. r ∷ others_of s.cpu.registers) (sp_is x m)
+
       -- the body before the call, in this memory
-      abbrev pub earlier : State
-      earlier = elsewhere setting s c b counted framed m source keeps_all memory
+      abbrev moved : State
+      moved = elsewhere setting s c b counted framed m source keeps_all memory
 
       abbrev pub calling : Configuration
       calling = source_elsewhere setting s c b counted framed m source keeps_all memory
 
+      abbrev moved_there : RepresentsAt setting moved calling
+      moved_there = represents_elsewhere setting s c b counted framed m source keeps_all memory
+
+      -- and with the registers after it
+      abbrev pub earlier : State
+      earlier = record {
+        cpu = record { registers = u.cpu.registers; rip = s.cpu.rip; flags = s.cpu.flags };
+        memory = m;
+      }
+
+      given_small : AreSmall s.cpu.registers → AreSmall u.cpu.registers
+      given_small h =
+          let k = (reaches_keeps 7 s there (reaches setting roomy s c b counted f first at)).small h
+          in
+          small_set (set there.cpu.registers 0 x) 4 sp_after
+          (small_set there.cpu.registers 0 x k x_small) (omega arith)
+
+      as_many : length u.cpu.registers ≡ length s.cpu.registers
+      as_many = sym b.well_formed.count
+
+      in_code : InCode p c.frame.body c.frame.next s.cpu.rip
+      in_code = subst (InCode p c.frame.body c.frame.next) (sym b.rip)
+          (first_in_code t fs program p q image c.frame.body b.body.slots.code c.frame.next
+          b.body.slots.body (slice_get_within b.body.slots.code.code c.frame.next
+          (instructions.CallBuiltIn f first) at))
+
+      hold : RegistersHold (now_of true earlier.cpu) (p.register c.frame.body) 0
+          (leaf_values (p.leaf c.frame.body) c.frame.body moved_there.body.acts)
+      hold = framed_hold (now_of true earlier.cpu) (p.register c.frame.body) (p.leaf c.frame.body)
+          moved_there.body.acts c.frame.body framed
+
       pub begins : RepresentsAt setting earlier calling
-      begins = represents_elsewhere setting s c b counted framed m source keeps_all memory
+      begins = record {
+        rip = b.rip;
+        well_formed = stays_well_formed moved earlier (record {
+          protection = refl;
+          fixed = λ a w. refl;
+          count = as_many;
+          small = given_small;
+        }) b.well_formed.rip_small moved_there.well_formed;
+        memory = memory;
+        body = in_body_at t fs program p q moved calling earlier.cpu moved_there.body kept_back hold
+            in_code b.well_formed.rip_small;
+        landed = λ code e. absurd (nothing c.frame.landed code free e);
+      }
+
+      acts_are : begins.body.acts ≡ b.body.acts
+      unfolding begins
+      acts_are = acts_at t fs program p q moved calling earlier.cpu moved_there.body kept_back hold
+          in_code b.well_formed.rip_small
+          ∙ same_acts setting s c b counted framed m source keeps_all memory
 
       around_earlier : Surroundings setting roomy earlier calling begins counted
-      unfolding begins
       around_earlier = record {
         caller = around.caller;
         owner = λ k e. subst (OwnerHasFrame t fs program p c.frame.activation c.below)
-            (sym (same_acts setting s c b counted framed m source keeps_all memory))
-            (around.owner k e);
+            (sym acts_are) (around.owner k e);
       }
 
       abbrev body : LinearBody
       body = begins.body.slots.code
 
       is_body : b.body.slots.code ≡ body
-      unfolding begins
-      is_body = same_code setting s c b counted framed m source keeps_all memory
+      is_body = some_is b.body.slots.code body (sym b.body.slots.body ∙ begins.body.slots.body)
 
       pub at_earlier : slice_get body.code c.frame.next ≡ Some (instructions.CallBuiltIn f first)
       at_earlier = subst (λ (o : LinearBody). slice_get o.code c.frame.next
@@ -164,44 +219,22 @@ module _ (setting : Setting) (roomy : HaveRoom setting.program) where
           let r = room_slots in
           call_ends (frame setting roomy earlier calling begins counted) (Temporary first)
           (view_after x m) to (flags_there setting roomy s c b counted f first at) now
-          (room_here setting earlier calling begins counted) (omega arith) x_small (sp_is x m)
+          (room_here setting earlier calling begins counted) (omega arith) tt x_small refl
           (holds_here setting earlier calling begins counted)
           (code_after setting roomy earlier calling begins counted f first at_earlier)
-
-      abbrev u : State
-      u = returned_to x m
 
       abbrev pub after : State
       after = machine run.after rip run.flags
 
-      -- registers
-      given_small : AreSmall s.cpu.registers → AreSmall u.cpu.registers
-      given_small h =
-          let k = (reaches_keeps 7 s there (reaches setting roomy s c b counted f first at)).small h
-          in
-          small_set (set there.cpu.registers 0 x) 4 sp_after
-          (small_set there.cpu.registers 0 x k x_small) (omega arith)
-
-      as_many : length u.cpu.registers ≡ length s.cpu.registers
-      as_many = sym b.well_formed.count
-
       keeps_registers : Keeps earlier after
       keeps_registers =
-          keeps_then earlier u after (record {
-            protection = refl;
-            fixed = λ a w. refl;
-            count = as_many;
-            small = given_small;
-          }) (reaches_keeps 1 u after run.comes)
-
-      -- RSP and the nonvolatile registers are those of the body before the call
-      kept_back : kept_of u.cpu.registers ≡ kept_of s.cpu.registers
-      kept_back = ap (λ r. r ∷ others_of s.cpu.registers) (sp_is x m)
-
-      kept_after : kept_of after.cpu.registers ≡ kept_of s.cpu.registers
-      kept_after = kept_alike run.after (view_after x m) run.rest
-          (locals_stay (p.layout c.frame.body) (view_after x m).locals run.after.locals
-          (image.in_frames c.frame.body) run.locals) ∙ kept_back
+          let k = reaches_keeps 1 u after run.comes in
+          record {
+            protection = k.protection;
+            fixed = k.fixed;
+            count = k.count;
+            small = k.small;
+          }
 
       abbrev values : List ℕ
       values = linear.locals_of c.store c.frame.activation
@@ -213,9 +246,9 @@ module _ (setting : Setting) (roomy : HaveRoom setting.program) where
       ran = record {
         changed = record { changes = run.changes; keeps = keeps_registers };
         holds = run.holds;
-        kept = kept_after;
+        kept = record { rest = run.rest; locals = run.locals };
         leaves = (let r = room_slots in leaves_stored setting roomy earlier calling begins counted
-            around_earlier (Temporary first) x source held_earlier fits (omega arith));
+            around_earlier (Temporary first) x source held_earlier fits (omega arith) tt);
       }
 
       rip_is : rip ≡ p.address c.frame.body (c.frame.next + 1)
@@ -249,7 +282,9 @@ module _ (setting : Setting) (roomy : HaveRoom setting.program) where
           (c.frame.next + 1) c.frame.landed events rip_is inside
           (stays_well_formed earlier after keeps_registers rip_small begins.well_formed)
           (λ code e. absurd (nothing c.frame.landed code free e)) around_earlier.caller
-          around_earlier.owner)
+          around_earlier.owner
+          (no_arrivals setting c.frame.body b.body.slots.code b.body.slots.body framed earlier.cpu
+          after.cpu))
 
       -- nothing is shown where the service returns to, nor at the next instruction
       pub silent_back : arrivals u.cpu (distance t.base u.cpu.rip) 1 fs ≡ []
@@ -277,7 +312,7 @@ module _ (setting : Setting) (roomy : HaveRoom setting.program) where
           (instructions.CallBuiltIn f first) at_earlier (λ h. h) call_code u
       past_call = record {
         rip = back_is;
-        registers = kept_back;
+        registers = refl;
         is_there = is_here setting earlier calling begins counted;
       }
 
@@ -288,7 +323,7 @@ module _ (setting : Setting) (roomy : HaveRoom setting.program) where
           let i = instructions.CallBuiltIn f first in
           let room = room_here setting earlier calling begins counted in
           let ends = ends_at setting earlier calling begins counted after
-          (c.frame.next + 1) rip_is inside kept_after
+          (c.frame.next + 1) rip_is inside (ap (λ (o : OtherRegisters). o.rsp) run.rest)
           (is_after setting earlier calling begins counted after d values ts ran
           around_earlier.caller around_earlier.owner) in
           one_piece setting earlier calling begins counted i at_earlier (λ h. h) call_code

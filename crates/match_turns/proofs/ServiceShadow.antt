@@ -62,7 +62,7 @@ module _ (setting : Setting) where
   pub is_elsewhere : (s : State) (c : Configuration) (b : RepresentsAt setting s c)
       (counted : IsCounted setting c) (m : Memory)
       → KeepsStack s.memory m (register s.cpu Rsp) → HasProgram setting m
-      → Below setting s c b counted m
+      → Below setting s c b counted (kept_here setting s c b counted) m
   is_elsewhere s c b counted m keeps has =
       let sp = register s.cpu Rsp in
       let frame = (p.layout c.frame.body).frame in
@@ -90,7 +90,7 @@ module _ (setting : Setting) where
             (frame_owed setting c.frame.body b.body.slots.code b.body.slots.body u b.body.back
             b.body.others b.body.eight (let z : sp + frame + 8 < 2 ^ 64 = omega arith in z)
             (frame_stays setting c.frame.body b.body.slots.code b.body.slots.body s u b.body.back
-            b.body.others refl
+            b.body.others (record { rest = refl; locals = λ r is free. refl })
             (λ a v from to w. reads.words a v (omega arith) (omega arith) w) b.body.frame)));
         beyond = on_stack t m caller 0 b.body.is list.stack;
       }

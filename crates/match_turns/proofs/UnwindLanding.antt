@@ -1,10 +1,11 @@
 -- An unwinding lands in a body, which continues at the label.
 use Rattle.std.proofs.Common.{◌≡◌, true, ℕ, ◌≤◌, List, [], ◌∷◌, ◌++◌, Option, Some, None, refl, sym, ap, subst, ◌∙◌, arith, inl}
 use Rattle.std.proofs.lemmas.List.{append-nil}
-use Rattle.match_turns.specs.Words.{Event, Memory, Context, State, DispatchRecord, Turn, at_landing, Frame, Target, Item, Waits, Configuration, Next, arrive, StackItem, Framed, StackFrame, InCode, Activation, On, store_of, on_top, IsWellFormed, IsUnwinding, Unwound, LandsThere, landing_value, landing_events, LeadsTo, callers, turns_left, entry_turns, Setting, IsMachineMemory, RepresentsAt, Represents, ContinuesAs}
+use Rattle.match_turns.specs.Words.{Event, Memory, Context, State, DispatchRecord, Turn, at_landing, Frame, Target, Item, Waits, Configuration, Next, arrive, StackItem, Framed, StackFrame, InCode, Activation, On, store_of, on_top, IsWellFormed, IsUnwinding, Unwound, LandsThere, landing_value, landing_events, LeadsTo, callers, turns_left, entry_turns, Setting, IsMachineMemory, RepresentsAt, Represents, ContinuesAs, now_of, RegistersHold, leaf_values}
 use Rattle.linear_machine.specs.Unwinding as linear
 use Rattle.match_turns.proofs.Lemmas.{nine_numbers, waits_in_body, no_front, all_front, first_in_code}
 use Rattle.match_turns.proofs.DispatchWalks.{landing_walk}
+use Rattle.match_bodies.proofs.LeafRegisters.{framed_hold}
 
 same_code : (a b : ℕ) → Some a ≡ Some b → a ≡ b
 same_code a b e = cc
@@ -51,6 +52,11 @@ module _ (setting : Setting) where
       (image.landings body.body w.code label w.body lands)) in
       by_code code inside is_code unlanded
     where
+      hold : RegistersHold (now_of true (at_landing s to rax address).cpu) (p.register body.body) 0
+          (leaf_values (p.leaf body.body) body.body outer)
+      hold = framed_hold (now_of true (at_landing s to rax address).cpu) (p.register body.body)
+          (p.leaf body.body) outer body.body on.is_there.linked.0.framed
+
       by_code : (code : Option ℕ) → InCode p body.body label address → rax ≡ landing_value code
           → (code ≡ None → body.landed ≡ None) → RepresentsAt setting (at_landing s to rax address)
           (arrival body below label code source outer shown)
@@ -61,7 +67,7 @@ module _ (setting : Setting) where
         body = waits_in_body t fs program p q image (at_landing s to rax address) to
             (Framed framed ∷ is) body below outer label body.temporaries body.landed source
             (shown ++ []) on (nine_numbers to.kept on.is_there.stack.0.kept) inside well_formed
-            (all_front s.memory body.temporaries);
+            (all_front s.memory body.temporaries) hold;
         landed = λ x e. let z = sym (unlanded refl) ∙ e in absurd cc;
       }
       by_code (Some code) inside is_code unlanded = record {
@@ -72,7 +78,7 @@ module _ (setting : Setting) where
             (Framed framed ∷ is) body below outer label [] (Some code) source
             (shown ++ landing_events (Some code)) on (nine_numbers to.kept on.is_there.stack.0.kept)
             inside well_formed
-            (no_front s.memory body.temporaries);
+            (no_front s.memory body.temporaries) hold;
         landed = λ x e. let z : code ≡ x = same_code code x e in is_code ∙ z;
       }
 

@@ -49,7 +49,7 @@ FunctionsApart program p q =
 module _ (t : Functions) (fs : List Funclet) (program : LinearProgram) (p : ImagePlan)
     (q : Sites) where
   -- a call comes to the callee's first instruction: its arguments are its first locals, and what
-  -- the stack held is in the others, which linear code begins with 0
+  -- the stack or a register held is in the others, which linear code begins with 0
   pub record CallBegins (s : State) (c : Configuration) (f first count : ℕ) : Type 0 where
     pub function : LinearFunction
     pub there : slice_get program.functions f ≡ Some function

@@ -16,6 +16,7 @@ use Rattle.linear_code.specs.Program.{LinearProgram}
 use Rattle.linear_machine.specs.Frames.{Item, Waits, Searches, Unwinds, Store, Configuration, Seen, Finished, Next, deeper}
 use Rattle.match_stack.specs.ImagePlan.{ImagePlan}
 use Rattle.match_stack.specs.DispatchStates.{IsWellFormed}
+use Rattle.match_stack.specs.ItemMatches.{leaf_values}
 use Rattle.match_runs.specs.Shadow.{drop_below, started, WalkGives, KeepsShadow}
 use Rattle.match_runs.specs.Comes.{LeadsTo}
 use Rattle.match_bodies.specs.CodeSites.{Sites}
@@ -41,10 +42,11 @@ module _ (t : Functions) (fs : List Funclet) (program : LinearProgram) (p : Imag
   -- within an operation that is made again: linear code is at its instruction, the machine
   -- at the instruction that had faulted, with the operands in its registers
   pub record WorksOn (s : State) (c : Configuration) : Type 0 where
-    pub again : WorksAgain t fs program p q c.frame s.cpu
     pub well_formed : IsWellFormed s
     pub memory : IsMachineMemory t fs program p q s.memory c.store.memory
     pub body : InBody t fs program p q s c
+    pub again : WorksAgain t fs program p q c.frame
+        (leaf_values (p.leaf c.frame.body) c.frame.body body.acts) s.cpu
 
   -- a state of the machine represents a configuration of linear code
   abbrev pub Represents : State → Configuration → Type 0

@@ -1,5 +1,5 @@
 -- What is asked of the bodies that continue where an exception is continued.
-use Rattle.std.specs.Prelude.{◌≡◌, true, List, [], ◌∷◌, None}
+use Rattle.std.specs.Prelude.{◌≡◌, List, [], ◌∷◌, None}
 use Rattle.x64_machine.specs.declared.cpu.Cpu.{Cpu}
 use Rattle.x64_machine.specs.Contexts.{context_of}
 use Rattle.x64_machine.specs.Effect.{State}
@@ -11,7 +11,7 @@ use Rattle.linear_machine.specs.Frames.{Resumption, Waits, Configuration}
 use Rattle.linear_machine.specs.Searching.{resumed}
 use Rattle.match_stack.specs.Stack.{StackItem}
 use Rattle.match_stack.specs.ImagePlan.{ImagePlan}
-use Rattle.match_stack.specs.ItemMatches.{Activation, locals_of}
+use Rattle.match_stack.specs.ItemMatches.{Activation, locals_of, ResumesFrom}
 use Rattle.match_stack.specs.StackRecords.{On}
 use Rattle.match_stack.specs.DispatchStates.{IsWellFormed}
 use Rattle.match_runs.specs.Comes.{LeadsTo}
@@ -31,7 +31,7 @@ module _ (t : Functions) (fs : List Funclet) (program : LinearProgram) (p : Imag
       (resumption : Resumption) (c : Configuration)
       → On t fs program p s.memory (context_of saved) is (Waits c.frame ∷ c.below) acts
       → IsWellFormed (record { cpu = saved; memory = s.memory })
-      → p.resumes resumption c.frame saved ≡ true
+      → ResumesFrom p resumption c.frame acts saved
       → IsMachineMemory t fs program p q s.memory c.store.memory
       → c.store.activations ≡ locals_of acts
       → (arrivals saved (distance t.base saved.rip) 1 fs ≡ [])

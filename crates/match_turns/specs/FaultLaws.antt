@@ -1,5 +1,5 @@
 -- What is claimed of operations that fault, that are made again, and that touch a reserved byte.
-use Rattle.std.specs.Prelude.{◌≡◌, ℕ, zero, true, false, List, [], ◌∷◌, Some}
+use Rattle.std.specs.Prelude.{◌≡◌, ℕ, zero, false, List, [], ◌∷◌, Some}
 use Rattle.x64_machine.specs.declared.cpu.Cpu.{Cpu}
 use Rattle.x64_machine.specs.Contexts.{context_of}
 use Rattle.x64_machine.specs.Effect.{State}
@@ -19,7 +19,7 @@ use Rattle.linear_machine.specs.Instructions.{is_constant, act}
 use Rattle.linear_machine.specs.Run.{instruction_at, exec}
 use Rattle.match_stack.specs.Stack.{StackItem}
 use Rattle.match_stack.specs.ImagePlan.{ImagePlan}
-use Rattle.match_stack.specs.ItemMatches.{Activation, locals_of}
+use Rattle.match_stack.specs.ItemMatches.{Activation, locals_of, ResumesFrom}
 use Rattle.match_stack.specs.StackRecords.{On}
 use Rattle.match_stack.specs.DispatchStates.{IsWellFormed}
 use Rattle.match_runs.specs.Ends.{HasRule}
@@ -77,7 +77,7 @@ ContinuationsAtOperations =
     → (s : State) (saved : Cpu) (is : List StackItem) (acts : List Activation) (c : Configuration)
     → On t fs program p s.memory (context_of saved) is (Waits c.frame ∷ c.below) acts
     → IsWellFormed (record { cpu = saved; memory = s.memory })
-    → p.resumes SameOperation c.frame saved ≡ true
+    → ResumesFrom p SameOperation c.frame acts saved
     → IsMachineMemory t fs program p q s.memory c.store.memory
     → c.store.activations ≡ locals_of acts
     → (arrivals saved (distance t.base saved.rip) 1 fs ≡ [])

@@ -1,5 +1,5 @@
 -- What is claimed of raises and of local unwinds.
-use Rattle.std.specs.Prelude.{◌≡◌, ℕ, zero, true, List, [], ◌∷◌, Some, None}
+use Rattle.std.specs.Prelude.{◌≡◌, ℕ, zero, List, [], ◌∷◌, Some, None}
 use Rattle.x64_machine.specs.declared.cpu.Cpu.{Cpu}
 use Rattle.x64_machine.specs.Contexts.{context_of}
 use Rattle.x64_machine.specs.Effect.{State}
@@ -15,7 +15,7 @@ use Rattle.linear_machine.specs.Instructions.{act}
 use Rattle.linear_machine.specs.Run.{instruction_at, exec}
 use Rattle.match_stack.specs.Stack.{StackItem}
 use Rattle.match_stack.specs.ImagePlan.{ImagePlan}
-use Rattle.match_stack.specs.ItemMatches.{Activation, locals_of}
+use Rattle.match_stack.specs.ItemMatches.{Activation, locals_of, ResumesFrom}
 use Rattle.match_stack.specs.StackRecords.{On}
 use Rattle.match_stack.specs.DispatchStates.{IsWellFormed}
 use Rattle.match_runs.specs.Ends.{HasRule}
@@ -66,8 +66,8 @@ ContinuationsAfterCalls =
     → IsProgramImage t fs program p q → IsWellMade program p
     → (s : State) (saved : Cpu) (is : List StackItem) (acts : List Activation) (c : Configuration)
     → On t fs program p s.memory (context_of saved) is (Waits c.frame ∷ c.below) acts
-    → IsWellFormed (record { cpu = saved; memory = s.memory }) → p.resumes AfterCall c.frame saved ≡
-    true
+    → IsWellFormed (record { cpu = saved; memory = s.memory })
+    → ResumesFrom p AfterCall c.frame acts saved
     → IsMachineMemory t fs program p q s.memory c.store.memory
     → c.store.activations ≡ locals_of acts
     → (arrivals saved (distance t.base saved.rip) 1 fs ≡ [])

@@ -1,5 +1,5 @@
 -- What is claimed of the turns in which the host dispatches.
-use Rattle.std.specs.Prelude.{◌≡◌, ℕ, zero, ◌^◌, ◌<◌, ◌≤◌, Bool, true, List, [], ◌∷◌, length, Option}
+use Rattle.std.specs.Prelude.{◌≡◌, ℕ, zero, ◌^◌, ◌<◌, ◌≤◌, Bool, List, [], ◌∷◌, length, Option}
 use Rattle.seh_num.specs.declared.event.Code.{Code}
 use Rattle.x64_machine.specs.declared.cpu.Cpu.{Cpu}
 use Rattle.x64_machine.specs.Contexts.{context_of}
@@ -21,7 +21,7 @@ use Rattle.linear_machine.specs.Instructions.{act, end_finally, local_unwind}
 use Rattle.linear_machine.specs.Run.{exec}
 use Rattle.match_stack.specs.Stack.{StackItem, Unwinding}
 use Rattle.match_stack.specs.ImagePlan.{ImagePlan}
-use Rattle.match_stack.specs.ItemMatches.{Activation, locals_of, Aimed}
+use Rattle.match_stack.specs.ItemMatches.{Activation, locals_of, Aimed, ResumesFrom}
 use Rattle.match_stack.specs.StackRecords.{On}
 use Rattle.match_stack.specs.DispatchStates.{IsWellFormed}
 use Rattle.match_stack.specs.DispatchSteps.{AsksHost, IsException, SearchIsAnswered}
@@ -93,7 +93,7 @@ RaisesAreShown =
     → c.store.activations ≡ locals_of acts
     → (code : Code) (flags : ℕ) (access : Option (Bool × ℕ)) (exception : Exception)
     (resumption : Resumption)
-    → IsException code flags access exception → p.resumes resumption c.frame saved ≡ true
+    → IsException code flags access exception → ResumesFrom p resumption c.frame acts saved
     → HasRule (raise program (exec program zero) exception resumption c)
     → Shows t fs program p q (arrived t fs (raised t s code flags access saved))
     (raise_event exception ∷ []) (λ next. raise program next exception resumption c) c.events

@@ -71,7 +71,7 @@ pub use Rattle.template_code.specs.declared.layout.TheConstants.{LARGEST_FRAME}
 pub use Rattle.x64_templates.specs.CallStates.{HasBack, with_sp, moved, sp_of, with_four, pushed, HasBelow}
 pub use Rattle.x64_templates.specs.EntryStates.{InRegisters, with_arguments, OnStack, IsFunctionFrame, body_in_memory, FreshFrame}
 pub use Rattle.x64_templates.specs.Exceptions.{IsField, field_width, MayRead}
-pub use Rattle.x64_templates.specs.Frames.{Agrees, slot_at, IsBytes, MemoryKeepsBase, HasBase, InTemporaries, InLocals, KeepsReserved, SlotsHaveRoom}
+pub use Rattle.x64_templates.specs.Frames.{Agrees, number_placed, slot_at, IsBytes, MemoryKeepsBase, HasBase, InTemporaries, InLocals, KeepsReserved, SlotsHaveRoom}
 pub use Rattle.x64_templates.specs.Returned.{Returned, CallBegun}
 pub use Rattle.x64_templates.specs.Runs.{HasCode, FramePlace, Roomy, FrameHolds, ReachesBody, IsThere, Enters, Steps}
 pub use Rattle.x64_templates.specs.Straight.{OtherRegisters, registers_of, MachineView, machine, Executes, takes_frame, AreSmall}
@@ -98,7 +98,7 @@ pub use Rattle.match_stack.specs.DispatchSteps.{placed_in, SearchIsAnswered, Ans
 pub use Rattle.match_stack.specs.FilterReturns.{filter_turn, linear_answer, with_answer, answered, AsksTheNext, AskedTakesOver, ContinuesException, IsRaisedAnew}
 pub use Rattle.match_stack.specs.HostUnwind.{on_top, store_of}
 pub use Rattle.match_stack.specs.ImagePlan.{ImagePlan, InCode, parent_body, IsFunclet, by_parent}
-pub use Rattle.match_stack.specs.ItemMatches.{activations_below, BodyWaits, temporaries_end, home_end, below_end, HoldsWords, HasActivation, HasSpace, SameRegions, HasPointers, FuncletIsAbove, IsAbove, return_of, ReturnsTo, Activation, locals_of, record_room, Linked, Aimed, IsActivation, KeepsPointers, Leads, Reaches, FunctionIsAbove, AimedHere, HasException}
+pub use Rattle.match_stack.specs.ItemMatches.{activations_below, BodyWaits, temporaries_end, home_end, below_end, HoldsWords, HoldsPlaces, HasActivation, HasSpace, SameRegions, HasPointers, FuncletIsAbove, IsAbove, return_of, ReturnsTo, Activation, locals_of, record_room, Linked, Aimed, IsActivation, KeepsPointers, Leads, Reaches, FunctionIsAbove, AimedHere, HasException, ResumesFrom, leaf_values}
 pub use Rattle.match_stack.specs.ListLaws.{KeepsStack, KeepsAbove, IsLinkedStack}
 pub use Rattle.match_stack.specs.PlainWalks.{state}
 pub use Rattle.match_stack.specs.SearchOutcomes.{FilterBegins}
@@ -108,11 +108,12 @@ pub use Rattle.match_stack.specs.TurnLaws.{IsUnwinding, IsSearching}
 pub use Rattle.match_stack.specs.UnwindOutcomes.{Unwound, BlockBegins, LandsThere, landing_value, landing_events}
 pub use Rattle.match_stack.specs.WalkLaws.{context_below}
 pub use Rattle.match_bodies.specs.Bodies.{slots_end, last_temporary, turns_left, held_below}
-pub use Rattle.match_bodies.specs.BodyViews.{counts_of, seen_by_templates, frame_at, state_of}
-pub use Rattle.match_bodies.specs.Callers.{FindsReturn, FindsOwed, Owed, IsOwed, nothing_owed, owed_by, owed_of, callers, caller_above, caller_left}
+pub use Rattle.match_bodies.specs.BodyViews.{counts_of, seen_by_templates, arrived_in, frame_at, state_of, IsReached}
+pub use Rattle.match_bodies.specs.Callers.{FindsReturn, FindsOwed, Owed, nothing_owed, owed_by, owed_of, callers, caller_above}
 pub use Rattle.match_bodies.specs.CodeSites.{Sites, links_of, function_arguments, parent_base, keep_argument, begin_of, making_size, frame_code, entry_code, funclet_arguments, keep_base}
 pub use Rattle.match_bodies.specs.ConfigurationFacts.{IsWellMade, IsKnown, KnownNext}
 pub use Rattle.match_bodies.specs.Layouts.{IsLayoutIf, IsFuncletPlan, IsFunctionLayout, IsLeafLayout, IsLaidOut, IsFuncletLayout}
+pub use Rattle.match_bodies.specs.LocalRegisters.{now_of, RegistersHold}
 pub use Rattle.match_bodies.specs.ProgramImages.{frame_of, service_of, WorksAgain, IsProgramImage, is_finally, view_of, ReturnsThere}
 pub use Rattle.match_bodies.specs.Setting.{Setting, IsMachineMemory, RepresentsAt, InBody, IsResumed, setting_of, HasProgram}
 pub use Rattle.match_bodies.specs.SlotStores.{KeepsStackBut, OwnerHasFrame, with_values}
@@ -127,8 +128,10 @@ pub use Rattle.match_turns.specs.RaiseLaws.{BodiesContinue, LocalUnwindsAreMatch
 pub use Rattle.match_turns.specs.SettingOutcome.{CallBegins, Continuations, Outcome, Shows, Represents, WalkContinues, WorksOn, EntersFunclet, ContinuesAs}
 pub use Rattle.match_turns.specs.TurnLaws.{waiting_below}
 pub use Rattle.template_code.specs.declared.layout.Place.{Place}
-pub use Rattle.template_code.specs.declared.layout.Place.TheVariants.{InRegister, InFrame}
+pub use Rattle.template_code.specs.declared.layout.Place.TheVariants.{InRegister, InFrame, Arriving}
 pub use Rattle.template_code.specs.Slots.{fetch_placed, keep_placed}
 pub use Rattle.template_code.specs.Calls.{parameter_placed}
 pub use Rattle.x64_templates.specs.Locals.{local_in}
-pub use Rattle.x64_templates.specs.Straight.{LocalRegisters}
+pub use Rattle.x64_templates.specs.Straight.{LocalRegisters, local_registers}
+pub use Rattle.template_code.specs.Places.{parameter_register}
+pub use Rattle.x64_templates.specs.InstructionRuns.{IsSpare}

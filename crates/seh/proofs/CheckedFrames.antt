@@ -1,5 +1,5 @@
 -- A yes of `check`, and the frames of the image as it is loaded.
-use Rattle.std.proofs.Common.{◌≡◌, ℕ, List, Some, Ok, Err, refl, sym, ap, subst, ◌∙◌}
+use Rattle.std.proofs.Common.{◌≡◌, List, Some, Ok, Err, refl, sym, ap, subst, ◌∙◌}
 use Rattle.seh_num.specs.Answers.{◌>>=◌}
 use Rattle.x64_machine.specs.Contexts.{context_of}
 use Rattle.pe_image.specs.Image.{Image}

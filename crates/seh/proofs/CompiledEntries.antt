@@ -12,14 +12,14 @@ use Rattle.eh_tables.specs.declared.code.UnwindOperation.TheVariants.{Allocate}
 use Rattle.x64_instr.specs.declared.instruction.Instr.{Instr}
 use Rattle.eh_tables.specs.Tables.{Entry}
 use Rattle.linear_code.specs.Program.{LinearProgram}
-use Rattle.template_code.specs.Bytes.{spelled, size}
+use Rattle.template_code.specs.Bytes.{spelled}
 use Rattle.template_code.specs.Probing.{check_stack}
 use Rattle.frame_rules.specs.Prologue.{items}
 use Rattle.frame_rules.specs.Plan.{allocating, instructions_of, operations_of, spelled_by, turned}
 use Rattle.frame_rules.specs.Bytes.{spell, IsExecutableAt}
 use Rattle.frame_layout.specs.declared.frame.FrameLayout.{FrameLayout}
-use Rattle.frame_layout.specs.Plans.{frame_distance_if, pushes_of}
-use Rattle.frame_layout.proofs.Planned.{probe_end_few}
+use Rattle.frame_layout.specs.Plans.{pushes_of}
+use Rattle.frame_layout.proofs.Planned.{frame_small, probe_end_few}
 use Rattle.frame_layout.proofs.Steps.{executed, operations_executed, pushing, saving, setting}
 use Rattle.unwind_check.specs.Prologues.{has_bytes}
 use Rattle.unwind_check.specs.declared.rule.Verdict.TheVariants.{Yes}
@@ -72,11 +72,6 @@ probe_is_at p m text =
     let at : begin + 6 * length s.imports ≡ image_base + probe_begin p = omega arith in
     subst (λ (n : ℕ). IsExecutableAt m n (spelled check_stack)) at
     (probe_after s.imports s.text s.rdata m begin bytes text)
-
--- a frame register's distance is a byte
-offset_byte : (b : Bool) → frame_distance_if b < 2 ^ 8
-offset_byte true = omega arith
-offset_byte false = omega arith
 
 module _ (p : LinearProgram) (fits : FitsProgram p) (b : IsBounded (image_of (linked p))) where
   abbrev image : Image
@@ -185,7 +180,7 @@ module _ (p : LinearProgram) (fits : FitsProgram p) (b : IsBounded (image_of (li
     kept = record {
       rules = right_functions_keep_rules (entry_in checked (entry_of (site_of p) x f))
           (function_of p x f) is_right;
-      near = offset_byte f.framed;
+      near = (let n = frame_small f.framed in omega arith);
     }
 
   -- ---- all

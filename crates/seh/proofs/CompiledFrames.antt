@@ -1,5 +1,5 @@
 -- The frames of a compiled image are found.
-use Rattle.std.proofs.Common.{◌≡◌, ℕ, true, List, None, Ok, refl, sym, ap, subst, ◌∙◌}
+use Rattle.std.proofs.Common.{◌≡◌, ℕ, true, List, None, sym, ap, subst, ◌∙◌}
 use Rattle.x64_machine.specs.Contexts.{context_of}
 use Rattle.pe_image.specs.Image.{Image}
 use Rattle.pe_image.specs.Reading.{reading}

@@ -14,7 +14,7 @@ use Rattle.seh.specs.declared.outcome.CommandOutcome.TheVariants.{CheckedEntries
 use Rattle.seh.specs.declared.refusal.Refusal.{Refusal}
 use Rattle.seh.specs.declared.refusal.Refusal.TheVariants as refusals
 use Rattle.seh.specs.Answers.{image_limit}
-use Rattle.seh.specs.EntryChecks.{AreChecked, IsEntriesAnswer, kept_count, entries_text}
+use Rattle.seh.specs.EntryChecks.{IsEntriesAnswer, kept_count, entries_text}
 use Rattle.seh.specs.EntryCheckLaws.{EntryCheckIsComplete}
 use Rattle.seh.specs.Calls.{Call, HadNoFault, Gave, WantedMemory}
 use Rattle.seh.specs.Refusals.{Reported}

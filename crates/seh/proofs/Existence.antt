@@ -1,6 +1,6 @@
 -- The bytes that an accepted text's program is linked to are an image of it.
-use Rattle.std.proofs.Common.{ℕ, ◌≤◌, List, length, refl, subst}
-use Rattle.seh.specs.Words.{Program, IsAccepted, IsCheckedAs, ExternalDeclaration, resolve, lowered, linked}
+use Rattle.std.proofs.Common.{ℕ, List, refl, subst}
+use Rattle.seh.specs.Words.{Program, IsCheckedAs, resolve, lowered, linked}
 use Rattle.pe_image.specs.Reading.{IsImage}
 use Rattle.pe_write.specs.Program.{ImageContents, CanBeImage, parts_of}
 use Rattle.pe_write.specs.Written.{written}
@@ -25,7 +25,7 @@ program_has_image p fits globals =
     let contents : ImageContents = linked (lowered p) in
     let can : CanBeImage contents = is (lowered p) fits in
     record {
-      octets = linked_are_octets (lowered p) globals fits.names;
+      octets = linked_are_octets (lowered p) fits globals;
       written = refl;
       read = subst (IsImage (linked_bytes p)) (image_is contents can)
           (read_again (parts_of contents) (can_be_written contents can));

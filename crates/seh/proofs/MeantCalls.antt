@@ -1,6 +1,6 @@
 -- What is compiled and run is what the text means, call by call.
 use Rattle.std.proofs.Common.{◌≡◌, ◌⊎◌, inl, inr, ◌≤◌, ℕ, pos, length, List, [], ◌∷◌, ◌++◌, Bool, Option, Some, None, refl, sym, ap, subst, ◌∙◌}
-use Rattle.seh.specs.Words.{text_limit, Shown, RunEnd, Grew, text, lines, end_line, Program, resolve, meaning, Ended, run_end, run_end_of, RunOptions, end_by, text_by, Call, Asks, Gave, WantedMemory, EndsWithin, GaveMeaning, LastLinesAgree, CompiledIsMeant, RunIsMeant, AreEnough, ShowsMeaning, IsCompiled, IsProgramOf, status_of, meaning_status}
+use Rattle.seh.specs.Words.{text_limit, Shown, RunEnd, Grew, text, lines, end_line, Program, resolve, meaning, Ended, run_end, run_end_of, RunOptions, end_by, text_by, Call, Asks, Gave, WantedMemory, EndsWithin, GaveMeaning, LastLinesAgree, CompiledIsMeant, RunIsMeant, AreEnough, ShowsMeaning, IsCompiled, IsProgramOf, status_of}
 use Rattle.seh_num.specs.declared.end.RunEnd.TheVariants as run_ends
 use Rattle.c_meaning.specs.FunctionNames.{names_of}
 use Rattle.c_meaning.specs.Texts as meanings

@@ -1,6 +1,5 @@
 -- An image has one verdict.
-use Rattle.std.proofs.Common.{◌≡◌, ◌<◌, ◌≤◌, ℕ, zero, suc, inl, inr, List, [], ◌∷◌, ◌++◌, length, Ok, refl, sym, ap, subst, ◌∙◌, arith}
-use Rattle.std.specs.Prelude.{All}
+use Rattle.std.proofs.Common.{◌≡◌, ℕ, zero, suc, inl, inr, List, [], ◌∷◌, ◌++◌, length, Ok, refl, sym, ap, subst, ◌∙◌, arith}
 use Rattle.std.proofs.lemmas.List.Elements.{All-head, All-tail}
 use Rattle.eh_tables.specs.Tables.{Entry, tables}
 use Rattle.unwind_check.specs.declared.rule.Rule.{Rule}
@@ -15,7 +14,6 @@ use Rattle.pe_image.specs.Reading.{reading}
 use Rattle.eh_tables.specs.Answer.{Table}
 use Rattle.image_code.specs.Verdicts.{checked_code}
 use Rattle.x64_emit.specs.declared.entry.TheConstants.{CHECK_STACK}
-use Rattle.seh.specs.Checks.{IsChecked}
 use Rattle.seh.specs.CheckLaws.{ImagesHaveOneVerdict}
 use Rattle.seh.proofs.Completeness.{one_image}
 

@@ -1,21 +1,18 @@
 -- The text of a run has the lines of each printed walk.
-use Rattle.std.proofs.Common.{◌≡◌, ℕ, ◌+◌, Bool, List, [], ◌∷◌, ◌++◌, reverse, pos, refl, sym, ap, subst, ◌∙◌}
+use Rattle.std.proofs.Common.{◌≡◌, ℕ, ◌+◌, Bool, List, [], ◌∷◌, ◌++◌, reverse, pos, refl, sym, ap, ◌∙◌}
 use Rattle.std.proofs.lemmas.List.{append_assoc}
-use Rattle.std.specs.Prelude.{Option}
-use Rattle.seh_num.specs.declared.event.Event.{Event}
-use Rattle.source_meaning.specs.State.{State, Result, Value, Normal, Returned, Broke, Continued, LeftTry, Target, End, Outcome, Gives, state_of, walk_events}
+use Rattle.source_meaning.specs.State.{State, Value, Normal, Returned, Broke, Continued, LeftTry, Target, End, Outcome, Gives, state_of, walk_events}
 use Rattle.source_meaning.specs.Meaning.{shows, ran, does, meaning}
 use Rattle.source_meaning.specs.Laws.{IsPrefixOf}
 use Rattle.source_machine.specs.Machine.{step, done}
-use Rattle.source_machine.specs.Runs.{first, after}
 use Rattle.source_machine.specs.FrameMeanings.{comes_to}
 use Rattle.source_machine.proofs.StepKeeping.{keeps_meaning}
 use Rattle.source_machine.proofs.WholeRuns.{shows_before}
 use Rattle.source_machine.proofs.RunPrefixes.{one_run}
-use Rattle.seh_io.specs.Text.{line, lines, at_line}
+use Rattle.seh_io.specs.Text.{lines, at_line}
 use Rattle.c_checked.specs.Program.{Program}
 use Rattle.c_meaning.specs.FunctionNames.{names_of}
-use Rattle.seh.specs.Words.{resolve, text_by}
+use Rattle.seh.specs.Words.{resolve}
 use Rattle.seh.specs.PrintedWalk.{ComesToWalk, walk_lines, walked_text, PrintedWalk}
 use Rattle.seh.proofs.EventLines.{lines_append}
 use Rattle.seh.proofs.Headline.{headline}

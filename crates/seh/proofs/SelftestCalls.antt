@@ -1,7 +1,6 @@
 -- What whole calls of `selftest` give, where no sink has a fault.
-use Rattle.std.proofs.Common.{◌≡◌, ◌⊎◌, inl, inr, ◌+◌, ◌*◌, ◌≤◌, ℕ, pos, List, length, false, Option, Some, Result, Err, refl, sym, ap, subst, ◌∙◌}
-use Rattle.seh.specs.Words.{Shown, RunEnd, Grew, text, IsAccepted, Program, resolve, meaning, Ended, run_end, run_end_of, RunOptions, shown_by, end_by, Call, Gave, WantedMemory, EndsWithin, ShowsMeaning, IsCompiled, IsProgramOf, Refusal, CommandOutcome, AsksSelftest, GaveSummary, SelftestReadsNothing, SelftestIsComplete, SelftestIsMeant, meant_summary, selftest_options, summary, summary_by, summary_of, status_of, meaning_status}
-use Rattle.c_syntax.specs.Program.{ExternalDeclaration}
+use Rattle.std.proofs.Common.{◌≡◌, ◌⊎◌, inl, inr, ◌+◌, ◌*◌, ◌≤◌, ℕ, pos, List, length, false, Result, refl, ap, subst, ◌∙◌}
+use Rattle.seh.specs.Words.{Shown, RunEnd, Grew, Program, resolve, meaning, run_end_of, shown_by, end_by, Call, Gave, WantedMemory, EndsWithin, ShowsMeaning, IsCompiled, IsProgramOf, Refusal, CommandOutcome, GaveSummary, SelftestReadsNothing, SelftestIsComplete, SelftestIsMeant, meant_summary, selftest_options, summary, summary_by, status_of, meaning_status}
 use Rattle.c_meaning.specs.FunctionNames.{names_of}
 use Rattle.c_meaning.specs.Texts as meanings
 use Rattle.generated_program.specs.GeneratedText.{generated}

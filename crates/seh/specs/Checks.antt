@@ -1,5 +1,5 @@
 -- What comes of an image that is checked: the verdict on its function table, and its line.
-use Rattle.std.specs.Prelude.{◌≡◌, ℕ, List, ◌++◌, codes, Result, Ok, Err}
+use Rattle.std.specs.Prelude.{◌≡◌, ℕ, List, ◌++◌, codes, Ok, Err}
 use Rattle.std.specs.Fmt.{decimal}
 use Rattle.seh_io.specs.Streams.{Grew}
 use Rattle.seh_io.specs.Text.{hexadecimal, ended}

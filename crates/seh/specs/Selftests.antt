@@ -1,5 +1,5 @@
 -- What comes of the generated program of a number: the summary of its run.
-use Rattle.std.specs.Prelude.{◌≡◌, ℕ, List, ◌++◌, length, codes, min, false, pos, Option, Result}
+use Rattle.std.specs.Prelude.{ℕ, List, ◌++◌, length, codes, min, false, pos, Option, Result}
 use Rattle.seh_num.specs.declared.end.RunEnd.{RunEnd}
 use Rattle.seh_num.specs.Shown.{Shown}
 use Rattle.seh_io.specs.Streams.{last_count}

@@ -1,5 +1,5 @@
 -- How many instructions a template has.
-use Rattle.std.proofs.Common.{ℕ, ◌*◌, ◌≤◌, List, [], ◌∷◌, ◌++◌, length, Option, Some, None, arith, length-append}
+use Rattle.std.proofs.Common.{Bool, true, false, ℕ, ◌*◌, ◌≤◌, List, [], ◌∷◌, ◌++◌, length, Option, Some, None, arith, length-append}
 use Rattle.seh_num.specs.declared.width.Width.{Width}
 use Rattle.seh_num.specs.declared.width.Width.TheVariants.{W8, W16, W32, W64}
 use Rattle.x64_instr.specs.declared.register.Reg.{Reg}
@@ -23,11 +23,12 @@ use Rattle.linear_code.specs.declared.instruction.Instruction.{Instruction}
 use Rattle.linear_code.specs.declared.instruction.Instruction.TheVariants as instructions
 use Rattle.template_code.specs.declared.layout.Layout.{Layout}
 use Rattle.template_code.specs.declared.layout.Place.{Place}
-use Rattle.template_code.specs.declared.layout.Place.TheVariants.{InRegister, InFrame}
+use Rattle.template_code.specs.declared.layout.Place.TheVariants.{InRegister, InFrame, Arriving}
 use Rattle.template_code.specs.Places.{place_of}
 use Rattle.template_code.specs.Bytes.{size, sizes}
 use Rattle.template_code.specs.Operations.{compare, extended, pure_code, before, work}
-use Rattle.template_code.specs.Slots.{local_at, fetch_local, keep_local, fetch_placed, keep_placed, fetch, keep, operands_code, finish_code, compute_code}
+use Rattle.template_code.specs.Operands.{has_first, has_second}
+use Rattle.template_code.specs.Slots.{local_at, fetch_local, keep_local, fetch_placed, keep_placed, fetch, fetch_if, keep, operands_code, finish_code, compute_code}
 
 fetch_local_length : (o : Option ℕ) (r : Reg) (d : ℕ) → length (fetch_local o r d) ≤ 2
 fetch_local_length None r d = omega arith
@@ -41,14 +42,21 @@ fetch_placed_length : (y : Layout) (r : Reg) (i : ℕ) (p : Place)
     → length (fetch_placed y r i p) ≤ 2
 fetch_placed_length y r i (InRegister q) = omega arith
 fetch_placed_length y r i InFrame = fetch_local_length y.base r (local_at y i)
+fetch_placed_length y r i Arriving = omega arith
 
 keep_placed_length : (y : Layout) (i : ℕ) (p : Place) → length (keep_placed y i p) ≤ 2
 keep_placed_length y i (InRegister q) = omega arith
 keep_placed_length y i InFrame = keep_local_length y.base (local_at y i)
+keep_placed_length y i Arriving = omega arith
 
 pub fetch_length : (y : Layout) (r : Reg) (x : Slot) → length (fetch y r x) ≤ 2
 fetch_length y r (Temporary i) = omega arith
 fetch_length y r (Local i) = fetch_placed_length y r i (place_of y i)
+
+pub fetch_if_length : (read : Bool) (y : Layout) (r : Reg) (x : Slot)
+    → length (fetch_if read y r x) ≤ 2
+fetch_if_length true y r x = fetch_length y r x
+fetch_if_length false y r x = omega arith
 
 pub keep_length : (y : Layout) (x : Slot) → length (keep y x) ≤ 2
 keep_length y (Temporary i) = omega arith
@@ -87,16 +95,17 @@ work_length o = omega arith
 pub compute_length : (y : Layout) (to : Slot) (o : Operation) (first second : Slot)
     → length (compute_code y to o first second) ≤ 10
 compute_length y to o first second =
-    let a = fetch_length y Rax first in
-    let b = fetch_length y Rcx second in
+    let a = fetch_if_length (has_first o) y Rax first in
+    let b = fetch_if_length (has_second o) y Rcx second in
     let c = before_length o in
     let d = work_length o in
     let e = keep_length y to in
     omega (
       arith,
       length-append (operands_code y o first second) (finish_code y o to),
-      length-append (fetch y Rax first) (fetch y Rcx second ++ before o),
-      length-append (fetch y Rcx second) (before o),
+      length-append (fetch_if (has_first o) y Rax first)
+          (fetch_if (has_second o) y Rcx second ++ before o),
+      length-append (fetch_if (has_second o) y Rcx second) (before o),
       length-append (work o) (keep y to),
     )
 

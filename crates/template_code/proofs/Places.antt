@@ -1,11 +1,12 @@
 -- Places of locals: no two locals stand in one register.
-use Rattle.std.proofs.Common.{◌≡◌, ◌≢◌, ℕ, zero, suc, ◌<◌, ◌==◌, Bool, true, false, cond, List, [], ◌∷◌, length, drop, get_or, Option, Some, None, refl, ap, ◌∙◌, subst, arith}
-use Rattle.std.proofs.lemmas.Bool.{eqb-true, ne_eqb}
+use Rattle.std.proofs.Common.{◌≡◌, ◌≢◌, ℕ, zero, suc, ◌<◌, ◌≤◌, ◌==◌, Bool, true, false, cond, ltb, List, [], ◌∷◌, length, drop, get_or, Option, Some, None, refl, sym, ap, ◌∙◌, subst, arith, inl, inr}
+use Rattle.std.specs.Prelude.{◌⊎◌}
+use Rattle.std.proofs.lemmas.Bool.{cases_lt, le-ltb, eqb-true, ne_eqb}
 use Rattle.x64_instr.specs.Registers.{number}
 use Rattle.x64_instr.specs.declared.register.Reg.{Reg}
 use Rattle.template_code.specs.declared.layout.Layout.{Layout}
 use Rattle.template_code.specs.declared.layout.Place.{Place}
-use Rattle.template_code.specs.declared.layout.Place.TheVariants.{InRegister, InFrame}
+use Rattle.template_code.specs.declared.layout.Place.TheVariants.{InRegister, InFrame, Arriving}
 use Rattle.template_code.specs.declared.layout.TheConstants.{LOCAL_REGISTERS}
 use Rattle.template_code.specs.Places.{place_among, place_of}
 
@@ -21,6 +22,7 @@ rising_more n m (r ∷ rs) lt h = (let l = h.0 in omega arith, h.1)
 abbrev register_of : Reg → Place → Reg
 register_of r (InRegister q) = q
 register_of r InFrame = r
+register_of r Arriving = r
 
 same_register : (q r : Reg) → InRegister q ≡ InRegister r → number q ≡ number r
 same_register q r e = ap (λ (p : Place). number (register_of q p)) e
@@ -66,10 +68,48 @@ are_rising = (
   (omega arith, (omega arith, (omega arith, (omega arith, (omega arith, (omega arith, tt)))))),
 )
 
+-- a parameter that stays in the register in which it arrives
+pub arriving_low : (y : Layout) (x : ℕ) → place_of y x ≡ Arriving → x < y.arrivals
+arriving_low y x e = by (cases_lt x y.arrivals)
+  where
+    among : (ns : List (Option ℕ)) (rs : List Reg) → place_among ns rs x ≡ Arriving → ⊥
+    among [] rs e = absurd cc
+    among (None ∷ ns) rs e = absurd cc
+    among (Some k ∷ ns) [] e = absurd cc
+    among (Some k ∷ ns) (q ∷ rs) e = one (k == x) e (among ns rs)
+      where
+        one : (t : Bool) → cond t (InRegister q) (place_among ns rs x) ≡ Arriving
+            → (place_among ns rs x ≡ Arriving → ⊥) → ⊥
+        one true e more = absurd cc
+        one false e more = more e
+
+    by : (x < y.arrivals) ⊎ (y.arrivals ≤ x) → x < y.arrivals
+    by (inl lt) = lt
+    by (inr le) = absurd (among y.registers LOCAL_REGISTERS
+        (sym (ap (λ (t : Bool). cond t Arriving (place_among y.registers LOCAL_REGISTERS x))
+        (le-ltb x y.arrivals le)) ∙ e))
+
+-- any other local
+pub place_late : (y : Layout) (x : ℕ) → y.arrivals ≤ x
+    → place_of y x ≡ place_among y.registers LOCAL_REGISTERS x
+place_late y x le = ap (λ (t : Bool). cond t Arriving (place_among y.registers LOCAL_REGISTERS x))
+    (le-ltb x y.arrivals le)
+
+-- a local in one of the registers of locals
+among_of : (y : Layout) (x : ℕ) (r : Reg) → place_of y x ≡ InRegister r
+    → place_among y.registers LOCAL_REGISTERS x ≡ InRegister r
+among_of y x r e = by (ltb x y.arrivals) e
+  where
+    by : (t : Bool) → cond t Arriving (place_among y.registers LOCAL_REGISTERS x) ≡ InRegister r
+        → place_among y.registers LOCAL_REGISTERS x ≡ InRegister r
+    by true e = absurd cc
+    by false e = e
+
 -- no two locals stand in one register
 pub places_apart : (y : Layout) (x z : ℕ) (r s : Reg) → place_of y x ≡ InRegister r
     → place_of y z ≡ InRegister s → number r ≡ number s → x ≡ z
-places_apart y x z r s e f is = apart y.registers LOCAL_REGISTERS x z 2 r s is are_rising e f
+places_apart y x z r s e f is = apart y.registers LOCAL_REGISTERS x z 2 r s is are_rising
+    (among_of y x r e) (among_of y z s f)
 
 -- ---- a local in a register is in one of those of locals
 
@@ -92,7 +132,8 @@ each_place P (Some k ∷ ns) (q ∷ rs) x r h e = by (k == x) e (λ f. each_plac
 -- what holds of each register of locals holds of the place of each local
 pub place_register : (P : Reg → Type 0) (y : Layout) (x : ℕ) (r : Reg) → Each P LOCAL_REGISTERS
     → place_of y x ≡ InRegister r → P r
-place_register P y x r h e = each_place P y.registers LOCAL_REGISTERS x r h e
+place_register P y x r h e =
+    each_place P y.registers LOCAL_REGISTERS x r h (among_of y x r e)
 
 -- ---- one register after another
 

@@ -1,5 +1,5 @@
 -- Calls (Microsoft x64 ABI, "Parameter passing" and "Prolog and epilog").
-use Rattle.std.specs.Prelude.{ℕ, zero, suc, ◌+◌, ◌-◌, ◌*◌, ◌==◌, nat_lt, if◌then◌else◌, List, [], ◌∷◌, ◌++◌, None}
+use Rattle.std.specs.Prelude.{ℕ, zero, suc, ◌+◌, ◌-◌, ◌*◌, nat_lt, if◌then◌else◌, List, [], ◌∷◌, ◌++◌, None}
 use Rattle.seh_num.specs.declared.width.Width.TheVariants.{W32, W64}
 use Rattle.x64_instr.specs.declared.register.Reg.{Reg}
 use Rattle.x64_instr.specs.declared.register.Reg.TheVariants.{Rax, Rcx, Rdx, Rsp, R8, R9}
@@ -15,8 +15,9 @@ use Rattle.c_operations.specs.declared.field.Field.TheVariants.{ExceptionCode, E
 use Rattle.frame_rules.specs.Plan.{epilogue}
 use Rattle.template_code.specs.declared.layout.Layout.{Layout}
 use Rattle.template_code.specs.declared.layout.Place.{Place}
-use Rattle.template_code.specs.declared.layout.Place.TheVariants.{InRegister, InFrame}
+use Rattle.template_code.specs.declared.layout.Place.TheVariants.{InRegister, InFrame, Arriving}
 use Rattle.template_code.specs.Places.{place_of}
+pub use Rattle.template_code.specs.Places.{parameter_register}
 use Rattle.template_code.specs.Bytes.{sizes}
 use Rattle.template_code.specs.Operations.{above, move}
 use Rattle.template_code.specs.Slots.{fetched, temporary_at, local_at, fetch, keep}
@@ -118,10 +119,7 @@ information_code y to f = fetched Rax Rsp y.pointers ∷ fetched Rax Rax 0 ∷ f
 -- ---- parameters
 
 -- the first four come in registers, each further one above the return address and the home space,
--- and go to the locals of their numbers: to a register in one move
-
-abbrev pub parameter_register : ℕ → Reg
-parameter_register i = if i == 0 then Rcx else (if i == 1 then Rdx else (if i == 2 then R8 else R9))
+-- and go to the locals of their numbers: to a register in one move; those of a leaf function stay
 
 -- a parameter from the fifth on, at this distance from RSP in the body
 abbrev pub stack_parameter : Layout → ℕ → ℕ
@@ -136,6 +134,7 @@ parameter_placed y i InFrame =
     if nat_lt i 4
     then keep_register (parameter_register i) (local_at y i) ∷ []
     else fetched Rax Rsp (stack_parameter y i) ∷ keep_register Rax (local_at y i) ∷ []
+parameter_placed y i Arriving = []
 
 abbrev pub parameter_code : Layout → ℕ → List Instr
 parameter_code y i = parameter_placed y i (place_of y i)

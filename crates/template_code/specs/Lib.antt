@@ -1,5 +1,6 @@
 pub mod Bytes
 pub mod Operations
+pub mod Operands
 pub mod Places
 pub mod Slots
 pub mod Jumps

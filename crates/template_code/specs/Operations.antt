@@ -1,5 +1,5 @@
--- The instructions of each operation: the first operand is in RAX, the second in RCX, and RAX takes
--- the result.
+-- The instructions of each operation: the first operand is in RAX, the second in RCX, where the
+-- operation reads them, and RAX takes the result.
 use Rattle.std.specs.Prelude.{ℕ, List, [], ◌∷◌, None}
 use Rattle.seh_num.specs.declared.width.Width.{Width}
 use Rattle.seh_num.specs.declared.width.Width.TheVariants.{W8, W16, W32, W64}

@@ -1,5 +1,5 @@
 -- The instructions that bring slots to registers and back, and the template of an operation.
-use Rattle.std.specs.Prelude.{ℕ, ◌+◌, ◌*◌, List, [], ◌∷◌, ◌++◌, Option, Some, None}
+use Rattle.std.specs.Prelude.{ℕ, ◌+◌, ◌*◌, Bool, if◌then◌else◌, List, [], ◌∷◌, ◌++◌, Option, Some, None}
 use Rattle.seh_num.specs.declared.width.Width.TheVariants.{W64}
 use Rattle.x64_instr.specs.declared.register.Reg.{Reg}
 use Rattle.x64_instr.specs.declared.register.Reg.TheVariants.{Rax, Rcx, Rsp}
@@ -12,9 +12,10 @@ use Rattle.linear_code.specs.declared.slot.Slot.TheVariants.{Local, Temporary}
 use Rattle.c_operations.specs.declared.operation.Operation.{Operation}
 use Rattle.template_code.specs.declared.layout.Layout.{Layout}
 use Rattle.template_code.specs.declared.layout.Place.{Place}
-use Rattle.template_code.specs.declared.layout.Place.TheVariants.{InRegister, InFrame}
-use Rattle.template_code.specs.Places.{place_of}
+use Rattle.template_code.specs.declared.layout.Place.TheVariants.{InRegister, InFrame, Arriving}
+use Rattle.template_code.specs.Places.{parameter_register, place_of}
 use Rattle.template_code.specs.Operations.{above, move, before, work}
+use Rattle.template_code.specs.Operands.{has_first, has_second}
 
 -- a number of 64 bits to a register, and RAX to its place
 abbrev pub fetched : Reg → Reg → ℕ → Instr
@@ -43,10 +44,12 @@ keep_local (Some b) d = fetched Rcx Rsp b ∷ put_back Rcx d ∷ []
 abbrev pub fetch_placed : Layout → Reg → ℕ → Place → List Instr
 fetch_placed y to i (InRegister r) = move W64 to r ∷ []
 fetch_placed y to i InFrame = fetch_local y.base to (local_at y i)
+fetch_placed y to i Arriving = move W64 to (parameter_register i) ∷ []
 
 abbrev pub keep_placed : Layout → ℕ → Place → List Instr
 keep_placed y i (InRegister r) = move W64 r Rax ∷ []
 keep_placed y i InFrame = keep_local y.base (local_at y i)
+keep_placed y i Arriving = move W64 (parameter_register i) Rax ∷ []
 
 abbrev pub fetch : Layout → Reg → Slot → List Instr
 fetch y to (Temporary i) = fetched to Rsp (temporary_at y i) ∷ []
@@ -56,10 +59,14 @@ abbrev pub keep : Layout → Slot → List Instr
 keep y (Temporary i) = put_back Rsp (temporary_at y i) ∷ []
 keep y (Local i) = keep_placed y i (place_of y i)
 
--- an operation: both operands to their registers, the operation, and the result to its slot; up to
--- the instruction that can fault, and from it on
+-- an operation: the operands that it reads to their registers, the operation, and the result to its
+-- slot; up to the instruction that can fault, and from it on
+abbrev pub fetch_if : Bool → Layout → Reg → Slot → List Instr
+fetch_if read y to x = if read then fetch y to x else []
+
 abbrev pub operands_code : Layout → Operation → Slot → Slot → List Instr
-operands_code y o first second = fetch y Rax first ++ (fetch y Rcx second ++ before o)
+operands_code y o first second =
+    fetch_if (has_first o) y Rax first ++ (fetch_if (has_second o) y Rcx second ++ before o)
 
 abbrev pub finish_code : Layout → Operation → Slot → List Instr
 finish_code y o to = work o ++ keep y to

@@ -20,12 +20,14 @@
 //!     unreadable WORD      the first word that is needed and can't be read
 //!     backward RSP         the callee's stack pointer, above which the caller's isn't
 
+ghost use Rattle.eh_tables.specs.Tables.{TablesAreWhole};
+
 use eh_tables::Tables;
 use pe_image::ImageView;
 use seh_num::width::Width;
-use std::alloc::{AllocError, Global};
+use std::alloc::Global;
 use std::process::Abort;
-use std::test::Fail;
+use test_tables::rows::{column, word};
 use test_tables::tables::table_image;
 use test_tables::words::number_of;
 use virtual_unwind::UnwindErr;
@@ -89,38 +91,27 @@ struct Function<'a> {
     words: &'a str,
 }
 
-/// The caller that a row expects.
-#[derive(Clone, Copy, Debug)]
-struct Boundary<'a> {
-    place: &'a str,
-    rip: u64,
-    rsp: u64,
-    frame: u64,
-    read: &'a str,
-}
-
 /// A number in hexadecimal.
 fn number(rt: &impl Abort, word: &str) -> u64 {
     match number_of(word) {
-        Some(value) => value,
-        None => panic!(rt; "no number: {word}"),
+        Some(value) if !word.is_empty() => value,
+        _ => panic!(rt; "no number: {word}"),
     }
 }
 
 /// Appends the bytes that words spell.
-fn push_bytes(rt: &impl Abort, out: &mut Vec<u8>, words: &str) -> Result<(), AllocError> {
+fn push_bytes(rt: &impl Abort, out: &mut Vec<u8>, words: &str) {
     for word in words.split_ascii_whitespace() {
-        out.push((number(rt, word) % 256) as u8)?;
+        out.push((number(rt, word) % 256) as u8)
+            .expect(rt, "memory");
     }
-    Ok(())
 }
 
 /// Appends zeros up to a multiple of 32 bytes.
-fn pad(out: &mut Vec<u8>) -> Result<(), AllocError> {
+fn pad(rt: &impl Abort, out: &mut Vec<u8>) {
     for _i in 0..(32 - out.len() % 32) % 32 {
-        out.push(0)?;
+        out.push(0).expect(rt, "memory");
     }
-    Ok(())
 }
 
 /// The place that a word names, as an address.
@@ -128,43 +119,49 @@ fn address(rt: &impl Abort, word: &str) -> u64 {
     STACK.wrapping_add(number(rt, word))
 }
 
+/// Sets the register of that name.
+fn set_register(kept: &mut [u64; 9], name: &str, value: u64) {
+    for (place, register) in kept.iter_mut().zip(KEPT.iter()) {
+        if *register == name {
+            *place = value;
+        }
+    }
+}
+
 /// Sets registers to addresses in the stack.
 fn set(rt: &impl Abort, kept: &mut [u64; 9], pairs: &str) {
     for pair in pairs.split_ascii_whitespace() {
-        match pair.split_once('=') {
-            None => panic!(rt; "no register: {pair}"),
-            Some((name, at)) => {
-                let value = address(rt, at);
-                for (k, register) in KEPT.iter().enumerate() {
-                    if *register == name {
-                        if let Some(place) = kept.get_mut(k) {
-                            *place = value;
-                        }
-                    }
-                }
-            }
-        }
+        let (name, at) = pair.split_once('=').unwrap_or((pair, ""));
+        set_register(kept, name, address(rt, at));
     }
 }
 
 /// Stores addresses at places of the stack.
 fn put_words(rt: &impl Abort, space: &mut PageMap, pairs: &str) {
     for pair in pairs.split_ascii_whitespace() {
-        match pair.split_once('=') {
-            None => panic!(rt; "no word: {pair}"),
-            Some((at, value)) => {
-                let _ = space.store(address(rt, at), Width::W64, address(rt, value));
-            }
-        }
+        let (at, value) = pair.split_once('=').unwrap_or((pair, ""));
+        let _ = space.store(address(rt, at), Width::W64, address(rt, value));
+    }
+}
+
+/// Adds what a line says to its function.
+fn add_line<'a>(rt: &impl Abort, found: &mut Function<'a>, line: &'a str) {
+    if let Some(words) = line.strip_prefix("info ") {
+        pad(rt, &mut found.infos);
+        push_bytes(rt, &mut found.infos, words);
+    } else if let Some(pairs) = line.strip_prefix("with ") {
+        set(rt, &mut found.kept, pairs);
+    } else if let Some(pairs) = line.strip_prefix("words ") {
+        found.words = pairs;
+    } else if let Some((bytes, _)) = line.split_once(" | ") {
+        push_bytes(rt, &mut found.code, bytes);
+    } else if found.name.is_empty() {
+        found.name = line;
     }
 }
 
 /// The function that a part of a table spells.
-fn function_of<'a>(
-    rt: &impl Abort,
-    alloc: Global,
-    part: &'a str,
-) -> Result<Function<'a>, AllocError> {
+fn function_of<'a>(rt: &impl Abort, alloc: Global, part: &'a str) -> Function<'a> {
     let mut found = Function {
         name: "",
         infos: Vec::new(alloc),
@@ -173,63 +170,44 @@ fn function_of<'a>(
         words: "",
     };
     for line in part.lines() {
-        if let Some(words) = line.strip_prefix("info ") {
-            pad(&mut found.infos)?;
-            push_bytes(rt, &mut found.infos, words)?;
-        } else if let Some(pairs) = line.strip_prefix("with ") {
-            set(rt, &mut found.kept, pairs);
-        } else if let Some(pairs) = line.strip_prefix("words ") {
-            found.words = pairs;
-        } else if let Some((bytes, _)) = line.split_once(" | ") {
-            push_bytes(rt, &mut found.code, bytes)?;
-        } else if found.name.is_empty() {
-            found.name = line;
-        }
+        add_line(rt, &mut found, line);
     }
-    Ok(found)
+    found
 }
 
-/// What a row expects.
-fn boundary_of<'a>(rt: &impl Abort, row: &'a str) -> Option<Result<Boundary<'a>, UnwindErr>> {
-    let mut columns = row.split('|').skip(2);
-    let mut words = columns.next()?.split_ascii_whitespace();
-    let place = words.next()?;
-    let first = address(rt, words.next()?);
-    if place == "unreadable" {
-        return Some(Err(UnwindErr::Unreadable { address: first }));
-    }
-    if place == "backward" {
-        return Some(Err(UnwindErr::Backward { rsp: first }));
-    }
-    Some(Ok(Boundary {
-        place,
-        rip: first,
-        rsp: address(rt, words.next()?),
-        frame: address(rt, words.next()?),
-        read: columns.next()?,
-    }))
-}
-
-/// The answer that a row expects: the registers that aren't read are kept.
-fn expected(
-    rt: &impl Abort,
-    kept: &[u64; 9],
-    row: Result<Boundary<'_>, UnwindErr>,
-) -> Result<Caller, UnwindErr> {
-    let row = row?;
+/// The caller that a row expects: the registers that aren't read are kept.
+fn found_caller(rt: &impl Abort, kept: &[u64; 9], answer: &str, read: &str) -> Caller {
     let mut kept = *kept;
-    set(rt, &mut kept, row.read);
-    kept[0] = row.rsp;
-    Ok(Caller {
-        frame: row.frame,
-        context: Context { rip: row.rip, kept },
-        handler: if row.place == "handler" {
+    set(rt, &mut kept, read);
+    kept[0] = address(rt, word(answer, 2));
+    let place = word(answer, 0);
+    Caller {
+        frame: address(rt, word(answer, 3)),
+        context: Context {
+            rip: address(rt, word(answer, 1)),
+            kept,
+        },
+        handler: if place == "handler" {
             Some(HANDLER)
         } else {
             None
         },
-        in_body: row.place != "-",
-    })
+        in_body: place != "-",
+    }
+}
+
+/// The answer that a row expects.
+fn expected(rt: &impl Abort, kept: &[u64; 9], row: &str) -> Result<Caller, UnwindErr> {
+    let answer = column(row, 2);
+    match word(answer, 0) {
+        "unreadable" => Err(UnwindErr::Unreadable {
+            address: address(rt, word(answer, 1)),
+        }),
+        "backward" => Err(UnwindErr::Backward {
+            rsp: address(rt, word(answer, 1)),
+        }),
+        _ => Ok(found_caller(rt, kept, answer, column(row, 3))),
+    }
 }
 
 /// Stores at each of 64 places its own address.
@@ -240,62 +218,86 @@ fn put_addresses(space: &mut PageMap, start: u64) {
     }
 }
 
-/// Memory with the code, and the words of the stack.
-fn space(alloc: Global, code: &[u8]) -> Result<PageMap, AllocError> {
-    let mut space = PageMap::new(alloc, &REGIONS)?;
+/// Stores the code.
+fn put_code(space: &mut PageMap, code: &[u8]) {
     let mut at = CODE;
     for &byte in code {
         let _ = space.store(at, Width::W8, byte as u64);
         at = at.wrapping_add(1);
     }
+}
+
+/// Memory with the code, and the words of the stack.
+fn space(rt: &impl Abort, alloc: Global, function: &Function<'_>) -> PageMap {
+    let mut space = PageMap::new(alloc, &REGIONS).expect(rt, "memory");
+    put_code(&mut space, &function.code);
     put_addresses(&mut space, STACK);
     put_addresses(&mut space, STACK + 0x8_0000);
     put_addresses(&mut space, STACK + 0x8_0E00);
-    Ok(space)
+    put_words(rt, &mut space, function.words);
+    space
+}
+
+/// Compares the caller at an instruction with its row.
+fn is_found(
+    rt: &impl Abort,
+    tables: &Tables<'_, '_>,
+    space: &PageMap,
+    context: &Context,
+    row: &str,
+    name: &str,
+)
+    requires { TablesAreWhole tables.now }
+{
+    let found = caller(tables, space, context);
+    let wanted = expected(rt, &context.kept, row);
+    assert_eq!(rt; found, wanted, "{name}: {row}");
 }
 
 /// Compares the callers at the boundaries of a function.
-fn unwinds(rt: &impl Abort, alloc: Global, part: &str) -> Result<(), Fail> {
-    let function = function_of(rt, alloc, part)?;
-    let entries: &[u8] = if function.infos.is_empty() {
-        &[]
-    } else {
-        &ENTRY
+fn are_found(
+    rt: &impl Abort,
+    tables: &Tables<'_, '_>,
+    space: &PageMap,
+    function: &Function<'_>,
+    part: &str,
+)
+    requires { TablesAreWhole tables.now }
+{
+    let mut context = Context {
+        rip: CODE,
+        kept: function.kept,
     };
-    let bytes = table_image(alloc, &function.infos, entries)?;
-    let view = ImageView::read(alloc, &bytes)?;
-    let tables = Tables::read(&view)?;
-    let mut space = space(alloc, &function.code)?;
-    put_words(rt, &mut space, function.words);
-    let mut offset = 0u64;
     for line in part.lines() {
-        let Some((code, _)) = line.split_once(" | ") else {
-            continue;
-        };
-        let name = function.name;
-        match boundary_of(rt, line) {
-            None => panic!(rt; "no row in {name}: {line}"),
-            Some(row) => {
-                let context = Context {
-                    rip: CODE.wrapping_add(offset),
-                    kept: function.kept,
-                };
-                let found = caller(&tables, &space, &context);
-                let wanted = expected(rt, &function.kept, row);
-                assert_eq!(rt; found, wanted, "{name}: {line}");
-            }
-        }
-        for _word in code.split_ascii_whitespace() {
-            offset = offset.wrapping_add(1);
+        if let Some((code, _)) = line.split_once(" | ") {
+            is_found(rt, tables, space, &context, line, function.name);
+            let size = code.split_ascii_whitespace().count() as u64;
+            context.rip = context.rip.wrapping_add(size);
         }
     }
-    Ok(())
 }
 
-/// Compares the callers of the functions of a table.
-pub fn all_unwind(rt: &impl Abort, alloc: Global, table: &str) -> Result<(), Fail> {
-    for part in table.split("\n# ").skip(1) {
-        unwinds(rt, alloc, part)?;
+/// An image with the infos of a function, and its entry, or none for a leaf.
+fn image_of(rt: &impl Abort, alloc: Global, infos: &[u8]) -> Vec<u8> {
+    let entries: &[u8] = if infos.is_empty() { &[] } else { &ENTRY };
+    table_image(alloc, infos, entries).expect(rt, "memory")
+}
+
+/// The same of the function that a part of a table spells.
+fn unwinds(rt: &impl Abort, alloc: Global, part: &str) {
+    let function = function_of(rt, alloc, part);
+    let bytes = image_of(rt, alloc, &function.infos);
+    let view = ImageView::read(alloc, &bytes).expect(rt, "an image");
+    let tables = Tables::read(&view).expect(rt, "a table");
+    let space = space(rt, alloc, &function);
+    are_found(rt, &tables, &space, &function, part);
+}
+
+/// Compares the callers of the functions of tables.
+pub fn all_unwind(rt: &impl Abort, alloc: Global, tables: &[&str]) {
+    for table in tables {
+        for part in table.split("\n# ").skip(1) {
+            unwinds(rt, alloc, part);
+        }
     }
-    Ok(())
 }

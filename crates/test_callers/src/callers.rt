@@ -8,7 +8,6 @@
 //! row without one is in a body is ours to say.
 
 use crate::caller_rows::all_unwind;
-use std::test::Fail;
 
 /// The functions of the published tests. Where our answers differ: in an epilogue the establisher
 /// frame is RSP as it is, and Wine's is the frame register's; an entry without codes has epilogues
@@ -303,26 +302,10 @@ with rbp=50
 ";
 
 #[test]
-fn published_functions(rt: HostRuntime) -> Result<(), Fail> {
-    all_unwind(&rt, rt.alloc(), PUBLISHED)
-}
-
-#[test]
-fn allocations_and_saves(rt: HostRuntime) -> Result<(), Fail> {
-    all_unwind(&rt, rt.alloc(), ALLOCATIONS)
-}
-
-#[test]
-fn frame_registers(rt: HostRuntime) -> Result<(), Fail> {
-    all_unwind(&rt, rt.alloc(), FRAME_REGISTERS)
-}
-
-#[test]
-fn ends_of_epilogues(rt: HostRuntime) -> Result<(), Fail> {
-    all_unwind(&rt, rt.alloc(), ENDS)
-}
-
-#[test]
-fn chained_fragments(rt: HostRuntime) -> Result<(), Fail> {
-    all_unwind(&rt, rt.alloc(), CHAINED)
+fn boundaries_have_callers(rt: HostRuntime) {
+    all_unwind(
+        &rt,
+        rt.alloc(),
+        &[PUBLISHED, ALLOCATIONS, FRAME_REGISTERS, ENDS, CHAINED],
+    );
 }

@@ -3,7 +3,6 @@
 //! that a row's note names. The stack ends at 81000: the last word that can be read is at 80FF8.
 
 use crate::caller_rows::all_unwind;
-use std::test::Fail;
 
 /// Words that can't be read. The codes are undone from the last to the first, and the return
 /// address is popped after them; the first word that is missing is named by its place.
@@ -162,16 +161,6 @@ with rsp=FFFFFFFF00000048
 ";
 
 #[test]
-fn words_that_cannot_be_read(rt: HostRuntime) -> Result<(), Fail> {
-    all_unwind(&rt, rt.alloc(), UNREADABLE)
-}
-
-#[test]
-fn machine_frames_that_cannot_be_read(rt: HostRuntime) -> Result<(), Fail> {
-    all_unwind(&rt, rt.alloc(), MACHINE_FRAMES)
-}
-
-#[test]
-fn stack_pointers_that_do_not_rise(rt: HostRuntime) -> Result<(), Fail> {
-    all_unwind(&rt, rt.alloc(), BACKWARD)
+fn callers_are_not_found(rt: HostRuntime) {
+    all_unwind(&rt, rt.alloc(), &[UNREADABLE, MACHINE_FRAMES, BACKWARD]);
 }

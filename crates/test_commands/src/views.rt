@@ -75,6 +75,23 @@ fn ranges_begin_past_the_prologue(rt: HostRuntime) {
     assert!(rt; shown.contains("\n scope 0 00002038 "), "{shown}");
 }
 
+/// Whether just two lines of a view end with the push of RBX.
+fn pushes_twice(view: &str) -> bool {
+    let mut pushes = view.lines().filter(|line| line.ends_with("push rbx"));
+    pushes.next().is_some() && pushes.next().is_some() && pushes.next().is_none()
+}
+
+/// The first local of each function stands in RBX, which its prologue pushes.
+#[test]
+fn pushes_in_the_view(rt: HostRuntime) {
+    let text =
+        "int g(int a){ a = a * 3; RaiseException(0xE0000001,0,0,0); return a; } int main(void){ int x = 5; __try{ put(g(x)); } __except(1){ put(x); } return 0; }";
+    let view = view_of(&rt, rt.alloc(), text);
+    let shown = str::from_utf8(&view).unwrap_or("");
+    assert!(rt; pushes_twice(shown), "{shown}");
+    assert!(rt; shown.ends_with("\nentries 2\n"), "{shown}");
+}
+
 /// A leaf function has no entry in the function table: `main` alone has one.
 #[test]
 fn leaf_functions(rt: HostRuntime) {

@@ -127,6 +127,43 @@ fn writes_frame_registers(rt: HostRuntime) {
     );
 }
 
+/// The info of `push rbx; sub rsp, 64; mov [rsp + 40], r12`.
+#[tactic(auto, unfolding(pe_image::specs::Numbers::u16, pe_image::specs::Numbers::u32))]
+fn saved() -> UnwindInfo
+    ensures { CanBeWritten result }
+{
+    let mut codes = ArrayVec::new();
+    codes.push(UnwindCode {
+        offset: 10,
+        operation: UnwindOperation::Save {
+            register: 12,
+            offset: 40,
+        },
+    });
+    codes.push(UnwindCode {
+        offset: 5,
+        operation: UnwindOperation::Allocate { size: 64 },
+    });
+    codes.push(UnwindCode {
+        offset: 1,
+        operation: UnwindOperation::Push { register: 3 },
+    });
+    UnwindInfo {
+        prologue_size: 10,
+        frame_register: 0,
+        frame_offset: 0,
+        codes,
+        trailer: Trailer::Nothing,
+    }
+}
+
+#[test]
+fn writes_saved_registers(rt: HostRuntime) {
+    let bytes = written(&rt, rt.alloc(), &saved());
+    let wanted = "01 0A 04 00 0A C4 05 00 05 72 01 30";
+    are_bytes(&rt, rt.alloc(), &bytes, wanted);
+}
+
 const FRAME: UnwindCode = UnwindCode {
     offset: 40,
     operation: UnwindOperation::SetFrame,

@@ -1,5 +1,6 @@
 -- The linear code of an accepted text within the limits can be linked.
-use Rattle.std.proofs.Common.{ℕ, ◌*◌, ◌≡◌, ◌+◌, ◌<◌, ◌≤◌, List, [], ◌∷◌, length, map, Option, Some, None, refl, arith}
+use Rattle.std.specs.Prelude.{slice_get}
+use Rattle.std.proofs.Common.{ℕ, suc, ◌*◌, ◌≡◌, ◌+◌, ◌<◌, ◌≤◌, List, [], ◌∷◌, length, map, Option, Some, None, refl, arith}
 use Rattle.std.specs.List.{AllByRecursion}
 use Rattle.std.proofs.lemmas.Bool.{leb-true}
 use Rattle.text_bounds.specs.Words.{Program, Function, resolve, Local, Temporary, Instruction, LinearBody, LinearFunclet, LinearProgram, lowered_function, all_funclets, lowered, tables_room, function_bodies, funclet_bodies, IsSound, LinearFunction, FitsSlot, FitsInstruction, FitsBody, FitsFunction, FitsKind, FitsFunclet, text_room, program_tables_room, names_room, other_room, file_of, empty_file, AcceptedFits, TextsFit}
@@ -16,8 +17,10 @@ use Rattle.linear_code.specs.declared.program.FuncletKind.TheVariants as kinds
 use Rattle.seh_ir.specs.Slots.{slot_temporaries, instruction_temporaries, temporaries_in}
 use Rattle.seh_ir.proofs.EveryFunclet.{funclets_any}
 use Rattle.lowering_follows.proofs.SoundExpressions.{both_left, both_right}
+use Rattle.lowering_invariants.specs.Registers.{HasRegisters}
 use Rattle.lowering_invariants.specs.Slots as small
 use Rattle.lowering_invariants.specs.Slots.{IsAmong, IsField, IsPlain, IsSmallBody, HasFlag, IsSmallFunclet, IsSmallFunction}
+use Rattle.lowering_invariants.proofs.SparedRegisters.{lowered_has}
 use Rattle.text_bounds.proofs.StatementNesting.{accepted_is_small}
 use Rattle.x64_emit.specs.Near.{IsFieldNear}
 use Rattle.image_link.specs.Routines as links
@@ -97,17 +100,24 @@ body_fits b s c few =
     let l = s.locals in
     record { words = omega arith; code = code_fits b b.code s.code (omega arith); regions = few }
 
+-- what each has by its number, all have
+all_of : (P : LinearFunction → Type 0) (fs : List LinearFunction)
+    → ((k : ℕ) (f : LinearFunction) → slice_get fs k ≡ Some f → P f) → AllByRecursion P fs
+all_of P [] h = tt
+all_of P (f ∷ fs) h = (h 0 f refl, all_of P fs (λ k g e. h (suc k) g e))
+
 functions_fit : (fs : List LinearFunction) → AllByRecursion IsSmallFunction fs
-    → AllByRecursion FunctionIsCounted fs → tables_room (function_bodies fs) ≤ MOST_IMAGE
-    → AllByRecursion FitsFunction fs
-functions_fit [] s c few = tt
-functions_fit (f ∷ fs) s c few = (
+    → AllByRecursion FunctionIsCounted fs → AllByRecursion HasRegisters fs
+    → tables_room (function_bodies fs) ≤ MOST_IMAGE → AllByRecursion FitsFunction fs
+functions_fit [] s c r few = tt
+functions_fit (f ∷ fs) s c r few = (
   record {
     parameters = s.0.parameters;
+    registers = r.0.few;
     some = c.0.1;
     body = body_fits f.body s.0.body c.0.0 (omega arith);
   },
-  functions_fit fs s.1 c.1 (omega arith),
+  functions_fit fs s.1 c.1 r.1 (omega arith),
 )
 
 kind_fits : (b : LinearBody) (k : FuncletKind) → HasFlag b k → FitsKind b k
@@ -165,7 +175,7 @@ accepted_fits text xs within accepted few short named =
       globals = omega arith;
       main = s.main;
       functions = functions_fit p.functions s.functions (functions_counted program.functions)
-          (omega arith);
+          (all_of HasRegisters p.functions (lowered_has program)) (omega arith);
       funclets = funclets_fit p p.funclets s.funclets (funclets_counted 0 program.functions)
           (omega arith);
       names = named;

@@ -3,7 +3,7 @@ use Rattle.std.proofs.Common.{◌≡◌, refl, ℕ, zero, suc, ◌+◌, ◌-◌,
 use Rattle.std.specs.Prelude.{◌==◌, ◌%◌, not}
 use Rattle.std.proofs.lemmas.Bool.{ne_eqb}
 use Rattle.seh_num.specs.declared.width.Width.{Width}
-use Rattle.x64_emit.specs.Words.{W8, W16, W32, W64, Rax, Rcx, Rdx, Rsp, R8, R9, little, is_signed, has_rex, prefixes, mode, displacement, sib, at_register, place_bytes, modrm_bits, modrm, opcode_register, Slot, Local, Temporary, Instruction, Layout, size, sizes, local_at, temporary_at, fetched, fetch_local, keep_local, fetch_placed, keep_placed, place_of, Place, InRegister, InFrame, fetch, keep, operands_code, finish_code, compute_code, compare_zero, field_load, passing_code, arguments_code, call_code, clear_result, call_finally_code, local_unwind_code, template_size, slot_room, instruction_room}
+use Rattle.x64_emit.specs.Words.{W8, W16, W32, W64, Rax, Rcx, Rdx, Rsp, R8, R9, little, is_signed, has_rex, prefixes, mode, displacement, sib, at_register, place_bytes, modrm_bits, modrm, opcode_register, Slot, Local, Temporary, Instruction, Layout, size, sizes, local_at, temporary_at, fetched, fetch_local, keep_local, fetch_placed, keep_placed, place_of, parameter_register, Place, InRegister, InFrame, Arriving, fetch, fetch_if, has_first, has_second, keep, operands_code, finish_code, compute_code, compare_zero, field_load, passing_code, arguments_code, call_code, clear_result, call_finally_code, local_unwind_code, template_size, slot_room, instruction_room}
 use Rattle.seh_num.specs.Widths.{low}
 use Rattle.frame_rules.specs.Plan.{loads_then, opening_then, pops_then, epilogue}
 use Rattle.template_code.specs.Frames.{pushes_of, saves_of, saving_plan, plan_of_layout}
@@ -98,14 +98,21 @@ copied_size to from =
 fetch_placed_size : (y : Layout) (r : Reg) (i : ℕ) (p : Place) → sizes (fetch_placed y r i p) ≤ 16
 fetch_placed_size y r i (InRegister q) = let a = copied_size r q in omega arith
 fetch_placed_size y r i InFrame = fetch_local_size y.base r (local_at y i)
+fetch_placed_size y r i Arriving = let a = copied_size r (parameter_register i) in omega arith
 
 keep_placed_size : (y : Layout) (i : ℕ) (p : Place) → sizes (keep_placed y i p) ≤ 16
 keep_placed_size y i (InRegister q) = let a = copied_size q Rax in omega arith
 keep_placed_size y i InFrame = keep_local_size y.base (local_at y i)
+keep_placed_size y i Arriving = let a = copied_size (parameter_register i) Rax in omega arith
 
 pub fetch_size : (y : Layout) (r : Reg) (x : Slot) → sizes (fetch y r x) ≤ slot_room x
 fetch_size y r (Temporary i) = let a = fetched_size r Rsp (temporary_at y i) in omega arith
 fetch_size y r (Local i) = fetch_placed_size y r i (place_of y i)
+
+fetch_if_size : (read : Bool) (y : Layout) (r : Reg) (x : Slot)
+    → sizes (fetch_if read y r x) ≤ slot_room x
+fetch_if_size true y r x = fetch_size y r x
+fetch_if_size false y r x = omega arith
 
 pub keep_size : (y : Layout) (x : Slot) → sizes (keep y x) ≤ slot_room x
 keep_size y (Temporary i) = let a = kept_size Rax Rsp (temporary_at y i) in omega arith
@@ -188,15 +195,16 @@ compute_size : (y : Layout) (to : Slot) (o : Operation) (first second : Slot)
     → sizes (compute_code y to o first second)
     ≤ slot_room to + slot_room first + slot_room second + 11
 compute_size y to o first second =
-    let a = fetch_size y Rax first in
-    let b = fetch_size y Rcx second in
+    let a = fetch_if_size (has_first o) y Rax first in
+    let b = fetch_if_size (has_second o) y Rcx second in
     let c = operation_size o in
     let e = keep_size y to in
     omega (
       arith,
       sizes_append (operands_code y o first second) (finish_code y o to),
-      sizes_append (fetch y Rax first) (fetch y Rcx second ++ before o),
-      sizes_append (fetch y Rcx second) (before o),
+      sizes_append (fetch_if (has_first o) y Rax first)
+          (fetch_if (has_second o) y Rcx second ++ before o),
+      sizes_append (fetch_if (has_second o) y Rcx second) (before o),
       sizes_append (work o) (keep y to),
     )
 

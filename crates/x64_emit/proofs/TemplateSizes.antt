@@ -11,7 +11,7 @@ use Rattle.c_operations.specs.declared.operation.Operation.{Operation}
 use Rattle.linear_code.specs.declared.instruction.Instruction.TheVariants as instructions
 use Rattle.template_code.specs.Operations.{before, work}
 use Rattle.x64_emit.proofs.Rooms.{copied_size}
-use Rattle.x64_emit.specs.Words.{W64, Rax, Rcx, Rdx, R8, R9, little, opcode_register, modrm, size, sizes, spelled, Layout, Slot, Local, Temporary, local_at, temporary_at, fetch, keep, operands_code, finish_code, compute_code, arguments_code, compare_zero, clear_result, template_size, place_of, Place, InRegister, InFrame, fetch_placed, keep_placed, fetch_local, keep_local}
+use Rattle.x64_emit.specs.Words.{W64, Rax, Rcx, Rdx, R8, R9, little, opcode_register, modrm, size, sizes, spelled, Layout, Slot, Local, Temporary, local_at, temporary_at, fetch, fetch_if, has_first, has_second, keep, operands_code, finish_code, compute_code, arguments_code, compare_zero, clear_result, template_size, place_of, parameter_register, Place, InRegister, InFrame, Arriving, fetch_placed, keep_placed, fetch_local, keep_local}
 use Rattle.x64_emit.specs.StackWords.{stack_word}
 use Rattle.x64_emit.proofs.StackWords.{near_bytes, far_bytes}
 use Rattle.x64_emit.proofs.Lemmas.{sizes_append, jump_size, jump_if_zero_size, call_code_size}
@@ -74,17 +74,29 @@ pub register_kept : (y : Layout) (i : ℕ) (r : Reg) → place_of y i ≡ InRegi
 register_kept y i r e = ap (λ (p : Place). sizes (keep_placed y i p)) e
     ∙ (let c = copied_size r Rax in omega arith)
 
+-- and so is a parameter that stays in the register in which it arrives
+pub arriving_fetched : (y : Layout) (i : ℕ) → place_of y i ≡ Arriving → (to : Reg)
+    → sizes (fetch y to (Local i)) ≡ 3
+arriving_fetched y i e to = ap (λ (p : Place). sizes (fetch_placed y to i p)) e
+    ∙ (let c = copied_size to (parameter_register i) in omega arith)
+
+pub arriving_kept : (y : Layout) (i : ℕ) → place_of y i ≡ Arriving → sizes (keep y (Local i)) ≡ 3
+arriving_kept y i e = ap (λ (p : Place). sizes (keep_placed y i p)) e
+    ∙ (let c = copied_size (parameter_register i) Rax in omega arith)
+
 -- ---- operations
 
 pub computed : (y : Layout) (to : Slot) (o : Operation) (first second : Slot) (a b c d : ℕ)
-    → sizes (fetch y Rax first) ≡ a → sizes (fetch y Rcx second) ≡ b
+    → sizes (fetch_if (has_first o) y Rax first) ≡ a
+    → sizes (fetch_if (has_second o) y Rcx second) ≡ b
     → c ≡ sizes (before o ++ work o) → sizes (keep y to) ≡ d
     → a + b + c + d ≡ sizes (compute_code y to o first second)
 computed y to o first second a b c d e f g h = omega (
   arith,
   sizes_append (operands_code y o first second) (finish_code y o to),
-  sizes_append (fetch y Rax first) (fetch y Rcx second ++ before o),
-  sizes_append (fetch y Rcx second) (before o),
+  sizes_append (fetch_if (has_first o) y Rax first)
+      (fetch_if (has_second o) y Rcx second ++ before o),
+  sizes_append (fetch_if (has_second o) y Rcx second) (before o),
   sizes_append (work o) (keep y to),
   sizes_append (before o) (work o),
 )

@@ -14,7 +14,7 @@ ghost use Rattle.template_code.specs.Probing.{check_stack};
 ghost use Rattle.x64_emit.specs.declared.entry.TheConstants.{CHECK_STACK};
 
 use crate::calls::distance;
-use crate::put::{copy, load, put, store};
+use crate::put::{copy, load, parameter_register, put, store};
 use crate::slots::put_keep;
 use crate::stack_words::put_load;
 use linear_code::slot::Slot;
@@ -71,18 +71,6 @@ pub fn check_stack_is_spelled()
     ensures { CHECK_STACK ≡ spelled check_stack }
 {}
 
-/// The register of a parameter, one of the first four.
-fn parameter_register(index: u64) -> Reg
-    ensures { result ≡ spec.parameter_register index }
-{
-    match index {
-        0 => Reg::Rcx,
-        1 => Reg::Rdx,
-        2 => Reg::R8,
-        _ => Reg::R9,
-    }
-}
-
 /// Adds what brings a parameter to its local, which stands in the frame.
 fn put_framed_parameter(code: &mut Vec<u8>, layout: &Layout, index: u64) -> Result<(), AllocError>
     requires { AreParametersNear layout.now (index + 1) }
@@ -115,6 +103,7 @@ fn put_parameter(code: &mut Vec<u8>, layout: &Layout, index: u64) -> Result<(), 
             }
         }
         Place::InFrame => put_framed_parameter(code, layout, index),
+        Place::Arriving => Ok(()),
     }
 }
 

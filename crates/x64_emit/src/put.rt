@@ -3,6 +3,7 @@
 ghost use Rattle.std.specs.Prelude.{◌≡◌, [], ◌∷◌, OnOk};
 ghost use Rattle.x64_encode.specs.Chosen.{IsEncodable};
 ghost use Rattle.template_code.specs.Operations.{above, move};
+ghost use Rattle.template_code.specs.Places.{parameter_register};
 ghost use Rattle.x64_emit.specs.Appending.{Appended};
 ghost use Rattle.template_code.specs.Slots as slots;
 
@@ -44,6 +45,18 @@ pub fn put(code: &mut Vec<u8>, instr: &Instr) -> Result<(), AllocError>
         Instr::Call(Target::Relative(displacement)) => put_displaced(code, CALL, displacement),
         Instr::Jump(Target::Relative(displacement)) => put_displaced(code, JUMP, displacement),
         _ => put_chosen(code, instr),
+    }
+}
+
+/// The register of a parameter, one of the first four.
+pub fn parameter_register(index: u64) -> Reg
+    ensures { result ≡ parameter_register index }
+{
+    match index {
+        0 => Reg::Rcx,
+        1 => Reg::Rdx,
+        2 => Reg::R8,
+        _ => Reg::R9,
     }
 }
 

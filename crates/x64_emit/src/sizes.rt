@@ -16,6 +16,7 @@ use c_operations::operation::{Operation, Pure};
 use linear_code::instruction::Instruction;
 use linear_code::slot::Slot;
 use template_code::layout::{Layout, Place};
+use template_code::operands::{has_first, has_second};
 
 /// The bytes of a move of a number of 64 bits to RAX.
 const CONSTANT_SIZE: u32 = 10;
@@ -46,11 +47,26 @@ fn slot_size(layout: &Layout, slot: Slot) -> Option<u32>
         Slot::Temporary(i) => Some(word_size(layout.temporaries + 8 * i)),
         Slot::Local(i) => match layout.place(i) {
             Place::InRegister(_) => Some(COPY_SIZE),
+            Place::Arriving => Some(COPY_SIZE),
             Place::InFrame => match layout.base {
                 None => Some(word_size(layout.locals + 8 * i)),
                 Some(_) => None,
             },
         },
+    }
+}
+
+/// The bytes of what brings an operand to a register, where it is read and that is one move.
+fn operand_size(layout: &Layout, read: bool, slot: Slot) -> Option<u32>
+    requires { IsSlotNear layout.now slot }
+    ensures fetched { IfSome result
+        (λ n. (to : Reg) → sizes (spec.fetch_if read layout.now to slot) ≡ n) }
+    ensures small { IfSome result (λ n. n ≤ 8) }
+{
+    if read {
+        slot_size(layout, slot)
+    } else {
+        Some(0)
     }
 }
 
@@ -83,7 +99,8 @@ fn compute_size(
     ensures { IfSome result
         (λ n. n ≡ sizes (spec.compute_code layout.now to operation first second)) }
 {
-    let fetched = slot_size(layout, first)? + slot_size(layout, second)?;
+    let fetched = operand_size(layout, has_first(operation), first)?
+        + operand_size(layout, has_second(operation), second)?;
     let kept = slot_size(layout, to)?;
     Some(fetched + operation_size(operation)? + kept)
 }

@@ -8,13 +8,14 @@ ghost use Rattle.template_code.specs.Slots as spec;
 
 use crate::operation_bytes::operation_bytes;
 use crate::operations::{put_before, put_work};
-use crate::put::{copy, load, put, store};
+use crate::put::{copy, load, parameter_register, put, store};
 use crate::stack_words::{put_load, put_store};
 use c_operations::operation::Operation;
 use linear_code::slot::Slot;
 use seh_num::width::Width;
 use std::alloc::AllocError;
 use template_code::layout::{Layout, Place};
+use template_code::operands::{has_first, has_second};
 use x64_instr::register::Reg;
 
 /// Adds what brings a local that stands in the frame to a register.
@@ -49,7 +50,26 @@ pub fn put_fetch(code: &mut Vec<u8>, layout: &Layout, to: Reg, slot: Slot) -> Re
         Slot::Local(i) => match layout.place(i) {
             Place::InRegister(register) => put(code, &copy(Width::W64, to, register)),
             Place::InFrame => put_fetch_local(code, layout, to, i),
+            Place::Arriving => put(code, &copy(Width::W64, to, parameter_register(i))),
         },
+    }
+}
+
+/// Adds what brings an operand to a register, where it is read.
+fn put_operand(
+    code: &mut Vec<u8>,
+    layout: &Layout,
+    read: bool,
+    to: Reg,
+    slot: Slot,
+) -> Result<(), AllocError>
+    requires { IsSlotNear layout.now slot }
+    ensures { OnOk result (Appended code.old (spec.fetch_if read layout.now to slot) code.new) }
+{
+    if read {
+        put_fetch(code, layout, to, slot)
+    } else {
+        Ok(())
     }
 }
 
@@ -81,11 +101,12 @@ pub fn put_keep(code: &mut Vec<u8>, layout: &Layout, slot: Slot) -> Result<(), A
         Slot::Local(i) => match layout.place(i) {
             Place::InRegister(register) => put(code, &copy(Width::W64, register, Reg::Rax)),
             Place::InFrame => put_keep_local(code, layout, i),
+            Place::Arriving => put(code, &copy(Width::W64, parameter_register(i), Reg::Rax)),
         },
     }
 }
 
-/// Adds an operation: its operands are in RAX and RCX, and RAX takes the result.
+/// Adds an operation: the operands that it reads are in RAX and RCX, and RAX takes the result.
 fn put_operation(code: &mut Vec<u8>, operation: Operation) -> Result<(), AllocError>
     ensures { OnOk result (Appended code.old (before operation ++ work operation) code.new) }
 {
@@ -113,8 +134,8 @@ pub fn put_compute(
     ensures { OnOk result
         (Appended code.old (spec.compute_code layout.now to operation first second) code.new) }
 {
-    put_fetch(code, layout, Reg::Rax, first)?;
-    put_fetch(code, layout, Reg::Rcx, second)?;
+    put_operand(code, layout, has_first(operation), Reg::Rax, first)?;
+    put_operand(code, layout, has_second(operation), Reg::Rcx, second)?;
     put_operation(code, operation)?;
     put_keep(code, layout, to)
 }

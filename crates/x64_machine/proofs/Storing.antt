@@ -1,5 +1,5 @@
 -- A store, by the answer of the memory.
-use Rattle.std.proofs.Common.{◌≡◌, ℕ, true, Option, None, Some, Ok, Err, refl, sym, ap}
+use Rattle.std.proofs.Common.{◌≡◌, ℕ, true, Option, None, Some, Ok, Err, refl, sym}
 use Rattle.std.specs.Prelude.{Result}
 use Rattle.seh_num.specs.declared.width.Width.{Width}
 use Rattle.seh_num.specs.Answers.{◌>>=◌}

@@ -2,10 +2,10 @@
 use Rattle.std.proofs.Common.{◌≡◌, ◌≢◌, ℕ, ◌+◌, ◌%◌, ◌^◌, ◌<◌, ◌≤◌, Bool, true, false, cond, eqb, [], ◌∷◌, Option, Some, None, refl, sym, ap, ◌∙◌, arith, inl, inr}
 use Rattle.std.specs.Prelude.{◌⊎◌}
 use Rattle.std.proofs.lemmas.Bool.{cases_lt, cases_eq, eq-eqb, ne_eqb}
-use Rattle.x64_templates.specs.Words.{Protection, is_writable, Memory, may_write, number_at, with_number, with_bytes, Rcx, Rsp, Slot, Local, Temporary, BodyState, Counts, with_slot, IsSlot, Layout, MachineView, Executes, fetched, put_back, temporary_at, local_at, keep_local, keep, slot_at, InTemporaries, InLocals, HasBase, SlotsHaveRoom, MemoryKeepsBase, KeepsReserved, Agrees, HoldsBody, IsBytes, Changes, Reg, Rax, LocalRegisters, Place, InRegister, InFrame, place_of, is_of_local, with_local, number_placed, number_in, keep_placed, KeepsUnused}
+use Rattle.x64_templates.specs.Words.{Protection, is_writable, Memory, may_write, number_at, with_number, with_bytes, Rcx, Rsp, Slot, Local, Temporary, BodyState, Counts, with_slot, IsSlot, Layout, MachineView, Executes, fetched, put_back, temporary_at, local_at, keep_local, keep, slot_at, InTemporaries, InLocals, HasBase, SlotsHaveRoom, MemoryKeepsBase, KeepsReserved, Agrees, HoldsBody, IsBytes, Changes, Reg, Rax, LocalRegisters, Place, InRegister, InFrame, Arriving, IsKept, place_of, is_of_local, with_local, number_placed, number_in, keep_placed, KeepsUnused}
 use Rattle.x64_templates.proofs.Lemmas.{untouched, stored_is_loaded}
 use Rattle.x64_templates.proofs.PlacedCode.{same_number}
-use Rattle.template_code.proofs.Places.{places_apart}
+use Rattle.template_code.proofs.Places.{arriving_low, places_apart}
 use Rattle.x64_templates.proofs.Locals.{moved_to_local, local_set, local_beside, place_is_local, same_number_same, unused_same}
 use Rattle.x64_templates.proofs.Straight.{executes_then}
 use Rattle.x64_templates.proofs.Accesses.{digits}
@@ -31,11 +31,13 @@ may_write_same m m' a e = ap (λ (f : ℕ → Protection). is_writable (f a).rig
 abbrev pub locals_placed : LocalRegisters → ℕ → Place → LocalRegisters
 locals_placed l v (InRegister r) = with_local l r v
 locals_placed l v InFrame = l
+locals_placed l v Arriving = l
 
 abbrev pub memory_placed : Layout → (base : ℕ) → Memory → ℕ → ℕ → Place → Memory
 memory_placed y base m v i (InRegister r) = m
 memory_placed y base m v i InFrame =
     with_bytes m (with_number m.byte 8 (base + local_at y i) v)
+memory_placed y base m v i Arriving = m
 
 abbrev pub kept_locals : Layout → LocalRegisters → ℕ → Slot → LocalRegisters
 kept_locals y l v (Temporary i) = l
@@ -59,7 +61,7 @@ written_at y sp base m v x = with_bytes m (with_number m.byte 8 (slot_at y sp ba
 eighth : (v : ℕ) → v < 2 ^ 64 → v % 256 ^ 8 ≡ v
 eighth v lt = omega arith
 
-module _ (y : Layout) (n : Counts) (reserved : ℕ → Bool) (sp base : ℕ)
+module _ (y : Layout) (n : Counts) (reserved : ℕ → Bool) (sp base : ℕ) (arrived : ℕ → ℕ)
     (room : SlotsHaveRoom y n sp base) where
   Outside : ℕ → Slot → Type 0
   Outside a x = (a < slot_at y sp base x) ⊎ (slot_at y sp base x + 8 ≤ a)
@@ -67,7 +69,7 @@ module _ (y : Layout) (n : Counts) (reserved : ℕ → Bool) (sp base : ℕ)
   beside : (m : Memory) (x : Slot) (v a : ℕ) → IsSlot n x → Outside a x
       → with_number m.byte 8 (slot_at y sp base x) v a ≡ m.byte a
   unfolding Outside
-  beside m x v a is out = let high = slot_high y n reserved sp base room x is in
+  beside m x v a is out = let high = slot_high y n reserved sp base arrived room x is in
       untouched m.byte 8 (slot_at y sp base x) v a
       (λ i lt e. absurd (elim out [ inl l ↦ omega arith | inr r ↦ omega arith ])) (omega arith)
 
@@ -78,13 +80,13 @@ module _ (y : Layout) (n : Counts) (reserved : ℕ → Bool) (sp base : ℕ)
   off_slots a x is out = elim (cases_lt a (slot_at y sp base x)) [
     | inl lt ↦ inl lt
     | inr le ↦ elim (cases_lt a (slot_at y sp base x + 8)) [
-      | inl lt ↦ absurd (out (slot_bytes y n reserved sp base room x a is le lt))
+      | inl lt ↦ absurd (out (slot_bytes y n reserved sp base arrived room x a is le lt))
       | inr ge ↦ inr ge
     ]
   ]
 
   free_off : (l : LocalRegisters) (m : Memory) (b : BodyState) (a : ℕ)
-      → HoldsBody y n reserved sp base l m b
+      → HoldsBody y n reserved sp base arrived l m b
       → reserved a ≡ false → InTemporaries y n sp a ⊎ InLocals y n base a → ⊥
   free_off l m b a h r is = let x : true ≡ false = sym (h.own a is) ∙ r in absurd cc
 
@@ -98,7 +100,7 @@ module _ (y : Layout) (n : Counts) (reserved : ℕ → Bool) (sp base : ℕ)
 
   number_here : (m : Memory) (x : Slot) (v : ℕ) → IsSlot n x → v < 2 ^ 64
       → number_at (with_number m.byte 8 (slot_at y sp base x) v) 8 (slot_at y sp base x) ≡ v
-  number_here m x v is lt = let high = slot_high y n reserved sp base room x is in
+  number_here m x v is lt = let high = slot_high y n reserved sp base arrived room x is in
       stored_is_loaded m.byte 8 (slot_at y sp base x) v (omega arith) (omega arith) ∙ eighth v lt
 
   -- with another number in one slot, any slot of the other kind, or of another number, is as it was
@@ -116,66 +118,73 @@ module _ (y : Layout) (n : Counts) (reserved : ℕ → Bool) (sp base : ℕ)
 
   -- the number of a local, by its place
   placed_is : (l : LocalRegisters) (m : Memory) (b : BodyState) (j : ℕ) (p : Place)
-      → place_of y j ≡ p → HoldsBody y n reserved sp base l m b → j < n.locals
-      → number_placed y base l m j p ≡ b.slots (Local j)
-  placed_is l m b j p e h lt = sym (ap (number_placed y base l m j) e) ∙ h.slot (Local j) lt
+      → place_of y j ≡ p → HoldsBody y n reserved sp base arrived l m b → j < n.locals
+      → number_placed y base arrived l m j p ≡ b.slots (Local j)
+  placed_is l m b j p e h lt = sym (ap (number_placed y base arrived l m j) e) ∙ h.slot (Local j) lt
 
   -- a temporary was written
   temporary_after : (l : LocalRegisters) (m : Memory) (b : BodyState) (i v : ℕ) (z : Slot)
-      → HoldsBody y n reserved sp base l m b → i < n.temporaries → IsSlot n z → v < 2 ^ 64
-      → number_in y sp base l (kept_memory y sp base m v (Temporary i)) z
+      → HoldsBody y n reserved sp base arrived l m b → i < n.temporaries → IsSlot n z → v < 2 ^ 64
+      → number_in y sp base arrived l (kept_memory y sp base m v (Temporary i)) z
       ≡ with_slot b.slots (Temporary i) v z
   temporary_after l m b i v (Temporary j) h is iz lt = elim (cases_eq j i) [
     | inl e ↦ ap (λ (k : ℕ). number_at (with_number m.byte 8 (sp + temporary_at y i) v) 8
         (sp + temporary_at y k)) e ∙ number_here m (Temporary i) v is lt
         ∙ sym (ap (λ (c : Bool). cond c v (b.slots (Temporary j))) (eq-eqb j i e))
     | inr ne ↦ number_beside m (Temporary i) v (sp + temporary_at y j) is
-        (slot_high y n reserved sp base room (Temporary j) iz)
+        (slot_high y n reserved sp base arrived room (Temporary j) iz)
         (elim (cases_lt j i) [ inl l ↦ inl (omega arith) | inr g ↦ inr (omega arith) ])
         ∙ h.slot (Temporary j) iz ∙ temporary_else b i j v ne
   ]
   temporary_after l m b i v (Local j) h is iz lt = by (place_of y j) refl
     where
-      by : (p : Place) → place_of y j ≡ p → number_placed y base l
+      by : (p : Place) → place_of y j ≡ p → number_placed y base arrived l
           (kept_memory y sp base m v (Temporary i)) j p ≡ b.slots (Local j)
       by (InRegister r) e = placed_is l m b j (InRegister r) e h iz
+      by Arriving e = placed_is l m b j Arriving e h iz
       by InFrame e = number_beside m (Temporary i) v (base + local_at y j) is
-          (slot_high y n reserved sp base room (Local j) iz)
+          (slot_high y n reserved sp base arrived room (Local j) iz)
           (elim room.apart [ inl l ↦ inl (omega arith) | inr r ↦ inr (omega arith) ])
           ∙ placed_is l m b j InFrame e h iz
 
   -- a local in the frame was written
   framed_after : (l : LocalRegisters) (m : Memory) (b : BodyState) (i v : ℕ) (z : Slot)
-      → place_of y i ≡ InFrame → HoldsBody y n reserved sp base l m b → i < n.locals → IsSlot n z
-      → v < 2 ^ 64 → number_in y sp base l (memory_placed y base m v i InFrame) z
+      → place_of y i ≡ InFrame → HoldsBody y n reserved sp base arrived l m b → i < n.locals
+      → IsSlot n z
+      → v < 2 ^ 64 → number_in y sp base arrived l (memory_placed y base m v i InFrame) z
       ≡ with_slot b.slots (Local i) v z
   framed_after l m b i v (Temporary j) framed h is iz lt =
       number_beside m (Local i) v (sp + temporary_at y j) is
-      (slot_high y n reserved sp base room (Temporary j) iz)
+      (slot_high y n reserved sp base arrived room (Temporary j) iz)
       (elim room.apart [ inl l ↦ inr (omega arith) | inr r ↦ inl (omega arith) ])
       ∙ h.slot (Temporary j) iz
   framed_after l m b i v (Local j) framed h is iz lt = by (place_of y j) refl
     where
-      by : (p : Place) → place_of y j ≡ p → number_placed y base l
+      by : (p : Place) → place_of y j ≡ p → number_placed y base arrived l
           (memory_placed y base m v i InFrame) j p ≡ with_slot b.slots (Local i) v (Local j)
       by (InRegister r) e = placed_is l m b j (InRegister r) e h iz
           ∙ local_else b i j v (λ q. never r (sym framed ∙ ap (place_of y) (sym q) ∙ e))
         where
           never : (r : Reg) → InFrame ≡ InRegister r → ⊥
           never r e = absurd cc
+      by Arriving e = placed_is l m b j Arriving e h iz
+          ∙ local_else b i j v (λ q. never (sym framed ∙ ap (place_of y) (sym q) ∙ e))
+        where
+          never : InFrame ≡ Arriving → ⊥
+          never e = absurd cc
       by InFrame e = elim (cases_eq j i) [
         | inl q ↦ ap (λ (k : ℕ). number_at (with_number m.byte 8 (base + local_at y i) v) 8
             (base + local_at y k)) q ∙ number_here m (Local i) v is lt ∙ local_here b i j v q
         | inr ne ↦ number_beside m (Local i) v (base + local_at y j) is
-            (slot_high y n reserved sp base room (Local j) iz)
+            (slot_high y n reserved sp base arrived room (Local j) iz)
             (elim (cases_lt j i) [ inl l ↦ inl (omega arith) | inr g ↦ inr (omega arith) ])
             ∙ placed_is l m b j InFrame e h iz ∙ local_else b i j v ne
       ]
 
   -- a local in a register was written
   register_after : (l : LocalRegisters) (m : Memory) (b : BodyState) (i v : ℕ) (r : Reg) (z : Slot)
-      → place_of y i ≡ InRegister r → HoldsBody y n reserved sp base l m b → IsSlot n z
-      → number_in y sp base (with_local l r v) m z ≡ with_slot b.slots (Local i) v z
+      → place_of y i ≡ InRegister r → HoldsBody y n reserved sp base arrived l m b → IsSlot n z
+      → number_in y sp base arrived (with_local l r v) m z ≡ with_slot b.slots (Local i) v z
   register_after l m b i v r (Temporary j) placed h iz = h.slot (Temporary j) iz
   register_after l m b i v r (Local j) placed h iz = by (place_of y j) refl
     where
@@ -185,10 +194,13 @@ module _ (y : Layout) (n : Counts) (reserved : ℕ → Bool) (sp base : ℕ)
       never : (q : Reg) → InFrame ≡ InRegister q → ⊥
       never q e = absurd cc
 
-      by : (p : Place) → place_of y j ≡ p → number_placed y base (with_local l r v) m j p
+      arrives : (q : Reg) → Arriving ≡ InRegister q → ⊥
+      arrives q e = absurd cc
+
+      by : (p : Place) → place_of y j ≡ p → number_placed y base arrived (with_local l r v) m j p
           ≡ with_slot b.slots (Local i) v (Local j)
       by (InRegister q) e = elim (cases_eq j i) [
-        | inl k ↦ ap (number_placed y base (with_local l r v) m j)
+        | inl k ↦ ap (number_placed y base arrived (with_local l r v) m j)
             (sym e ∙ ap (place_of y) k ∙ placed) ∙ local_set l r v mine ∙ local_here b i j v k
         | inr ne ↦ local_beside l r q v mine (place_is_local y j q e)
             (λ k. ne (sym (places_apart y i j r q placed e k)))
@@ -196,9 +208,11 @@ module _ (y : Layout) (n : Counts) (reserved : ℕ → Bool) (sp base : ℕ)
       ]
       by InFrame e = placed_is l m b j InFrame e h iz
           ∙ local_else b i j v (λ k. never r (sym e ∙ ap (place_of y) k ∙ placed))
+      by Arriving e = placed_is l m b j Arriving e h iz
+          ∙ local_else b i j v (λ k. arrives r (sym e ∙ ap (place_of y) k ∙ placed))
 
   small_after : (b : BodyState) (x : Slot) (v : ℕ) (l : LocalRegisters) (m : Memory) (z : Slot)
-      → HoldsBody y n reserved sp base l m b → IsSlot n z → v < 2 ^ 64
+      → HoldsBody y n reserved sp base arrived l m b → IsSlot n z → v < 2 ^ 64
       → with_slot b.slots x v z < 2 ^ 64
   small_after b (Temporary i) v l m (Temporary j) h iz lt = elim (cases_eq j i) [
     | inl e ↦ let q : cond (eqb j i) v (b.slots (Temporary j))
@@ -234,10 +248,10 @@ module _ (y : Layout) (n : Counts) (reserved : ℕ → Bool) (sp base : ℕ)
 
   -- a write of one slot in memory
   holds_written : (l : LocalRegisters) (m : Memory) (b : BodyState) (x : Slot) (v : ℕ)
-      → HoldsBody y n reserved sp base l m b → IsSlot n x → v < 2 ^ 64
-      → ((z : Slot) → IsSlot n z → number_in y sp base l (written_at y sp base m v x) z
+      → HoldsBody y n reserved sp base arrived l m b → IsSlot n x → v < 2 ^ 64
+      → ((z : Slot) → IsSlot n z → number_in y sp base arrived l (written_at y sp base m v x) z
       ≡ with_slot b.slots x v z)
-      → HoldsBody y n reserved sp base l (written_at y sp base m v x)
+      → HoldsBody y n reserved sp base arrived l (written_at y sp base m v x)
       (record { slots = with_slot b.slots x v; memory = b.memory })
   holds_written l m b x v h is lt slots = record {
     slot = slots;
@@ -254,10 +268,13 @@ module _ (y : Layout) (n : Counts) (reserved : ℕ → Bool) (sp base : ℕ)
   }
 
   holds_placed : (l : LocalRegisters) (m : Memory) (b : BodyState) (i v : ℕ) (p : Place)
-      → place_of y i ≡ p → HoldsBody y n reserved sp base l m b → i < n.locals → v < 2 ^ 64
-      → HoldsBody y n reserved sp base (locals_placed l v p) (memory_placed y base m v i p)
+      → place_of y i ≡ p → y.arrivals ≤ i → HoldsBody y n reserved sp base arrived l m b
+      → i < n.locals → v < 2 ^ 64
+      → HoldsBody y n reserved sp base arrived (locals_placed l v p) (memory_placed y base m v i p)
       (record { slots = with_slot b.slots (Local i) v; memory = b.memory })
-  holds_placed l m b i v (InRegister r) e h is lt = record {
+  holds_placed l m b i v Arriving e late h is lt =
+      let low = arriving_low y i e in absurd (omega arith)
+  holds_placed l m b i v (InRegister r) e late h is lt = record {
     slot = λ z iz. register_after l m b i v r z e h iz;
     small = λ z iz. small_after b (Local i) v l m z h iz lt;
     kept_base = h.kept_base;
@@ -266,16 +283,17 @@ module _ (y : Layout) (n : Counts) (reserved : ℕ → Bool) (sp base : ℕ)
     own_base = h.own_base;
     source = h.source;
   }
-  holds_placed l m b i v InFrame e h is lt = holds_written l m b (Local i) v h is lt
+  holds_placed l m b i v InFrame e late h is lt = holds_written l m b (Local i) v h is lt
       (λ z iz. framed_after l m b i v z e h is iz lt)
 
   pub holds_after : (l : LocalRegisters) (m : Memory) (b : BodyState) (x : Slot) (v : ℕ)
-      → HoldsBody y n reserved sp base l m b → IsSlot n x → v < 2 ^ 64
-      → HoldsBody y n reserved sp base (kept_locals y l v x) (kept_memory y sp base m v x)
+      → HoldsBody y n reserved sp base arrived l m b → IsSlot n x → IsKept y x → v < 2 ^ 64
+      → HoldsBody y n reserved sp base arrived (kept_locals y l v x) (kept_memory y sp base m v x)
       (record { slots = with_slot b.slots x v; memory = b.memory })
-  holds_after l m b (Temporary i) v h is lt = holds_written l m b (Temporary i) v h is lt
+  holds_after l m b (Temporary i) v h is to lt = holds_written l m b (Temporary i) v h is lt
       (λ z iz. temporary_after l m b i v z h is iz lt)
-  holds_after l m b (Local i) v h is lt = holds_placed l m b i v (place_of y i) refl h is lt
+  holds_after l m b (Local i) v h is to lt =
+      holds_placed l m b i v (place_of y i) refl to h is lt
 
   changes_written : (m : Memory) (x : Slot) (v : ℕ) → IsSlot n x
       → Changes y n reserved sp base m (written_at y sp base m v x)
@@ -293,6 +311,11 @@ module _ (y : Layout) (n : Counts) (reserved : ℕ → Bool) (sp base : ℕ)
     bytes = λ small. small;
   }
   changes_placed m i v InFrame is = changes_written m (Local i) v is
+  changes_placed m i v Arriving is = record {
+    protection = refl;
+    byte = λ a own out. refl;
+    bytes = λ small. small;
+  }
 
   pub changes_slot : (m : Memory) (x : Slot) (v : ℕ) → IsSlot n x
       → Changes y n reserved sp base m (kept_memory y sp base m v x)
@@ -304,6 +327,7 @@ module _ (y : Layout) (n : Counts) (reserved : ℕ → Bool) (sp base : ℕ)
   unused_placed l i v (InRegister r) e = λ q is free. local_beside l r q v (place_is_local y i r e)
       is (λ k. free i (e ∙ ap InRegister (same_number_same r q k)))
   unused_placed l i v InFrame e = unused_same y l
+  unused_placed l i v Arriving e = unused_same y l
 
   pub unused_slot : (l : LocalRegisters) (x : Slot) (v : ℕ) → KeepsUnused y l (kept_locals y l v x)
   unused_slot l (Temporary i) v = unused_same y l
@@ -318,7 +342,7 @@ module _ (y : Layout) (n : Counts) (reserved : ℕ → Bool) (sp base : ℕ)
 
   local_kept : (o : Option ℕ) (i : ℕ) (v : MachineView) (b : BodyState) → i < n.locals
       → sp_of v ≡ sp → HasBase y o sp base → MemoryKeepsBase o sp base v.memory
-      → HoldsBody y n reserved sp base v.locals v.memory b → v.rax < 2 ^ 64
+      → HoldsBody y n reserved sp base arrived v.locals v.memory b → v.rax < 2 ^ 64
       → (rcx : ℕ) × Executes (keep_local o (local_at y i)) v
       (record v {
         rcx = rcx;
@@ -328,46 +352,53 @@ module _ (y : Layout) (n : Counts) (reserved : ℕ → Bool) (sp base : ℕ)
   local_kept None i v b lt at has keeps h small =
       let e : (sp_of v + 0 + local_at y i) % 2 ^ 64
       ≡ base + local_at y i = ap (λ (s : ℕ). (s + 0 + local_at y i) % 2 ^ 64) (at ∙ sym has)
-      ∙ base_address y n reserved sp base room i lt in (
+      ∙ base_address y n reserved sp base arrived room i lt in (
         v.rcx,
         to_sp v (local_at y i) (base + local_at y i) e
-            (may_write_slot y n reserved sp base room v.locals v.memory b (Local i) h lt) small,
+            (may_write_slot y n reserved sp base arrived room v.locals v.memory b (Local i) h lt)
+            small,
       )
   local_kept (Some k) i v b lt at has keeps h small = (
     base,
     executes_then (fetched Rcx Rsp k ∷ []) (put_back Rcx (local_at y i) ∷ []) v (put false v base)
         (written (put false v base) (base + local_at y i))
-        (fetch_base y n reserved sp base room false k v at has keeps)
+        (fetch_base y n reserved sp base arrived room false k v at has keeps)
         (to_rcx (put false v base) (local_at y i) (base + local_at y i)
-        (base_address y n reserved sp base room i lt)
-        (may_write_slot y n reserved sp base room v.locals v.memory b (Local i) h lt) small),
+        (base_address y n reserved sp base arrived room i lt)
+        (may_write_slot y n reserved sp base arrived room v.locals v.memory b (Local i) h lt)
+        small),
   )
 
-  placed_kept : (i : ℕ) (p : Place) → place_of y i ≡ p → (v : MachineView) (b : BodyState)
-      → i < n.locals → sp_of v ≡ sp → HoldsBody y n reserved sp base v.locals v.memory b
+  placed_kept : (i : ℕ) (p : Place) → place_of y i ≡ p → y.arrivals ≤ i → (v : MachineView)
+      (b : BodyState) → i < n.locals → sp_of v ≡ sp
+      → HoldsBody y n reserved sp base arrived v.locals v.memory b
       → v.rax < 2 ^ 64 → (rcx : ℕ) × Executes (keep_placed y i p) v (record v {
         rcx = rcx;
         locals = locals_placed v.locals v.rax p;
         memory = memory_placed y base v.memory v.rax i p;
       })
-  placed_kept i (InRegister r) e v b lt at h small =
+  placed_kept i Arriving e late v b lt at h small =
+      let low = arriving_low y i e in absurd (omega arith)
+  placed_kept i (InRegister r) e late v b lt at h small =
       (v.rcx, moved_to_local r Rax v v.rax (place_is_local y i r e) refl small)
-  placed_kept i InFrame e v b lt at h small = local_kept y.base i v b lt at room.kept_base
+  placed_kept i InFrame e late v b lt at h small = local_kept y.base i v b lt at room.kept_base
       h.kept_base h small
 
-  pub keep_does : (x : Slot) (v : MachineView) (b : BodyState) → IsSlot n x → sp_of v ≡ sp
-      → HoldsBody y n reserved sp base v.locals v.memory b → v.rax < 2 ^ 64 → KeptIn x v
-  keep_does (Temporary i) v b lt at h small =
+  pub keep_does : (x : Slot) (v : MachineView) (b : BodyState) → IsSlot n x → IsKept y x
+      → sp_of v ≡ sp
+      → HoldsBody y n reserved sp base arrived v.locals v.memory b → v.rax < 2 ^ 64 → KeptIn x v
+  keep_does (Temporary i) v b lt to at h small =
       let e : (sp_of v + 0 + temporary_at y i) % 2 ^ 64
       ≡ sp + temporary_at y i = ap (λ (s : ℕ). (s + 0 + temporary_at y i) % 2 ^ 64) at
-      ∙ sp_address y n reserved sp base room i lt in
+      ∙ sp_address y n reserved sp base arrived room i lt in
       record {
         rcx = v.rcx;
         does = to_sp v (temporary_at y i) (sp + temporary_at y i) e
-            (may_write_slot y n reserved sp base room v.locals v.memory b (Temporary i) h lt) small;
+            (may_write_slot y n reserved sp base arrived room v.locals v.memory b (Temporary i) h
+            lt) small;
       }
-  keep_does (Local i) v b lt at h small =
-      let k = placed_kept i (place_of y i) refl v b lt at h small in
+  keep_does (Local i) v b lt to at h small =
+      let k = placed_kept i (place_of y i) refl to v b lt at h small in
       record { rcx = k.0; does = k.1 }
 
   -- ---- memory that differs in bytes that aren't reserved
@@ -388,32 +419,33 @@ module _ (y : Layout) (n : Counts) (reserved : ℕ → Bool) (sp base : ℕ)
   pub slot_by_words : (l : LocalRegisters) (m m' : Memory) (b : BodyState)
       → ((x : Slot) → IsSlot n x → number_at m'.byte 8 (slot_at y sp base x)
       ≡ number_at m.byte 8 (slot_at y sp base x))
-      → HoldsBody y n reserved sp base l m b → (z : Slot) → IsSlot n z
-      → number_in y sp base l m' z ≡ b.slots z
+      → HoldsBody y n reserved sp base arrived l m b → (z : Slot) → IsSlot n z
+      → number_in y sp base arrived l m' z ≡ b.slots z
   slot_by_words l m m' b word h z iz = by z iz
     where
       placed : (j : ℕ) (p : Place) → place_of y j ≡ p → j < n.locals
-          → number_placed y base l m' j p ≡ b.slots (Local j)
+          → number_placed y base arrived l m' j p ≡ b.slots (Local j)
       placed j (InRegister r) e lt = placed_is l m b j (InRegister r) e h lt
+      placed j Arriving e lt = placed_is l m b j Arriving e h lt
       placed j InFrame e lt = word (Local j) lt ∙ placed_is l m b j InFrame e h lt
 
-      by : (x : Slot) → IsSlot n x → number_in y sp base l m' x ≡ b.slots x
+      by : (x : Slot) → IsSlot n x → number_in y sp base arrived l m' x ≡ b.slots x
       by (Temporary j) lt = word (Temporary j) lt ∙ h.slot (Temporary j) lt
       by (Local j) lt = placed j (place_of y j) refl lt
 
   slot_same : (l : LocalRegisters) (m m' : Memory) (b : BodyState)
       → ((a : ℕ) → reserved a ≡ true → m'.byte a ≡ m.byte a)
-      → HoldsBody y n reserved sp base l m b → (z : Slot) → IsSlot n z
-      → number_in y sp base l m' z ≡ b.slots z
+      → HoldsBody y n reserved sp base arrived l m b → (z : Slot) → IsSlot n z
+      → number_in y sp base arrived l m' z ≡ b.slots z
   slot_same l m m' b same h = slot_by_words l m m' b (λ x ix.
       same_number m'.byte m.byte 8 (slot_at y sp base x)
-      (slot_high y n reserved sp base room x ix)
-      (λ a p q. same a (h.own a (slot_bytes y n reserved sp base room x a ix p q)))) h
+      (slot_high y n reserved sp base arrived room x ix)
+      (λ a p q. same a (h.own a (slot_bytes y n reserved sp base arrived room x a ix p q)))) h
 
   pub holds_same : (l : LocalRegisters) (m m' source : Memory) (b : BodyState)
       → ((a : ℕ) → reserved a ≡ true → m'.byte a ≡ m.byte a) → m'.protection ≡ m.protection
-      → Agrees reserved m' source → HoldsBody y n reserved sp base l m b
-      → HoldsBody y n reserved sp base l m' (record { slots = b.slots; memory = source })
+      → Agrees reserved m' source → HoldsBody y n reserved sp base arrived l m b
+      → HoldsBody y n reserved sp base arrived l m' (record { slots = b.slots; memory = source })
   holds_same l m m' source b same protection agrees h = record {
     slot = slot_same l m m' b same h;
     small = h.small;

@@ -51,9 +51,9 @@ arguments_do p first v b room le at h =
     let a3 = b.slots (Temporary (first + 3)) in
     let place = λ (i : ℕ) (lt : i < p.counts.temporaries) (sp : ℕ) (is : sp ≡ p.sp). ap
     (λ (s : ℕ). (s + 0 + temporary_at y i) % 2 ^ 64) is
-    ∙ sp_address y p.counts p.reserved p.sp p.base room i lt in
+    ∙ sp_address y p.counts p.reserved p.sp p.base p.arrived room i lt in
     let may = λ (i : ℕ) (lt : i < p.counts.temporaries). may_read_slot y p.counts p.reserved p.sp
-    p.base room v.locals v.memory b (Temporary i) h lt in
+    p.base p.arrived room v.locals v.memory b (Temporary i) h lt in
     let l0 : first < p.counts.temporaries = omega arith in
     let l1 : first + 1 < p.counts.temporaries = omega arith in
     let l2 : first + 2 < p.counts.temporaries = omega arith in

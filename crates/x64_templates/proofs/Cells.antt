@@ -1,10 +1,12 @@
 -- Slots are brought to registers, and RAX is put into a slot.
 use Rattle.std.proofs.Common.{◌≡◌, ℕ, ◌+◌, ◌%◌, ◌^◌, ◌<◌, ◌≤◌, Bool, true, false, [], ◌∷◌, Option, Some, None, Ok, refl, sym, ap, ◌∙◌, arith, inl, inr}
-use Rattle.std.specs.Prelude.{◌⊎◌}
-use Rattle.x64_templates.specs.Words.{move, LocalRegisters, is_of_local, local_in, Place, InRegister, InFrame, place_of, number_placed, fetch_placed, W64, low, Memory, first_refused, may_read, may_write, number_at, with_number, with_bytes, Reg, Rax, Rcx, Rsp, Flags, ◌>>=◌, Answer, load, store, Slot, Local, Temporary, BodyState, Counts, IsSlot, Layout, MachineView, machine, Executes, fetched, put_back, temporary_at, local_at, fetch_local, fetch, slot_at, InTemporaries, InLocals, HasBase, SlotsHaveRoom, MemoryKeepsBase, HoldsBody}
+use Rattle.std.specs.Prelude.{◌⊎◌, slice_index}
+use Rattle.x64_templates.specs.Words.{move, LocalRegisters, local_in, registers_of, HasArrived, parameter_register, Place, InRegister, InFrame, Arriving, place_of, number_placed, fetch_placed, W64, low, Memory, first_refused, may_read, may_write, number_at, with_number, with_bytes, Reg, Rax, Rcx, Rsp, Flags, ◌>>=◌, Answer, load, store, Slot, Local, Temporary, BodyState, Counts, IsSlot, Layout, MachineView, machine, Executes, fetched, put_back, temporary_at, local_at, fetch_local, fetch, slot_at, InTemporaries, InLocals, HasBase, SlotsHaveRoom, MemoryKeepsBase, HoldsBody}
 use Rattle.x64_templates.proofs.Lemmas.{writable_is_readable}
 use Rattle.x64_templates.proofs.PlacedCode.{all_may, store_at, load_at}
-use Rattle.x64_templates.proofs.Locals.{locals_are_fetched, place_is_local}
+use Rattle.x64_instr.specs.Registers.{number}
+use Rattle.template_code.proofs.Places.{arriving_low}
+use Rattle.x64_templates.proofs.Locals.{register_fetched, local_held, place_is_local}
 use Rattle.x64_templates.proofs.Straight.{executes_one, executes_then}
 
 -- RAX or RCX
@@ -15,6 +17,11 @@ reg false = Rcx
 abbrev pub put : Bool → MachineView → ℕ → MachineView
 put true v x = record v { rax = x }
 put false v x = record v { rcx = x }
+
+-- what stands in it
+abbrev pub got : Bool → MachineView → ℕ
+got true v = v.rax
+got false v = v.rcx
 
 -- RSP
 abbrev pub sp_of : MachineView → ℕ
@@ -47,18 +54,13 @@ from_sp false v d at x e may is lt = executes_one (fetched Rcx Rsp d) v (put fal
 ))
 
 -- a local in a register
-local_moved : (r : Bool) (q : Reg) (v : MachineView) (x : ℕ) → is_of_local q ≡ true
-    → local_in v.locals q ≡ x → x < 2 ^ 64 → Executes (move W64 (reg r) q ∷ []) v (put r v x)
-local_moved true q v x l is lt = executes_one (move W64 Rax q) v (put true v x) (λ rip f. (
-  f,
-  (locals_are_fetched q v rip f l (let e = is in omega arith)).0
-      ∙ ap (λ (y : ℕ). Ok (machine (put true v y) rip f)) is,
-))
-local_moved false q v x l is lt = executes_one (move W64 Rcx q) v (put false v x) (λ rip f. (
-  f,
-  (locals_are_fetched q v rip f l (let e = is in omega arith)).1
-      ∙ ap (λ (y : ℕ). Ok (machine (put false v y) rip f)) is,
-))
+local_moved : (r : Bool) (q : Reg) (v : MachineView) (x : ℕ)
+    → slice_index (registers_of v) (number q) ≡ x → x < 2 ^ 64
+    → Executes (move W64 (reg r) q ∷ []) v (put r v x)
+local_moved true q v x is lt = executes_one (move W64 Rax q) v (put true v x)
+    (λ rip f. (f, (register_fetched q v rip f x is lt).0))
+local_moved false q v x is lt = executes_one (move W64 Rcx q) v (put false v x)
+    (λ rip f. (f, (register_fetched q v rip f x is lt).1))
 
 -- a load from a place above the base in the same register
 from_base : (r : Bool) (v : MachineView) (base d at x : ℕ) → (base + 0 + d) % 2 ^ 64 ≡ at
@@ -115,7 +117,7 @@ to_rcx v d at e may lt = executes_one (put_back Rcx d) v (written v at)
 
 -- ---- the slots of a frame
 
-module _ (y : Layout) (n : Counts) (reserved : ℕ → Bool) (sp base : ℕ)
+module _ (y : Layout) (n : Counts) (reserved : ℕ → Bool) (sp base : ℕ) (arrived : ℕ → ℕ)
     (room : SlotsHaveRoom y n sp base) where
   pub slot_high : (x : Slot) → IsSlot n x → slot_at y sp base x + 8 < 2 ^ 64
   slot_high (Temporary i) lt = let a = room.temporaries in let h = room.high in omega arith
@@ -127,13 +129,13 @@ module _ (y : Layout) (n : Counts) (reserved : ℕ → Bool) (sp base : ℕ)
   slot_bytes (Local i) a lt p q = inr (omega arith, omega arith)
 
   pub may_write_slot : (locals : LocalRegisters) (m : Memory) (b : BodyState) (x : Slot)
-      → HoldsBody y n reserved sp base locals m b
+      → HoldsBody y n reserved sp base arrived locals m b
       → IsSlot n x → first_refused (may_write m) 8 (slot_at y sp base x) ≡ None
   may_write_slot locals m b x h is = all_may (may_write m) 8 (slot_at y sp base x) (slot_high x is)
       (λ a p q. h.writable a (slot_bytes x a is p q))
 
   pub may_read_slot : (locals : LocalRegisters) (m : Memory) (b : BodyState) (x : Slot)
-      → HoldsBody y n reserved sp base locals m b
+      → HoldsBody y n reserved sp base arrived locals m b
       → IsSlot n x → first_refused (may_read m) 8 (slot_at y sp base x) ≡ None
   may_read_slot locals m b x h is = writable_is_readable m 8 (slot_at y sp base x)
       (may_write_slot locals m b x h is)
@@ -162,7 +164,7 @@ module _ (y : Layout) (n : Counts) (reserved : ℕ → Bool) (sp base : ℕ)
 
   local_fetched : (r : Bool) (o : Option ℕ) (i : ℕ) (v : MachineView) (b : BodyState) → i < n.locals
       → sp_of v ≡ sp → HasBase y o sp base → MemoryKeepsBase o sp base v.memory
-      → HoldsBody y n reserved sp base v.locals v.memory b
+      → HoldsBody y n reserved sp base arrived v.locals v.memory b
       → number_at v.memory.byte 8 (base + local_at y i) ≡ b.slots (Local i)
       → Executes (fetch_local o (reg r) (local_at y i)) v (put r v (b.slots (Local i)))
   local_fetched r None i v b lt at has keeps h is =
@@ -180,25 +182,33 @@ module _ (y : Layout) (n : Counts) (reserved : ℕ → Bool) (sp base : ℕ)
       (h.small (Local i) lt))
 
   placed_fetched : (r : Bool) (i : ℕ) (p : Place) → place_of y i ≡ p → (v : MachineView)
-      (b : BodyState) → i < n.locals → sp_of v ≡ sp
-      → HoldsBody y n reserved sp base v.locals v.memory b
+      (b : BodyState) → i < n.locals → HasArrived y arrived v → sp_of v ≡ sp
+      → HoldsBody y n reserved sp base arrived v.locals v.memory b
       → Executes (fetch_placed y (reg r) i p) v (put r v (b.slots (Local i)))
-  placed_fetched r i (InRegister q) e v b lt at h =
+  placed_fetched r i (InRegister q) e v b lt here at h =
       let is : local_in v.locals q
-      ≡ b.slots (Local i) = sym (ap (number_placed y base v.locals v.memory i) e)
+      ≡ b.slots (Local i) = sym (ap (number_placed y base arrived v.locals v.memory i) e)
       ∙ h.slot (Local i) lt in
-      local_moved r q v (b.slots (Local i)) (place_is_local y i q e) is (h.small (Local i) lt)
-  placed_fetched r i InFrame e v b lt at h = local_fetched r y.base i v b lt at room.kept_base
-      h.kept_base h (sym (ap (number_placed y base v.locals v.memory i) e) ∙ h.slot (Local i) lt)
+      local_moved r q v (b.slots (Local i)) (local_held v q (place_is_local y i q e) ∙ is)
+      (h.small (Local i) lt)
+  placed_fetched r i InFrame e v b lt here at h = local_fetched r y.base i v b lt at room.kept_base
+      h.kept_base h
+      (sym (ap (number_placed y base arrived v.locals v.memory i) e) ∙ h.slot (Local i) lt)
+  placed_fetched r i Arriving e v b lt here at h =
+      local_moved r (parameter_register i) v (b.slots (Local i)) (here i (arriving_low y i e)
+      ∙ sym (ap (number_placed y base arrived v.locals v.memory i) e) ∙ h.slot (Local i) lt)
+      (h.small (Local i) lt)
 
   pub fetch_does : (r : Bool) (x : Slot) (v : MachineView) (b : BodyState) → IsSlot n x
-      → sp_of v ≡ sp → HoldsBody y n reserved sp base v.locals v.memory b
+      → HasArrived y arrived v → sp_of v ≡ sp
+      → HoldsBody y n reserved sp base arrived v.locals v.memory b
       → Executes (fetch y (reg r) x) v (put r v (b.slots x))
-  fetch_does r (Temporary i) v b lt at h =
+  fetch_does r (Temporary i) v b lt here at h =
       let e : (sp_of v + 0 + temporary_at y i) % 2 ^ 64
       ≡ sp + temporary_at y i = ap (λ (s : ℕ). (s + 0 + temporary_at y i) % 2 ^ 64) at
       ∙ sp_address i lt in
       from_sp r v (temporary_at y i) (sp + temporary_at y i) (b.slots (Temporary i)) e
       (may_read_slot v.locals v.memory b (Temporary i) h lt) (h.slot (Temporary i) lt)
       (h.small (Temporary i) lt)
-  fetch_does r (Local i) v b lt at h = placed_fetched r i (place_of y i) refl v b lt at h
+  fetch_does r (Local i) v b lt here at h =
+      placed_fetched r i (place_of y i) refl v b lt here at h

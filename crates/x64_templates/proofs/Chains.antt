@@ -68,7 +68,7 @@ stepped i rest s u spelling keep code e =
     let k = keeps i (with_rip s (s.cpu.rip + size i)) u keep (sym d.does ∙ e) in
     record { read = d.read; rip = k.rip; registers = k.registers; memory = k.memory }
 
-next_code : (i : Instr) (rest : List Instr) (s u : State) → Runs s u
+pub next_code : (i : Instr) (rest : List Instr) (s u : State) → Runs s u
     → u.cpu.rip ≡ s.cpu.rip + size i → HasCode s.memory s.cpu.rip (i ∷ rest)
     → HasCode u.memory u.cpu.rip rest
 next_code i rest s u r e code = subst (λ a. HasCode u.memory a rest) (sym e)

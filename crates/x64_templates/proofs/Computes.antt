@@ -1,7 +1,8 @@
 -- The code of an operation does what the operation means.
 use Rattle.std.proofs.Common.{◌≡◌, ℕ, ◌+◌, ◌%◌, ◌^◌, ◌<◌, ◌≤◌, Bool, true, false, List, [], ◌∷◌, ◌++◌, length, Option, Some, Err, refl, sym, ap, subst, ◌∙◌, arith, length-append}
+use Rattle.std.specs.Prelude.{if◌then◌else◌}
 use Rattle.std.proofs.lemmas.Grind.{flat_map-append}
-use Rattle.x64_templates.specs.Words.{Code, Memory, executable, Rax, Rcx, Instr, IsEncoding, leading, chosen, Flags, State, with_rip, effect, IsCodeAt, IsPlaced, spelled, Slot, Operation, BodyState, with_slot, OperationResult, Gives, Raises, Undefined, performed, step, kept, LocalRegisters, OtherRegisters, MachineView, machine, Executes, size, sizes, before, work, fetch, keep, operands_code, finish_code, compute_code, IsBytes, IsReady, HasOperands, LeavesResult, Implements, Reaches, HasCode, FramePlace, Roomy, FrameHolds, IsThere, ReachesBody, Finished, Computed, HeadFaults, KeepsUnused}
+use Rattle.x64_templates.specs.Words.{Code, Memory, executable, Rax, Rcx, Instr, IsEncoding, leading, chosen, Flags, State, with_rip, effect, IsCodeAt, IsPlaced, spelled, Slot, Operation, BodyState, with_slot, OperationResult, Gives, Raises, Undefined, performed, step, kept, LocalRegisters, OtherRegisters, MachineView, machine, Executes, size, sizes, before, work, fetch_if, has_first, has_second, keep, operands_code, finish_code, compute_code, IsBytes, IsReady, HasOperands, LeavesResult, Implements, Reaches, HasCode, FramePlace, Roomy, FrameHolds, AreArrived, IsKept, IsThere, ReachesBody, Finished, Computed, HeadFaults, KeepsUnused}
 use Rattle.x64_templates.proofs.Lemmas.{longest, sizes_spelled, sizes_append}
 use Rattle.x64_machine.specs.declared.outcome.Stop.TheVariants as stops
 use Rattle.x64_machine.specs.Effect as machines
@@ -10,8 +11,10 @@ use Rattle.c_operations.specs.declared.operation.Operation.TheVariants as operat
 use Rattle.linear_code.specs.declared.instruction.Instruction.TheVariants as instructions
 use Rattle.x64_templates.proofs.Straight.{straight_runs, executes_nothing, executes_then}
 use Rattle.x64_templates.proofs.Divisions.{half_set}
+use Rattle.x64_templates.proofs.Locals.{arriving_beside}
 use Rattle.x64_templates.proofs.Implements.{works}
-use Rattle.x64_templates.proofs.Cells.{put, sp_of, fetch_does}
+use Rattle.x64_templates.proofs.Operands.{performed_same}
+use Rattle.x64_templates.proofs.Cells.{reg, put, got, sp_of, fetch_does}
 use Rattle.x64_templates.proofs.Bodies.{kept_in, unused_slot, changes_then, keep_does, holds_after, changes_slot, holds_same, changes_same}
 use Rattle.x64_templates.proofs.Encoded.{Fine, fine_both, encodable_of, straight_of, none_taking, keep_fine, work_fine, operands_fine, finish_fine}
 
@@ -88,8 +91,9 @@ runs_view is v w rip f fine code d =
     r.1 in
     record { left = r.0; comes = went.ran.comes }
 
--- ---- both operands are brought to their registers
+-- ---- operands are brought to their registers
 
+-- with what was there, where an operand isn't read
 abbrev waiting : MachineView → ℕ → ℕ → ℕ → MachineView
 waiting v a b d = record v { rax = a; rcx = b; rdx = d }
 
@@ -119,6 +123,23 @@ prepared (operations.Store w) v a b = record {
   ready = tt;
 }
 
+-- an operand that is read, else what stands in the register
+abbrev taken : Bool → (operand there : ℕ) → ℕ
+taken read operand there = if read then operand else there
+
+taken_read : (read : Bool) (operand there : ℕ) → read ≡ true → taken read operand there ≡ operand
+taken_read true operand there e = refl
+taken_read false operand there e = absurd cc
+
+fetch_if_does : (p : FramePlace) (read r : Bool) (x : Slot) (v : MachineView) (b : BodyState)
+    → Roomy p → IsThere p x → AreArrived p v → sp_of v ≡ p.sp → FrameHolds p v.locals v.memory b
+    → Executes (fetch_if read p.layout (reg r) x) v
+    (put r v (taken read (b.slots x) (got r v)))
+fetch_if_does p true r x v b room is here at h =
+    fetch_does p.layout p.counts p.reserved p.sp p.base p.arrived room r x v b is here at h
+fetch_if_does p false true x v b room is here at h = executes_nothing v
+fetch_if_does p false false x v b room is here at h = executes_nothing v
+
 record Fetched (p : FramePlace) (o : Operation) (first second : Slot) (v : MachineView)
     (a b : ℕ) : Type 0 where
   rdx : ℕ
@@ -126,21 +147,25 @@ record Fetched (p : FramePlace) (o : Operation) (first second : Slot) (v : Machi
   ready : IsReady o (waiting v a b rdx)
 
 operands_do : (p : FramePlace) (o : Operation) (first second : Slot) (v : MachineView)
-    (b : BodyState) → Roomy p → IsThere p first → IsThere p second → sp_of v ≡ p.sp
-    → FrameHolds p v.locals v.memory b → Fetched p o first second v (b.slots first) (b.slots second)
-operands_do p o first second v b room f s at h =
+    (b : BodyState) → Roomy p → IsThere p first → IsThere p second → AreArrived p v
+    → sp_of v ≡ p.sp → FrameHolds p v.locals v.memory b → Fetched p o first second v
+    (taken (has_first o) (b.slots first) v.rax) (taken (has_second o) (b.slots second) v.rcx)
+operands_do p o first second v b room f s here at h =
     let y = p.layout in
-    let v1 = put true v (b.slots first) in
-    let v2 = put false v1 (b.slots second) in
-    let q = prepared o v (b.slots first) (b.slots second) in
+    let x = taken (has_first o) (b.slots first) v.rax in
+    let z = taken (has_second o) (b.slots second) v.rcx in
+    let v1 = put true v x in
+    let v2 = put false v1 z in
+    let q = prepared o v x z in
+    let one = fetch_if (has_first o) y Rax first in
+    let two = fetch_if (has_second o) y Rcx second in
     record {
       rdx = q.rdx;
-      does = executes_then (fetch y Rax first) (fetch y Rcx second ++ before o) v v1
-          (waiting v (b.slots first) (b.slots second) q.rdx)
-          (fetch_does y p.counts p.reserved p.sp p.base room true first v b f at h)
-          (executes_then (fetch y Rcx second) (before o) v1 v2
-          (waiting v (b.slots first) (b.slots second) q.rdx)
-          (fetch_does y p.counts p.reserved p.sp p.base room false second v1 b s at h)
+      does = executes_then one (two ++ before o) v v1 (waiting v x z q.rdx)
+          (fetch_if_does p (has_first o) true first v b room f here at h)
+          (executes_then two (before o) v1 v2 (waiting v x z q.rdx)
+          (fetch_if_does p (has_second o) false second v1 b room s
+          (λ i lt. arriving_beside v x i ∙ here i lt) at h)
           q.does);
       ready = q.ready;
     }
@@ -159,19 +184,25 @@ pub record Begun (p : FramePlace) (o : Operation) (first second : Slot) (v : Mac
 
 pub operands_run : (p : FramePlace) (o : Operation) (first second : Slot) (v : MachineView)
     (rip : ℕ) (f : Flags) (b : BodyState) → Roomy p → IsThere p first → IsThere p second
-    → sp_of v ≡ p.sp → FrameHolds p v.locals v.memory b
+    → AreArrived p v → sp_of v ≡ p.sp → FrameHolds p v.locals v.memory b
     → HasCode v.memory rip (operands_code p.layout o first second)
     → Begun p o first second v rip f b
-operands_run p o first second v rip f b room i j at h code =
-    let d = operands_do p o first second v b room i j at h in
-    let w = waiting v (b.slots first) (b.slots second) d.rdx in
+operands_run p o first second v rip f b room i j here at h code =
+    let d = operands_do p o first second v b room i j here at h in
+    let x = taken (has_first o) (b.slots first) v.rax in
+    let z = taken (has_second o) (b.slots second) v.rcx in
+    let w = waiting v x z d.rdx in
     let r = runs_view (operands_code p.layout o first second) v w rip f
     (operands_fine p.layout p.counts p.sp p.base o first second room i j) code d.does in
     record {
       stopped = w;
       left = r.left;
       comes = r.comes;
-      waits = record { first = refl; second = refl; ready = d.ready };
+      waits = record {
+        first = taken_read (has_first o) (b.slots first) v.rax;
+        second = taken_read (has_second o) (b.slots second) v.rcx;
+        ready = d.ready;
+      };
       rest = refl;
       locals = refl;
       memory = refl;
@@ -182,13 +213,13 @@ operands_run p o first second v rip f b room i j at h code =
 -- code that leads to a number in RAX, and the slot to which the number goes
 pub leads_kept : (p : FramePlace) (code : List Instr) (to : Slot) (v : MachineView) (at : ℕ)
     (f : Flags) (b : BodyState) (x : ℕ) (source : Memory) → Fine code → Roomy p → IsThere p to
-    → sp_of v ≡ p.sp → FrameHolds p v.locals v.memory b
+    → IsKept p.layout to → sp_of v ≡ p.sp → FrameHolds p v.locals v.memory b
     → HasCode v.memory at (code ++ keep p.layout to)
     → LeavesResult p.reserved code v x source
     → ReachesBody p (length (code ++ keep p.layout to)) (machine v at f)
     (at + sizes (code ++ keep p.layout to)) v.rest v.locals
     (record { slots = with_slot b.slots to x; memory = source })
-leads_kept p code to v at f b x source fine room is sp h is_there l =
+leads_kept p code to v at f b x source fine room is kept sp h is_there l =
     let y = p.layout in
     let mid : MachineView = record v {
       rax = x;
@@ -197,9 +228,11 @@ leads_kept p code to v at f b x source fine room is sp h is_there l =
       memory = l.after;
     } in
     let body : BodyState = record { slots = b.slots; memory = source } in
-    let held = holds_same y p.counts p.reserved p.sp p.base room v.locals v.memory l.after source b
+    let held = holds_same y p.counts p.reserved p.sp p.base p.arrived room v.locals v.memory l.after
+    source b
     l.own l.protection l.agrees h in
-    let k = keep_does y p.counts p.reserved p.sp p.base room to mid body is sp held l.small in
+    let k = keep_does y p.counts p.reserved p.sp p.base p.arrived room to mid body is kept sp
+    held l.small in
     let last : MachineView = record (kept_in y p.sp p.base mid x to) { rcx = k.rcx } in
     let r = runs_view (code ++ keep y to) v last at f
     (fine_both code (keep y to) fine (keep_fine y p.counts p.sp p.base to room is)) is_there
@@ -209,40 +242,41 @@ leads_kept p code to v at f b x source fine room is sp h is_there l =
       flags = r.left;
       comes = r.comes;
       rest = refl;
-      locals = unused_slot y p.counts p.reserved p.sp p.base room v.locals to x;
-      holds = holds_after y p.counts p.reserved p.sp p.base room v.locals l.after body to x held is
-          l.small;
+      locals = unused_slot y p.counts p.reserved p.sp p.base p.arrived room v.locals to x;
+      holds = holds_after y p.counts p.reserved p.sp p.base p.arrived room v.locals l.after body to
+          x
+          held is kept l.small;
       changes = changes_then y p.counts p.reserved p.sp p.base v.memory l.after last.memory
-          (changes_same y p.counts p.reserved p.sp p.base room v.memory l.after l.own l.protection
-          l.bytes) (changes_slot y p.counts p.reserved p.sp p.base room l.after to x is);
+          (changes_same y p.counts p.reserved p.sp p.base p.arrived room v.memory l.after l.own
+          l.protection
+          l.bytes) (changes_slot y p.counts p.reserved p.sp p.base p.arrived room l.after to x is);
     }
 
 finish_by : (p : FramePlace) (o : Operation) (to : Slot) (v : MachineView) (at : ℕ) (f : Flags)
-    (b : BodyState) (outcome : OperationResult) → Roomy p → IsThere p to → sp_of v ≡ p.sp
+    (b : BodyState) (outcome : OperationResult) → Roomy p → IsThere p to → IsKept p.layout to
+    → sp_of v ≡ p.sp
     → FrameHolds p v.locals v.memory b → HasCode v.memory at (finish_code p.layout o to)
     → Implements p.reserved (work o) v outcome → Finished p o to v at f b outcome
-finish_by p o to v at f b (Gives x source) room is sp h code w = leads_kept p (work o) to v at f b x
-    source (work_fine o) room is sp h code w
-finish_by p o to v at f b (Raises c access) room is sp h code w = head_faults
+finish_by p o to v at f b (Gives x source) room is kept sp h code w =
+    leads_kept p (work o) to v at f b x source (work_fine o) room is kept sp h code w
+finish_by p o to v at f b (Raises c access) room is kept sp h code w = head_faults
     (finish_code p.layout o to) v at f c access
     (finish_fine p.layout p.counts p.sp p.base o to room is) code
     (more_faults (work o) (keep p.layout to) v c access w)
-finish_by p o to v at f b (Undefined a) room is sp h code w = tt
+finish_by p o to v at f b (Undefined a) room is kept sp h code w = tt
 
 -- from where its operands wait, an operation is made or refused as it means on the memory there
 pub finish_run : (p : FramePlace) (o : Operation) (to : Slot) (v : MachineView) (at : ℕ) (f : Flags)
-    (b : BodyState) (x y : ℕ) → Roomy p → IsThere p to → x < 2 ^ 64 → y < 2 ^ 64
-    → HasOperands o x y v → sp_of v ≡ p.sp → FrameHolds p v.locals v.memory b
+    (b : BodyState) (x y : ℕ) → Roomy p → IsThere p to → IsKept p.layout to → x < 2 ^ 64
+    → y < 2 ^ 64 → HasOperands o x y v → sp_of v ≡ p.sp → FrameHolds p v.locals v.memory b
     → HasCode v.memory at (finish_code p.layout o to)
     → Finished p o to v at f b (performed p.reserved o x y b.memory)
-finish_run p o to v at f b x y room is lx ly waits sp h code =
-    let ex = waits.first in
-    let ey = waits.second in
-    let w = works p.reserved o v b.memory (omega arith) (omega arith) waits.ready h.source in
-    finish_by p o to v at f b (performed p.reserved o x y b.memory) room is sp h code
-    (subst (λ c. Implements p.reserved (work o) v (performed p.reserved o c y b.memory)) ex
-    (subst (λ c. Implements p.reserved (work o) v (performed p.reserved o v.rax c b.memory)) ey
-    w))
+finish_run p o to v at f b x y room is kept lx ly waits sp h code =
+    let w = works p.reserved o v b.memory (λ e. let q = waits.first e in omega arith)
+    (λ e. let q = waits.second e in omega arith) waits.ready h.source in
+    finish_by p o to v at f b (performed p.reserved o x y b.memory) room is kept sp h code
+    (subst (Implements p.reserved (work o) v)
+    (performed_same p.reserved b.memory o v.rax v.rcx x y waits.first waits.second) w)
 
 -- an operation that gives a number has been made: the number is in RAX, and not yet in its slot
 pub record Worked (p : FramePlace) (o : Operation) (v : MachineView) (at : ℕ) (f : Flags) (x : ℕ)
@@ -262,14 +296,11 @@ pub work_run : (p : FramePlace) (o : Operation) (v : MachineView) (at : ℕ) (f 
     → HasOperands o x y v → FrameHolds p v.locals v.memory b → HasCode v.memory at (work o)
     → performed p.reserved o x y b.memory ≡ Gives value source → Worked p o v at f value source
 work_run p o v at f b x y value source lx ly waits h code gives =
-    let ex = waits.first in
-    let ey = waits.second in
-    let w = works p.reserved o v b.memory (omega arith) (omega arith) waits.ready h.source in
+    let w = works p.reserved o v b.memory (λ e. let q = waits.first e in omega arith)
+    (λ e. let q = waits.second e in omega arith) waits.ready h.source in
     let l : LeavesResult p.reserved (work o) v value source =
-    subst (Implements p.reserved (work o) v) gives
-    (subst (λ c. Implements p.reserved (work o) v (performed p.reserved o c y b.memory)) ex
-    (subst (λ c. Implements p.reserved (work o) v (performed p.reserved o v.rax c b.memory)) ey
-    w)) in
+    subst (Implements p.reserved (work o) v)
+    (performed_same p.reserved b.memory o v.rax v.rcx x y waits.first waits.second ∙ gives) w in
     let r = runs_view (work o) v (record v {
       rax = value;
       rcx = l.yields.rcx;
@@ -347,18 +378,19 @@ compute_by p to o first second v rip f b (Undefined a) g fin = tt
 
 pub compute_run : (p : FramePlace) (to : Slot) (o : Operation) (first second : Slot)
     (v : MachineView) (rip : ℕ) (f : Flags) (b : BodyState) → Roomy p → IsThere p to
-    → IsThere p first → IsThere p second → sp_of v ≡ p.sp → FrameHolds p v.locals v.memory b
+    → IsThere p first → IsThere p second → IsKept p.layout to → AreArrived p v → sp_of v ≡ p.sp
+    → FrameHolds p v.locals v.memory b
     → HasCode v.memory rip (compute_code p.layout to o first second)
     → Computed p to o first second v rip f b (step p.reserved
     (instructions.Compute to o first second) b)
-compute_run p to o first second v rip f b room it ifst isnd at h code =
+compute_run p to o first second v rip f b room it ifst isnd kept here at h code =
     let ops = operands_code p.layout o first second in
     let parts = code_split v.memory rip ops (finish_code p.layout o to) code in
-    let g = operands_run p o first second v rip f b room ifst isnd at h parts.0 in
+    let g = operands_run p o first second v rip f b room ifst isnd here at h parts.0 in
     compute_by p to o first second v rip f b (performed p.reserved o (b.slots first)
     (b.slots second) b.memory) g
     (finish_run p o to g.stopped (rip + sizes ops) g.left b (b.slots first) (b.slots second) room it
-    (h.small first ifst) (h.small second isnd) g.waits
+    kept (h.small first ifst) (h.small second isnd) g.waits
     (ap (λ (r : OtherRegisters). r.rsp) g.rest ∙ at)
     (subst (λ l. FrameHolds p l g.stopped.memory b) (sym g.locals)
     (subst (λ (m : Memory). FrameHolds p v.locals m b) (sym g.memory) h))

@@ -1,7 +1,7 @@
 -- Each instruction of an operation has a spelling, is followed by the next, and begins no epilogue.
 use Rattle.std.proofs.Common.{◌≡◌, ℕ, ◌^◌, ◌<◌, Bool, true, false, ltb, List, [], ◌∷◌, ◌++◌, Option, Some, None, refl, arith}
 use Rattle.std.proofs.lemmas.Bool.{lt-ltb}
-use Rattle.x64_templates.specs.Words.{Width, W8, W16, W32, W64, low, Reg, Rax, Rcx, Rsp, Instr, is_encodable, Slot, Local, Temporary, Size, Int, Long, Signedness, Unsigned, Signed, Relation, Pure, Operation, width, Counts, IsSlot, Layout, is_straight, AllStraight, begins_epilogue, takes_frame, NoneTakesFrame, compare, extended, pure_code, high_half, before, work, fetched, put_back, temporary_at, local_at, fetch_local, keep_local, fetch, keep, operands_code, finish_code, HasBase, SlotsHaveRoom, is_signed, is_rsp_place, is_subtraction, is_number, Place, InRegister, InFrame, place_of, fetch_placed, keep_placed}
+use Rattle.x64_templates.specs.Words.{Width, W8, W16, W32, W64, low, Reg, Rax, Rcx, Rsp, Instr, is_encodable, Slot, Local, Temporary, Size, Int, Long, Signedness, Unsigned, Signed, Relation, Pure, Operation, width, Counts, IsSlot, Layout, is_straight, AllStraight, begins_epilogue, takes_frame, NoneTakesFrame, compare, extended, pure_code, high_half, before, work, fetched, put_back, temporary_at, local_at, fetch_local, keep_local, fetch, fetch_if, has_first, has_second, keep, operands_code, finish_code, HasBase, SlotsHaveRoom, is_signed, is_rsp_place, is_subtraction, is_number, Place, InRegister, InFrame, Arriving, place_of, fetch_placed, keep_placed}
 use Rattle.x64_templates.proofs.PlacedCode.{Encodable}
 use Rattle.c_operations.specs.declared.operation.Relation.TheVariants as relations
 use Rattle.c_operations.specs.declared.operation.Pure.TheVariants as pures
@@ -74,12 +74,14 @@ fetch_placed_fine : (y : Layout) (n : Counts) (sp base : ℕ) (r : Bool) (i : �
     → SlotsHaveRoom y n sp base → i < n.locals → Fine (fetch_placed y (reg r) i p)
 fetch_placed_fine y n sp base true i (InRegister q) room is = (refl, refl, refl, tt)
 fetch_placed_fine y n sp base false i (InRegister q) room is = (refl, refl, refl, tt)
+fetch_placed_fine y n sp base r i Arriving room is = (refl, refl, refl, tt)
 fetch_placed_fine y n sp base r i InFrame room is = let l = room.locals in
     fetch_local_fine y n sp base r y.base (local_at y i) room room.kept_base (omega arith)
 
 keep_placed_fine : (y : Layout) (n : Counts) (sp base : ℕ) (i : ℕ) (p : Place)
     → SlotsHaveRoom y n sp base → i < n.locals → Fine (keep_placed y i p)
 keep_placed_fine y n sp base i (InRegister q) room is = (refl, refl, refl, tt)
+keep_placed_fine y n sp base i Arriving room is = (refl, refl, refl, tt)
 keep_placed_fine y n sp base i InFrame room is = let l = room.locals in
     keep_local_fine y n sp base y.base (local_at y i) room room.kept_base (omega arith)
 
@@ -89,6 +91,11 @@ fetch_fine y n sp base r (Temporary i) room is = let t = room.temporaries in
     fetched_fine r Rsp (temporary_at y i) (omega arith)
 fetch_fine y n sp base r (Local i) room is = fetch_placed_fine y n sp base r i (place_of y i) room
     is
+
+fetch_if_fine : (y : Layout) (n : Counts) (sp base : ℕ) (read r : Bool) (x : Slot)
+    → SlotsHaveRoom y n sp base → IsSlot n x → Fine (fetch_if read y (reg r) x)
+fetch_if_fine y n sp base true r x room is = fetch_fine y n sp base r x room is
+fetch_if_fine y n sp base false r x room is = tt
 
 pub keep_fine : (y : Layout) (n : Counts) (sp base : ℕ) (x : Slot) → SlotsHaveRoom y n sp base
     → IsSlot n x → Fine (keep y x)
@@ -179,10 +186,11 @@ work_fine (operations.Store w) = (refl, refl, refl, (refl, refl, refl, tt))
 pub operands_fine : (y : Layout) (n : Counts) (sp base : ℕ) (o : Operation) (first second : Slot)
     → SlotsHaveRoom y n sp base → IsSlot n first → IsSlot n second
     → Fine (operands_code y o first second)
-operands_fine y n sp base o first second room f s = fine_both (fetch y Rax first)
-    (fetch y Rcx second ++ before o) (fetch_fine y n sp base true first room f)
-    (fine_both (fetch y Rcx second) (before o) (fetch_fine y n sp base false second room s)
-    (before_fine o))
+operands_fine y n sp base o first second room f s = fine_both (fetch_if (has_first o) y Rax first)
+    (fetch_if (has_second o) y Rcx second ++ before o)
+    (fetch_if_fine y n sp base (has_first o) true first room f)
+    (fine_both (fetch_if (has_second o) y Rcx second) (before o)
+    (fetch_if_fine y n sp base (has_second o) false second room s) (before_fine o))
 
 pub finish_fine : (y : Layout) (n : Counts) (sp base : ℕ) (o : Operation) (to : Slot)
     → SlotsHaveRoom y n sp base → IsSlot n to → Fine (finish_code y o to)

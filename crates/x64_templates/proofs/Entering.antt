@@ -2,7 +2,7 @@
 use Rattle.std.proofs.Common.{◌≡◌, ℕ, zero, suc, ◌+◌, ◌^◌, ◌<◌, ◌≤◌, cond, [], ◌∷◌, length, refl, sym, subst, arith, inl, inr, true, false, ltb}
 use Rattle.std.specs.Prelude.{◌⊎◌}
 use Rattle.std.proofs.lemmas.Bool.{cases_lt, lt-ltb, le-ltb}
-use Rattle.x64_templates.specs.Words.{Memory, Rax, Rsp, Flags, BodyState, MachineView, machine, sizes, fetched, local_at, parameter_register, keep_register, stack_parameter, parameter_code, parameters_code, sp_of, with_arguments, InRegisters, OnStack, IsFunctionFrame, body_in_memory, FreshFrame, HasCode, FramePlace, Roomy, FrameHolds, ReachesBody, W64, move, Place, InRegister, InFrame, place_of, parameter_placed, LocalRegisters}
+use Rattle.x64_templates.specs.Words.{Memory, Rax, Rsp, Flags, BodyState, MachineView, machine, sizes, fetched, local_at, parameter_register, keep_register, stack_parameter, parameter_code, parameters_code, sp_of, with_arguments, InRegisters, OnStack, IsFunctionFrame, body_in_memory, FreshFrame, HasCode, FramePlace, Roomy, FrameHolds, ReachesBody, W64, move, Place, InRegister, InFrame, Arriving, place_of, parameter_placed, LocalRegisters}
 use Rattle.x64_templates.proofs.Encoded.{Fine, fine_both, near}
 use Rattle.x64_templates.proofs.Computes.{runs_view}
 use Rattle.x64_templates.proofs.Entries.{holds_body_in_memory}
@@ -28,6 +28,7 @@ parameter_fine p i count arguments m room lc ll stack =
     by (InRegister r) (inr e) small = subst (λ c. Fine (cond c
         (move W64 r (parameter_register i) ∷ []) (fetched r Rsp (stack_parameter p.layout i) ∷ [])))
         (sym e) (near (stack_parameter p.layout i) (stack.near i lc), refl, refl, tt)
+    by Arriving few small = tt
     by InFrame (inl e) small = subst (λ c. Fine (cond c
         (keep_register (parameter_register i) (local_at p.layout i) ∷ [])
         (fetched Rax Rsp (stack_parameter p.layout i) ∷ keep_register Rax (local_at p.layout i)
@@ -53,10 +54,10 @@ parameters_fine p i (suc n) count arguments m room lc ll stack = fine_both
 
 pub fresh_holds : (p : FramePlace) (l : LocalRegisters) (m source : Memory)
     → FreshFrame p l m source
-    → FrameHolds p l m (body_in_memory p.layout p.sp p.base l m source)
-fresh_holds p l m source b = holds_body_in_memory p.layout p.counts p.reserved p.sp p.base l m
-    source
-    b.small b.bytes b.base b.writable b.own b.own_base b.agrees
+    → FrameHolds p l m (body_in_memory p.layout p.sp p.base p.arrived l m source)
+fresh_holds p l m source b = holds_body_in_memory p.layout p.counts p.reserved p.sp p.base p.arrived
+    l m source
+    b.arrived b.small b.bytes b.base b.writable b.own b.own_base b.agrees
 
 -- ---- parameters, once RSP is the frame's
 

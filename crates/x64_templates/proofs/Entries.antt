@@ -3,7 +3,7 @@ use Rattle.std.proofs.Common.{◌≡◌, ℕ, zero, suc, ◌+◌, ◌-◌, ◌*�
 use Rattle.std.specs.Prelude.{◌⊎◌}
 use Rattle.std.proofs.Math.Nat.{pow-suc}
 use Rattle.std.proofs.lemmas.Bool.{cases_lt}
-use Rattle.x64_templates.specs.Words.{Memory, next, may_read, may_write, number_at, with_number, ReadWrite, is_readable, is_writable, Counts, Layout, MachineView, InTemporaries, InLocals, MemoryKeepsBase, KeepsReserved, Agrees, HoldsBody, IsBytes, pushed, HasBelow, HasBack, body_in_memory, Nothing, Read, Reg, Slot, Local, Temporary, LocalRegisters, local_in, Place, InRegister, InFrame, place_of, number_placed, number_in, local_at, temporary_at}
+use Rattle.x64_templates.specs.Words.{Memory, next, may_read, may_write, number_at, with_number, ReadWrite, is_readable, is_writable, Counts, Layout, MachineView, InTemporaries, InLocals, MemoryKeepsBase, KeepsReserved, Agrees, HoldsBody, IsBytes, pushed, HasBelow, HasBack, body_in_memory, Nothing, Read, Reg, Slot, Local, Temporary, LocalRegisters, local_in, Place, InRegister, InFrame, Arriving, place_of, number_placed, number_in, local_at, temporary_at}
 use Rattle.x64_templates.proofs.Lemmas.{untouched, stored_is_loaded}
 use Rattle.flat_memory.specs.declared.protection.Rights.{Rights}
 use Rattle.x64_templates.proofs.Accesses.{digits}
@@ -22,34 +22,34 @@ number_small m (suc n) at h =
     subst (λ p. m.byte at + 256 * number_at m.byte n (next at) < p) (sym e)
     (digit_more (m.byte at) (256 ^ n) (number_at m.byte n (next at)) (h at) r)
 
-placed_small : (y : Layout) (base : ℕ) (locals : LocalRegisters) (m : Memory) (i : ℕ) (p : Place)
-    → IsBytes m → ((r : Reg) → local_in locals r < 2 ^ 64)
-    → number_placed y base locals m i p < 2 ^ 64
-placed_small y base locals m i (InRegister r) bytes small = small r
-placed_small y base locals m i InFrame bytes small = number_small m 8 (base + local_at y i) bytes
+module _ (y : Layout) (arrived : ℕ → ℕ) (few : (i : ℕ) → arrived i < 2 ^ 64)
+    (locals : LocalRegisters) (small : (r : Reg) → local_in locals r < 2 ^ 64) where
+  placed_small : (base : ℕ) (m : Memory) (i : ℕ) (p : Place) → IsBytes m
+      → number_placed y base arrived locals m i p < 2 ^ 64
+  placed_small base m i (InRegister r) bytes = small r
+  placed_small base m i InFrame bytes = number_small m 8 (base + local_at y i) bytes
+  placed_small base m i Arriving bytes = few i
 
-slot_small : (y : Layout) (sp base : ℕ) (locals : LocalRegisters) (m : Memory) (x : Slot)
-    → IsBytes m → ((r : Reg) → local_in locals r < 2 ^ 64)
-    → number_in y sp base locals m x < 2 ^ 64
-slot_small y sp base locals m (Temporary i) bytes small =
-    number_small m 8 (sp + temporary_at y i) bytes
-slot_small y sp base locals m (Local i) bytes small =
-    placed_small y base locals m i (place_of y i) bytes small
+  slot_small : (sp base : ℕ) (m : Memory) (x : Slot) → IsBytes m
+      → number_in y sp base arrived locals m x < 2 ^ 64
+  slot_small sp base m (Temporary i) bytes = number_small m 8 (sp + temporary_at y i) bytes
+  slot_small sp base m (Local i) bytes = placed_small base m i (place_of y i) bytes
 
 -- wherever a frame has its room, it holds a body
 pub holds_body_in_memory : (y : Layout) (n : Counts) (reserved : ℕ → Bool) (sp base : ℕ)
-    (locals : LocalRegisters) (m source : Memory) → ((r : Reg) → local_in locals r < 2 ^ 64)
+    (arrived : ℕ → ℕ) (locals : LocalRegisters) (m source : Memory)
+    → ((i : ℕ) → arrived i < 2 ^ 64) → ((r : Reg) → local_in locals r < 2 ^ 64)
     → IsBytes m → MemoryKeepsBase y.base sp base m
     → ((a : ℕ) → InTemporaries y n sp a ⊎ InLocals y n base a → may_write m a ≡ true)
     → ((a : ℕ) → InTemporaries y n sp a ⊎ InLocals y n base a → reserved a ≡ true)
     → KeepsReserved y.base sp reserved → Agrees reserved m source
-    → HoldsBody y n reserved sp base locals m (body_in_memory y sp base locals m source)
-holds_body_in_memory y n reserved sp base locals m source small bytes base_kept writable own
-    own_base
-    agrees =
+    → HoldsBody y n reserved sp base arrived locals m
+    (body_in_memory y sp base arrived locals m source)
+holds_body_in_memory y n reserved sp base arrived locals m source few small bytes base_kept writable
+    own own_base agrees =
     record {
       slot = λ x is. refl;
-      small = λ x is. slot_small y sp base locals m x bytes small;
+      small = λ x is. slot_small y arrived few locals small sp base m x bytes;
       kept_base = base_kept;
       writable = writable;
       own = own;

@@ -2,7 +2,7 @@
 -- registers, and at most one of them stores, but for a store of the source before its result is
 -- kept.
 use Rattle.std.proofs.Common.{ℕ, ◌+◌, ◌<◌, ◌^◌, Bool, true, false, List, [], ◌∷◌, ◌++◌, Option, Some, None, refl, inl, inr}
-use Rattle.x64_templates.specs.Words.{Width, W8, W16, W32, W64, Rax, Rcx, Rsp, Instr, Slot, Local, Temporary, Counts, IsSlot, Field, ExceptionCode, ExceptionFlags, NumberParameters, ExceptionInformation, Size, Int, Long, Signedness, Unsigned, Signed, Relation, Pure, Operation, Layout, sizes, compare, extended, pure_code, before, work, fetched, local_at, fetch_local, keep_local, fetch, keep, operands_code, jump_equal, jump_code, compare_zero, test_code, jump_if_zero_code, separator_code, IsNear, field_load, information_code, KeepsRegisters, StoresNothing, Flows, StoresOnce, SlotsHaveRoom, IsField, Place, InRegister, InFrame, place_of, fetch_placed, keep_placed}
+use Rattle.x64_templates.specs.Words.{Width, W8, W16, W32, W64, Rax, Rcx, Rsp, Instr, Slot, Local, Temporary, Counts, IsSlot, Field, ExceptionCode, ExceptionFlags, NumberParameters, ExceptionInformation, Size, Int, Long, Signedness, Unsigned, Signed, Relation, Pure, Operation, Layout, sizes, compare, extended, pure_code, before, work, fetched, local_at, fetch_local, keep_local, fetch, fetch_if, has_first, has_second, keep, operands_code, jump_equal, jump_code, compare_zero, test_code, jump_if_zero_code, separator_code, IsNear, field_load, information_code, KeepsRegisters, StoresNothing, Flows, StoresOnce, SlotsHaveRoom, IsField, Place, InRegister, InFrame, Arriving, place_of, fetch_placed, keep_placed}
 use Rattle.c_operations.specs.declared.operation.Relation.TheVariants as relations
 use Rattle.c_operations.specs.declared.operation.Pure.TheVariants as pures
 use Rattle.c_operations.specs.declared.operation.Operation.TheVariants as operations
@@ -31,12 +31,19 @@ placed_nothing : (y : Layout) (r : Bool) (i : ℕ) (p : Place)
     → StoresNothing (fetch_placed y (reg r) i p)
 placed_nothing y true i (InRegister q) = (refl, refl, tt)
 placed_nothing y false i (InRegister q) = (refl, refl, tt)
+placed_nothing y true i Arriving = (refl, refl, tt)
+placed_nothing y false i Arriving = (refl, refl, tt)
 placed_nothing y r i InFrame = local_nothing r y.base (local_at y i)
 
 pub fetch_nothing : (y : Layout) (r : Bool) (x : Slot) → StoresNothing (fetch y (reg r) x)
 fetch_nothing y true (Temporary i) = (refl, refl, tt)
 fetch_nothing y false (Temporary i) = (refl, refl, tt)
 fetch_nothing y r (Local i) = placed_nothing y r i (place_of y i)
+
+fetch_if_nothing : (read : Bool) (y : Layout) (r : Bool) (x : Slot)
+    → StoresNothing (fetch_if read y (reg r) x)
+fetch_if_nothing true y r x = fetch_nothing y r x
+fetch_if_nothing false y r x = tt
 
 keep_local_keeps : (o : Option ℕ) (d : ℕ) → KeepsRegisters (keep_local o d)
 keep_local_keeps None d = (refl, tt)
@@ -49,6 +56,7 @@ keep_local_once (Some b) d = inl (refl, inr tt)
 -- a local in a register is written by the last instruction alone
 keep_placed_flows : (y : Layout) (i : ℕ) (p : Place) → Flows (keep_placed y i p)
 keep_placed_flows y i (InRegister q) = refl
+keep_placed_flows y i Arriving = refl
 keep_placed_flows y i InFrame = flows (keep_local y.base (local_at y i))
     (keep_local_keeps y.base (local_at y i))
 
@@ -58,6 +66,7 @@ keep_flows y (Local i) = keep_placed_flows y i (place_of y i)
 
 keep_placed_once : (y : Layout) (i : ℕ) (p : Place) → StoresOnce (keep_placed y i p)
 keep_placed_once y i (InRegister q) = inr tt
+keep_placed_once y i Arriving = inr tt
 keep_placed_once y i InFrame = keep_local_once y.base (local_at y i)
 
 keep_once : (y : Layout) (x : Slot) → StoresOnce (keep y x)
@@ -133,8 +142,11 @@ work_once (operations.Store w) = inr (refl, refl, tt)
 operands_nothing : (y : Layout) (o : Operation) (first second : Slot)
     → StoresNothing (operands_code y o first second)
 operands_nothing y o first second =
-    nothing_both (fetch y Rax first) (fetch y Rcx second ++ before o) (fetch_nothing y true first)
-    (nothing_both (fetch y Rcx second) (before o) (fetch_nothing y false second) (before_nothing o))
+    nothing_both (fetch_if (has_first o) y Rax first)
+    (fetch_if (has_second o) y Rcx second ++ before o)
+    (fetch_if_nothing (has_first o) y true first)
+    (nothing_both (fetch_if (has_second o) y Rcx second) (before o)
+    (fetch_if_nothing (has_second o) y false second) (before_nothing o))
 
 field_nothing : (field : Field) → StoresNothing (field_load field ∷ [])
 field_nothing ExceptionCode = (refl, refl, tt)

@@ -1,6 +1,6 @@
 -- A filter or a `__finally` block begins.
 use Rattle.std.proofs.Common.{◌≡◌, ℕ, ◌+◌, ◌%◌, ◌^◌, ◌<◌, true, [], ◌∷◌, ◌++◌, length, Ok, refl, ap, arith}
-use Rattle.x64_templates.specs.Words.{W32, low, may_write, Rax, Rcx, Flags, Slot, BodyState, with_slot, MachineView, machine, sizes, move, keep, keep_register, sp_of, HasCode, FramePlace, Roomy, FrameHolds, IsThere, ReachesBody}
+use Rattle.x64_templates.specs.Words.{W32, low, may_write, Rax, Rcx, Flags, Slot, BodyState, with_slot, MachineView, machine, sizes, move, keep, keep_register, sp_of, HasCode, FramePlace, Roomy, FrameHolds, IsKept, IsThere, ReachesBody}
 use Rattle.x64_templates.proofs.PlacedCode.{all_may}
 use Rattle.x64_templates.proofs.Straight.{executes_one}
 use Rattle.x64_templates.proofs.Cells.{put}
@@ -25,16 +25,18 @@ pointers_kept v sp d x rip f at is small near_d cell code =
 
 -- a `__finally` block keeps ECX, its flag, in a local of the activation
 pub flag_run : (p : FramePlace) (flag : Slot) (v : MachineView) (rip : ℕ) (f : Flags)
-    (b : BodyState) → Roomy p → IsThere p flag → sp_of v ≡ p.sp → FrameHolds p v.locals v.memory b
+    (b : BodyState) → Roomy p → IsThere p flag → IsKept p.layout flag → sp_of v ≡ p.sp
+    → FrameHolds p v.locals v.memory b
     → HasCode v.memory rip ((move W32 Rax Rcx ∷ []) ++ keep p.layout flag)
     → ReachesBody p (length ((move W32 Rax Rcx ∷ []) ++ keep p.layout flag)) (machine v rip f)
     (rip + sizes ((move W32 Rax Rcx ∷ []) ++ keep p.layout flag)) v.rest v.locals
     (record { slots = with_slot b.slots flag (low W32 v.rcx); memory = b.memory })
-flag_run p flag v rip f b room is at h code =
+flag_run p flag v rip f b room is kept at h code =
     let i = move W32 Rax Rcx in
     let q : low W32 (low W32 v.rcx) ≡ low W32 v.rcx = omega arith in
-    leads_kept p (i ∷ []) flag v rip f b (low W32 v.rcx) b.memory (refl, refl, refl, tt) room is at
-    h code
+    leads_kept p (i ∷ []) flag v rip f b (low W32 v.rcx) b.memory (refl, refl, refl, tt) room is
+    kept
+    at h code
     (record {
       after = v.memory;
       yields = record {

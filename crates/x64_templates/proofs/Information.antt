@@ -1,6 +1,6 @@
 -- A filter reads of its exception.
 use Rattle.std.proofs.Common.{◌≡◌, ℕ, ◌+◌, ◌*◌, ◌%◌, ◌^◌, ◌<◌, ◌≤◌, true, false, [], ◌∷◌, length, Option, None, Ok, refl, ap, subst, ◌∙◌, arith}
-use Rattle.x64_templates.specs.Words.{Width, W32, W64, bytes_of, low, Memory, may_read, number_at, access, first_refused, Rax, Rsp, Instr, Flags, ◌>>=◌, Answer, granted, load, effect, Slot, Field, ExceptionCode, ExceptionFlags, NumberParameters, ExceptionInformation, BodyState, with_slot, MachineView, machine, Executes, sizes, fetched, field_load, information_code, sp_of, IsField, HasCode, FramePlace, Roomy, FrameHolds, IsThere, ReachesBody, field_at, field_width, MayRead, HasException}
+use Rattle.x64_templates.specs.Words.{Width, W32, W64, bytes_of, low, Memory, may_read, number_at, access, first_refused, Rax, Rsp, Instr, Flags, ◌>>=◌, Answer, granted, load, effect, Slot, Field, ExceptionCode, ExceptionFlags, NumberParameters, ExceptionInformation, BodyState, with_slot, MachineView, machine, Executes, sizes, fetched, field_load, information_code, sp_of, IsField, HasCode, FramePlace, Roomy, FrameHolds, IsKept, IsThere, ReachesBody, field_at, field_width, MayRead, HasException}
 use Rattle.x64_templates.proofs.PlacedCode.{all_may}
 use Rattle.x64_templates.proofs.Straight.{executes_one, executes_then}
 use Rattle.x64_templates.proofs.Cells.{put}
@@ -81,14 +81,15 @@ small_field NumberParameters x = omega arith
 small_field (ExceptionInformation k) x = omega arith
 
 pub information_run : (p : FramePlace) (to : Slot) (field : Field) (v : MachineView) (at : ℕ)
-    (f : Flags) (b : BodyState) (x : ℕ) → Roomy p → IsThere p to → IsField field
+    (f : Flags) (b : BodyState) (x : ℕ) → Roomy p → IsThere p to → IsKept p.layout to
+    → IsField field
     → p.layout.pointers < 2 ^ 31 → sp_of v ≡ p.sp → FrameHolds p v.locals v.memory b → x < 2 ^ 64
     → HasException v.memory (p.sp + p.layout.pointers) field x
     → HasCode v.memory at (information_code p.layout to field)
     → ReachesBody p (length (information_code p.layout to field)) (machine v at f)
     (at + sizes (information_code p.layout to field)) v.rest v.locals
     (record { slots = with_slot b.slots to (field_number field x); memory = b.memory })
-information_run p to field v at f b x room is isf near_p sp h lt e code =
+information_run p to field v at f b x room is kept isf near_p sp h lt e code =
     let y = p.layout in
     let i0 = fetched Rax Rsp y.pointers in
     let i1 = fetched Rax Rax 0 in
@@ -114,8 +115,9 @@ information_run p to field v at f b x room is isf near_p sp h lt e code =
       refl,
       (refl, refl, refl, field_fine field isf),
     ) in
-    leads_kept p (i0 ∷ i1 ∷ i2 ∷ []) to v at f b (field_number field x) b.memory fine room is sp h
-    code
+    leads_kept p (i0 ∷ i1 ∷ i2 ∷ []) to v at f b (field_number field x) b.memory fine room is kept
+    sp
+    h code
     (record {
       after = v.memory;
       yields = record { rcx = v.rcx; rdx = v.rdx; does = d };

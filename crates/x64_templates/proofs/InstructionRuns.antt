@@ -1,6 +1,6 @@
 -- Every instruction that needs no dispatcher does what it means, wherever its template is placed.
 use Rattle.std.proofs.Common.{◌≡◌, ℕ, zero, suc, ◌+◌, ◌^◌, ◌<◌, ◌≤◌, Bool, true, false, cond, eqb, List, [], ◌∷◌, length, get_or, Option, Some, None, refl, sym, subst, ◌∙◌, arith, length-append}
-use Rattle.x64_templates.specs.Words.{Place, InRegister, InFrame, place_of, keep_placed, Rax, Flags, Slot, Local, Temporary, Operation, Instruction, BodyState, with_slot, OperationResult, Gives, Raises, Undefined, performed, Next, JumpsTo, kept, step, HasSlots, Layout, MachineView, machine, size, sizes, work, fetch, keep, keep_local, local_at, operands_code, finish_code, compute_code, compare_zero, jump_equal, jump_if_zero_code, test_code, IsNear, Links, template, template_size, offset_of, code_from, HasCode, FramePlace, Roomy, FrameHolds, ReachesBody, Computed, InstructionDone, nowhere, body_size, HasLabels}
+use Rattle.x64_templates.specs.Words.{Place, InRegister, InFrame, Arriving, place_of, keep_placed, Rax, Flags, Slot, Local, Temporary, Operation, Instruction, BodyState, with_slot, OperationResult, Gives, Raises, Undefined, performed, Next, JumpsTo, kept, step, HasSlots, Layout, MachineView, machine, size, sizes, work, fetch, keep, keep_local, local_at, operands_code, finish_code, compute_code, compare_zero, jump_equal, jump_if_zero_code, test_code, IsNear, Links, template, template_size, offset_of, code_from, HasCode, FramePlace, Roomy, FrameHolds, AreArrived, KeepsArrivals, ReachesBody, Computed, InstructionDone, nowhere, body_size, HasLabels}
 use Rattle.linear_code.specs.declared.instruction.Instruction.TheVariants as instructions
 use Rattle.x64_templates.proofs.Cells.{sp_of}
 use Rattle.x64_templates.proofs.Lemmas.{fetch_length, compute_length, jump_if_zero_size, template_sizes, offset_next}
@@ -16,6 +16,7 @@ keep_local_some (Some b) d = omega arith
 
 keep_placed_some : (y : Layout) (i : ℕ) (p : Place) → 1 ≤ length (keep_placed y i p)
 keep_placed_some y i (InRegister r) = omega arith
+keep_placed_some y i Arriving = omega arith
 keep_placed_some y i InFrame = keep_local_some y.base (local_at y i)
 
 keep_some : (y : Layout) (x : Slot) → 1 ≤ length (keep y x)
@@ -108,21 +109,23 @@ LabelsNear k y here (instructions.JumpIfZero slot label) = IsNear
     (here + template_size y (instructions.JumpIfZero slot label)) (k.label label)
 LabelsNear k y here instruction = Unit {0}
 
-jump_template : (y : Layout) (here label : ℕ)
+pub jump_template : (y : Layout) (here label : ℕ)
     → here + 5 ≡ here + template_size y (instructions.Jump label)
 unfolding template_size size
 jump_template y here label = refl
 
 pub instruction_run : (p : FramePlace) (k : Links) (instruction : Instruction) (v : MachineView)
     (here : ℕ) (f : Flags) (b : BodyState) → Roomy p → HasSlots p.counts instruction
+    → KeepsArrivals p.layout instruction → AreArrived p v
     → LabelsNear k p.layout here instruction → sp_of v ≡ p.sp → FrameHolds p v.locals v.memory b
     → HasCode v.memory here (template k p.layout here instruction)
     → InstructionDone p k v here f b instruction (step p.reserved instruction b)
-instruction_run p k (instructions.Compute to o first second) v here f b room has near at h code =
+instruction_run p k (instructions.Compute to o first second) v here f b room has kept arrived near
+    at h code =
     compute_done p k to o first second v here f b
     (performed p.reserved o (b.slots first) (b.slots second) b.memory)
-    (compute_run p to o first second v here f b room has.0 has.1 has.2 at h code)
-instruction_run p k (instructions.Jump label) v here f b room has near at h code =
+    (compute_run p to o first second v here f b room has.0 has.1 has.2 kept arrived at h code)
+instruction_run p k (instructions.Jump label) v here f b room has kept arrived near at h code =
     record {
       least = omega arith;
       most = omega arith;
@@ -130,7 +133,8 @@ instruction_run p k (instructions.Jump label) v here f b room has near at h code
           (subst (λ a. IsNear a (k.label label)) (sym (jump_template p.layout here label)) near) h
           code;
     }
-instruction_run p k (instructions.JumpIfZero slot label) v here f b room has near at h code =
+instruction_run p k (instructions.JumpIfZero slot label) v here f b room has kept arrived near at h
+    code =
     let e : sizes (test_code p.layout slot) + 6
     ≡ template_size p.layout (instructions.JumpIfZero slot label) = sym
     (jump_if_zero_size p.layout slot here (k.label label))
@@ -138,9 +142,10 @@ instruction_run p k (instructions.JumpIfZero slot label) v here f b room has nea
     let z : here + template_size p.layout (instructions.JumpIfZero slot label)
     ≡ here + sizes (test_code p.layout slot) + 6 = omega arith in
     branch_done p k slot label v here f b (eqb (b.slots slot) 0)
-    (jump_if_zero_comes p slot v here (k.label label) f b (eqb (b.slots slot) 0) refl room has at
+    (jump_if_zero_comes p slot v here (k.label label) f b (eqb (b.slots slot) 0) refl room has
+    arrived at
     (subst (λ a. IsNear a (k.label label)) z near) h code)
-instruction_run p k instructions.Separator v here f b room has near at h code =
+instruction_run p k instructions.Separator v here f b room has kept arrived near at h code =
     record {
       least = omega arith;
       most = omega arith;
@@ -148,14 +153,19 @@ instruction_run p k instructions.Separator v here f b room has near at h code =
           (template_sizes k p.layout here instructions.Separator)
           (separator_run p v here f b h code);
     }
-instruction_run p k (instructions.Information to field) v here f b room has near at h code = tt
-instruction_run p k (instructions.Landing to) v here f b room has near at h code = tt
-instruction_run p k (instructions.Call function first count) v here f b room has near at h code = tt
-instruction_run p k (instructions.CallBuiltIn function first) v here f b room has near at h code =
+instruction_run p k (instructions.Information to field) v here f b room has kept arrived near at h
+    code = tt
+instruction_run p k (instructions.Landing to) v here f b room has kept arrived near at h code = tt
+instruction_run p k (instructions.Call function first count) v here f b room has kept arrived near
+    at h code = tt
+instruction_run p k (instructions.CallBuiltIn function first) v here f b room has kept arrived near
+    at h code =
     tt
-instruction_run p k (instructions.CallFinally funclet) v here f b room has near at h code = tt
-instruction_run p k (instructions.LocalUnwind label) v here f b room has near at h code = tt
-instruction_run p k (instructions.Return from) v here f b room has near at h code = tt
+instruction_run p k (instructions.CallFinally funclet) v here f b room has kept arrived near at h
+    code = tt
+instruction_run p k (instructions.LocalUnwind label) v here f b room has kept arrived near at h code
+    = tt
+instruction_run p k (instructions.Return from) v here f b room has kept arrived near at h code = tt
 
 -- ---- inside a body
 
@@ -202,17 +212,19 @@ pub body_instruction_run : (p : FramePlace) (k : Links) (start : ℕ) (body : Li
     (number : ℕ) (v : MachineView) (f : Flags) (b : BodyState) → Roomy p
     → HasLabels k p.layout start body → body_size p.layout body < 2 ^ 31
     → start + body_size p.layout body < 2 ^ 48 → number < length body
-    → HasSlots p.counts (get_or body number instructions.Separator) → sp_of v ≡ p.sp
+    → HasSlots p.counts (get_or body number instructions.Separator)
+    → KeepsArrivals p.layout (get_or body number instructions.Separator) → AreArrived p v
+    → sp_of v ≡ p.sp
     → FrameHolds p v.locals v.memory b → HasCode v.memory start (code_from k p.layout start body)
     → InstructionDone p k v (start + offset_of p.layout body number) f b
     (get_or body number instructions.Separator)
     (step p.reserved (get_or body number instructions.Separator) b)
-body_instruction_run p k start body number v f b room is small high lt has at h code =
+body_instruction_run p k start body number v f b room is small high lt has kept arrived at h code =
     let y = p.layout in
     let instruction = get_or body number instructions.Separator in
     let here = start + offset_of y body number in
     let next = offset_next y body number instructions.Separator lt in
     let most = body_most y body (suc number) in
-    instruction_run p k instruction v here f b room has
+    instruction_run p k instruction v here f b room has kept arrived
     (labels_near k y start body number instruction is high small (omega arith)) at h
     (template_placed k y v.memory start body number instructions.Separator code lt)

@@ -1,7 +1,7 @@
 -- Jumps come to their labels.
 use Rattle.x64_templates.proofs.Lemmas.{arrives, short, jump_if_size, sizes_append}
 use Rattle.std.proofs.Common.{◌≡◌, ℕ, ◌+◌, ◌-◌, ◌%◌, ◌^◌, ◌<◌, Bool, true, false, cond, eqb, [], ◌∷◌, ◌++◌, length, Ok, refl, sym, ap, subst, ◌∙◌, arith, length-append}
-use Rattle.x64_templates.specs.Words.{W64, low, Memory, Rax, Relative, Instr, chosen, is_encodable, Flags, subtracted, State, effect, Slot, BodyState, takes_frame, MachineView, machine, size, sizes, fetch, distance, jump_equal, jump_code, compare_zero, test_code, jump_if_zero_code, separator_code, IsNear, IsBytes, Reaches, HasCode, FramePlace, Roomy, FrameHolds, IsThere, ReachesBody, jump, local_in}
+use Rattle.x64_templates.specs.Words.{W64, low, Memory, Rax, Relative, Instr, chosen, is_encodable, Flags, subtracted, State, effect, Slot, BodyState, takes_frame, MachineView, machine, size, sizes, fetch, distance, jump_equal, jump_code, compare_zero, test_code, jump_if_zero_code, separator_code, IsNear, IsBytes, Reaches, HasCode, FramePlace, Roomy, FrameHolds, AreArrived, IsThere, ReachesBody, jump, local_in}
 use Rattle.x64_instr.specs.declared.instruction.Condition.TheVariants as conditions
 use Rattle.x64_instr.specs.declared.instruction.Instr.TheVariants as instrs
 use Rattle.x64_templates.proofs.PlacedCode.{bytes_split, reaches_then}
@@ -121,12 +121,12 @@ three_then l m n s t u w a b c = reaches_then l (m + n) s t w a (reaches_then m 
 
 pub jump_if_zero_comes : (p : FramePlace) (slot : Slot) (v : MachineView) (rip to : ℕ) (f : Flags)
     (b : BodyState) (z : Bool) → eqb (b.slots slot) 0 ≡ z → Roomy p → IsThere p slot
-    → sp_of v ≡ p.sp → IsNear (rip + sizes (test_code p.layout slot) + 6) to
+    → AreArrived p v → sp_of v ≡ p.sp → IsNear (rip + sizes (test_code p.layout slot) + 6) to
     → FrameHolds p v.locals v.memory b → HasCode v.memory rip
     (jump_if_zero_code p.layout slot rip to)
     → ReachesBody p (length (jump_if_zero_code p.layout slot rip to)) (machine v rip f)
     (cond z to (rip + sizes (test_code p.layout slot) + 6)) v.rest v.locals b
-jump_if_zero_comes p slot v rip to f b z e room is at near h code =
+jump_if_zero_comes p slot v rip to f b z e room is here at near h code =
     let y = p.layout in
     let first = fetch y Rax slot in
     let there = rip + sizes (test_code y slot) in
@@ -136,7 +136,7 @@ jump_if_zero_comes p slot v rip to f b z e room is at near h code =
     let parts' = code_split v.memory (rip + sizes first) (compare_zero ∷ []) (branch ∷ [])
     parts.1 in
     let r = runs_view first v w rip f (fetch_fine y p.counts p.sp p.base true slot room is) parts.0
-    (fetch_does y p.counts p.reserved p.sp p.base room true slot v b is at h) in
+    (fetch_does y p.counts p.reserved p.sp p.base p.arrived room true slot v b is here at h) in
     let t = test_comes w (rip + sizes first) r.left parts'.0 in
     let mid : rip + sizes first + size compare_zero
     ≡ there = omega (arith, sizes_append first (compare_zero ∷ [])) in

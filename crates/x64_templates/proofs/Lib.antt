@@ -11,6 +11,7 @@ pub mod Pures
 pub mod Divisions
 pub mod Accesses
 pub mod Implements
+pub mod Operands
 pub mod Cells
 pub mod Bodies
 pub mod Encoded
@@ -26,6 +27,7 @@ pub mod Parameters
 pub mod Funclets
 pub mod Information
 pub mod Flows
+pub mod SparedRegisters
 pub mod Entering
 pub mod Stretches
 pub mod Retries

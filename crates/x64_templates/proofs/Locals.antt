@@ -1,12 +1,12 @@
 -- What moves between RAX, RCX and the registers of locals do.
-use Rattle.std.proofs.Common.{◌≡◌, ℕ, ◌+◌, ◌%◌, ◌^◌, ◌<◌, true, List, [], ◌∷◌, None, Ok, refl, sym, ap, ◌∙◌, arith}
+use Rattle.std.proofs.Common.{◌≡◌, ℕ, ◌+◌, ◌%◌, ◌^◌, ◌<◌, ◌==◌, Bool, true, false, cond, List, [], ◌∷◌, None, Ok, refl, sym, ap, ◌∙◌, arith}
 use Rattle.std.specs.Prelude.{slice_index, slice_set}
 use Rattle.flat_memory.specs.declared.protection.TheConstants.{UNMAPPED}
 use Rattle.x64_instr.specs.Registers.{number, register}
 use Rattle.x64_instr.specs.declared.register.Reg.TheVariants.{Rbx, Rbp, Rsi, Rdi, R12, R13, R14, R15}
 use Rattle.template_code.specs.declared.layout.TheConstants.{LOCAL_REGISTERS}
 use Rattle.template_code.proofs.Places.{Each, place_register}
-use Rattle.x64_templates.specs.Words.{W64, low, first_refused, may_read, number_at, Reg, Rax, Rcx, Rdx, Rsp, R8, R9, R10, R11, Flags, ◌>>=◌, Answer, State, load, effect, Layout, LocalRegisters, MachineView, machine, registers_of, Executes, move, fetched, InRegister, InFrame, place_of, KeepsUnused}
+use Rattle.x64_templates.specs.Words.{W64, low, first_refused, may_read, number_at, Reg, Rax, Rcx, Rdx, Rsp, R8, R9, R10, R11, Flags, ◌>>=◌, Answer, State, load, effect, Layout, LocalRegisters, MachineView, machine, registers_of, arriving, Executes, move, fetched, InRegister, place_of, KeepsUnused}
 use Rattle.x64_templates.specs.Locals.{is_of_local, local_in, with_local, LocalsAreFetched, LocalsAreKept}
 use Rattle.x64_templates.proofs.Keeping.{index_other}
 use Rattle.x64_templates.proofs.PlacedCode.{load_at}
@@ -39,13 +39,34 @@ local_held v R9 e = absurd cc
 local_held v R10 e = absurd cc
 local_held v R11 e = absurd cc
 
-pub locals_are_fetched : LocalsAreFetched
-locals_are_fetched r v rip f is lt =
-    let e = twice (local_in v.locals r) (slice_index (registers_of v) (number r))
-    (local_held v r is) lt in (
+-- a move from any register to RAX, or to RCX
+pub register_fetched : (r : Reg) (v : MachineView) (rip : ℕ) (f : Flags) (x : ℕ)
+    → slice_index (registers_of v) (number r) ≡ x → x < 2 ^ 64
+    → (effect (machine v rip f) (move W64 Rax r) ≡ Ok (machine (record v { rax = x }) rip f))
+    × (effect (machine v rip f) (move W64 Rcx r) ≡ Ok (machine (record v { rcx = x }) rip f))
+register_fetched r v rip f x is lt =
+    let e = twice x (slice_index (registers_of v) (number r)) is lt in (
       ap (λ (x : ℕ). let o : Answer State = Ok (machine (record v { rax = x }) rip f) in o) e,
       ap (λ (x : ℕ). let o : Answer State = Ok (machine (record v { rcx = x }) rip f) in o) e,
     )
+
+pub locals_are_fetched : LocalsAreFetched
+locals_are_fetched r v rip f is lt =
+    register_fetched r v rip f (local_in v.locals r) (local_held v r is) lt
+
+-- a number in RAX changes no other register
+pub arriving_beside : (v : MachineView) (x i : ℕ)
+    → arriving (record v { rax = x }) i ≡ arriving v i
+arriving_beside v x i = by (i == 0) (i == 1) (i == 2)
+  where
+    by : (a b c : Bool)
+        → slice_index (registers_of (record v { rax = x }))
+        (number (cond a Rcx (cond b Rdx (cond c R8 R9))))
+        ≡ slice_index (registers_of v) (number (cond a Rcx (cond b Rdx (cond c R8 R9))))
+    by true b c = refl
+    by false true c = refl
+    by false false true = refl
+    by false false false = refl
 
 -- a number goes to a register of a local
 abbrev put_local : (v : MachineView) (r : Reg) (rip : ℕ) (f : Flags) → ℕ → Answer State
@@ -227,11 +248,10 @@ pub unused_then : (y : Layout) (a b c : LocalRegisters) → KeepsUnused y a b �
 unused_then y a b c p q = λ r is free. q r is free ∙ p r is free
 
 -- with none in use they are all as they were
-pub locals_stay : (y : Layout) (a b : LocalRegisters) → ((i : ℕ) → place_of y i ≡ InFrame)
-    → KeepsUnused y a b → b ≡ a
-locals_stay y a b framed h =
-    let free = λ (r : Reg) (i : ℕ) (e : place_of y i ≡ InRegister r). let z : ⊥ = never r
-    (sym (framed i) ∙ e) in z in
+pub locals_stay : (y : Layout) (a b : LocalRegisters)
+    → ((i : ℕ) (r : Reg) → place_of y i ≡ InRegister r → ⊥) → KeepsUnused y a b → b ≡ a
+locals_stay y a b none h =
+    let free = λ (r : Reg) (i : ℕ) (e : place_of y i ≡ InRegister r). none i r e in
     λ j. record {
       rbx = h Rbx refl (free Rbx) j;
       rsi = h Rsi refl (free Rsi) j;
@@ -241,6 +261,3 @@ locals_stay y a b framed h =
       r14 = h R14 refl (free R14) j;
       r15 = h R15 refl (free R15) j;
     }
-  where
-    never : (r : Reg) → InFrame ≡ InRegister r → ⊥
-    never r e = absurd cc

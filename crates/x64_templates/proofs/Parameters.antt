@@ -2,10 +2,11 @@
 use Rattle.std.proofs.Common.{◌≡◌, ℕ, zero, suc, ◌+◌, ◌%◌, ◌^◌, ◌<◌, ◌≤◌, true, cond, [], ◌∷◌, None, refl, sym, ap, subst, ◌∙◌, arith, inl, inr}
 use Rattle.std.specs.Prelude.{◌⊎◌, slice_index}
 use Rattle.std.proofs.lemmas.Bool.{cases_lt, lt-ltb, le-ltb}
-use Rattle.x64_templates.specs.Words.{W64, low, Protection, is_readable, Memory, first_refused, may_read, may_write, with_number, with_bytes, Reg, Rax, Rsp, number, store, Local, BodyState, with_slot, registers_of, MachineView, machine, Executes, fetched, local_at, parameter_register, keep_register, stack_parameter, parameter_code, parameters_code, sp_of, slot_at, InTemporaries, InLocals, with_arguments, InRegisters, OnStack, IsFunctionFrame, FramePlace, Roomy, FrameHolds, ChangesOwn, move, LocalRegisters, is_of_local, with_local, Place, InRegister, InFrame, place_of, parameter_placed, KeepsUnused}
+use Rattle.x64_templates.specs.Words.{W64, low, Protection, is_readable, Memory, first_refused, may_read, may_write, with_number, with_bytes, Reg, Rax, Rsp, number, store, Local, BodyState, with_slot, registers_of, MachineView, machine, Executes, fetched, local_at, parameter_register, keep_register, stack_parameter, parameter_code, parameters_code, sp_of, slot_at, InTemporaries, InLocals, with_arguments, InRegisters, OnStack, IsFunctionFrame, FramePlace, Roomy, FrameHolds, ChangesOwn, move, LocalRegisters, is_of_local, with_local, Place, InRegister, InFrame, Arriving, place_of, parameter_placed, KeepsUnused}
 use Rattle.x64_templates.proofs.PlacedCode.{all_may, same_number, store_at}
 use Rattle.x64_templates.proofs.Straight.{executes_one, executes_then, executes_nothing}
 use Rattle.x64_templates.proofs.Cells.{put, from_sp, may_write_slot}
+use Rattle.template_code.proofs.Places.{arriving_low}
 use Rattle.x64_templates.proofs.Locals.{moved_to_local, loaded_to_local, place_is_local, unused_same, unused_then}
 use Rattle.x64_templates.proofs.Bodies.{kept_in, locals_placed, memory_placed, unused_slot, holds_after, changes_slot, changes_then}
 use Rattle.x64_templates.proofs.Calls.{word_is}
@@ -65,7 +66,8 @@ framed_does : (p : FramePlace) (i count : ℕ) (v : MachineView) (b : BodyState)
 framed_does p i count v b arguments room fn lc ll at h regs stack =
     let y = p.layout in
     let to = slot_at y p.sp p.base (Local i) in
-    let may = may_write_slot y p.counts p.reserved p.sp p.base room v.locals v.memory b (Local i) h
+    let may = may_write_slot y p.counts p.reserved p.sp p.base p.arrived room v.locals v.memory b
+    (Local i) h
     ll in
     let e = local_address p i (sp_of v) room fn ll at in
     let in_register = keep_register (parameter_register i) (local_at y i) ∷ [] in
@@ -139,6 +141,8 @@ parameter_does p i count v b arguments room fn lc ll at h regs stack =
     by : (q : Place) → place_of p.layout i ≡ q → KeptPlaced p i q v (arguments i)
     by (InRegister r) e = register_does p i count r v arguments room (place_is_local p.layout i r e)
         lc at regs stack
+    by Arriving e =
+        let low = arriving_low p.layout i e in let none = fn.none_arrive in absurd (omega arith)
     by InFrame e = framed_does p i count v b arguments room fn lc ll at h regs stack
 
 -- ---- all of them
@@ -204,9 +208,11 @@ parameters_do p i (suc n) count v b arguments room fn lc ll at h regs stack =
     let w : MachineView = record (kept_in y p.sp p.base v x (Local i)) { rax = k.rax } in
     let m = w.memory in
     let c : BodyState = record { slots = with_slot b.slots (Local i) x; memory = b.memory } in
-    let ch = changes_slot y p.counts p.reserved p.sp p.base room v.memory (Local i) x il in
-    let hold = holds_after y p.counts p.reserved p.sp p.base room v.locals v.memory b (Local i) x h
-    il lt in
+    let ch = changes_slot y p.counts p.reserved p.sp p.base p.arrived room v.memory (Local i) x il
+    in
+    let none = fn.none_arrive in
+    let hold = holds_after y p.counts p.reserved p.sp p.base p.arrived room v.locals v.memory b
+    (Local i) x h il (let late : y.arrivals ≤ i = omega arith in late) lt in
     let r = parameters_do p (i + 1) n count w c arguments room fn (omega arith) (omega arith) at
     hold (record {
       first = regs.first;
@@ -223,7 +229,8 @@ parameters_do p i (suc n) count v b arguments room fn lc ll at h regs stack =
           k.does
           r.does;
       unused = unused_then y v.locals w.locals r.locals
-          (unused_slot y p.counts p.reserved p.sp p.base room v.locals (Local i) x) r.unused;
+          (unused_slot y p.counts p.reserved p.sp p.base p.arrived room v.locals (Local i) x)
+          r.unused;
       holds = r.holds;
       changes = changes_then y p.counts p.reserved p.sp p.base v.memory m r.memory ch r.changes;
     }

@@ -1,6 +1,6 @@
 -- A fault in a body, and the operation made again.
 use Rattle.std.proofs.Common.{◌≡◌, ℕ, suc, ◌+◌, ◌^◌, ◌<◌, ◌≤◌, Bool, List, ◌++◌, length, get_or, Option, Some, sym, ap, subst, ◌∙◌, arith, length-append}
-use Rattle.x64_templates.specs.Words.{OtherRegisters, Code, Flags, Slot, Instruction, Operation, BodyState, with_slot, OperationResult, Gives, Raises, Undefined, performed, InstructionEffect, Faults, step, run, HasSlots, Layout, MachineView, machine, sizes, operands_code, finish_code, Links, template, template_size, offset_of, HasOperands, HasCode, FramePlace, Roomy, FrameHolds, ChangesOwn, ReachesBody, Finished, InstructionDone, IsLinked, ReachesFault, KeepsUnused}
+use Rattle.x64_templates.specs.Words.{OtherRegisters, Code, Flags, Slot, Instruction, Operation, BodyState, with_slot, OperationResult, Gives, Raises, Undefined, performed, InstructionEffect, Faults, step, run, HasSlots, Layout, MachineView, machine, sizes, operands_code, finish_code, Links, template, template_size, offset_of, HasOperands, HasCode, FramePlace, Roomy, FrameHolds, AreArrived, SparesArrivals, IsKept, KeepsArrivals, ChangesOwn, ReachesBody, Finished, InstructionDone, IsLinked, ReachesFault, KeepsUnused}
 use Rattle.x64_templates.proofs.PlacedCode.{reaches_then}
 use Rattle.linear_code.specs.declared.instruction.Instruction.TheVariants as instructions
 use Rattle.x64_templates.proofs.Lemmas.{sizes_append, compute_length, template_sizes, offset_next}
@@ -31,22 +31,23 @@ few_operands y to o first second = let l = compute_length y to o first second in
 pub body_faults : (p : FramePlace) (k : Links) (start : ℕ) (body : List Instruction) (n number : ℕ)
     (v : MachineView) (f : Flags) (b : BodyState) (last : ℕ) (c : BodyState)
     (to first second : Slot) (o : Operation) (code : Code) (access : Option (Bool × ℕ)) → Roomy p
-    → IsLinked p k v.memory start body → sp_of v ≡ p.sp → FrameHolds p v.locals v.memory b
+    → SparesArrivals p.layout body → IsLinked p k v.memory start body → AreArrived p v
+    → sp_of v ≡ p.sp → FrameHolds p v.locals v.memory b
     → run p.reserved body n number b ≡ Some (last, c) → last < length body
     → get_or body last instructions.Separator ≡ instructions.Compute to o first second
     → step p.reserved (instructions.Compute to o first second) c ≡ Faults code access
     → FaultsAfter p n v (start + offset_of p.layout body number) f
     (start + offset_of p.layout body last + sizes (operands_code p.layout o first second)) o
     (c.slots first) (c.slots second) code access c
-body_faults p k start body n number v f b last c to first second o code access room l at h runs lt
-    is e =
-    let g = body_runs p k start body n room number v f b last c l at h runs in
+body_faults p k start body n number v f b last c to first second o code access room sparing l
+    arrived at h runs lt is e =
+    let g = body_runs p k start body n room sparing number v f b last c l arrived at h runs in
     let w = g.follows.after in
     let here = start + offset_of p.layout body last in
     let l' = linked_stays p k v.locals v.memory w.memory start body b g.follows.changes h l in
     let at' = ap (λ (r : OtherRegisters). r.rsp) g.follows.rest ∙ at in
     let done = body_instruction_run p k start body last w g.follows.flags c room l'.labels l'.small
-    l'.high lt (l'.slots last lt) at' g.follows.holds l'.code in
+    l'.high lt (l'.slots last lt) (l'.kept last lt) g.arrived at' g.follows.holds l'.code in
     let instruction = get_or body last instructions.Separator in
     let r = refused p k instruction to first second o w here g.follows.flags c
     (step p.reserved instruction c) code access is
@@ -103,7 +104,9 @@ body_retries p k start body number v f b to first second o x y room l lt is lx l
     let parts = code_split v.memory here ops fin code in
     let has : HasSlots p.counts (instructions.Compute to o first second) = subst
     (λ instruction. HasSlots p.counts instruction) is (l.slots number lt) in
-    let g = finish_run p o to v (here + sizes ops) f b x y room has.0 lx ly waits at h parts.1 in
+    let kept : IsKept p.layout to = subst (KeepsArrivals p.layout) is (l.kept number lt) in
+    let g = finish_run p o to v (here + sizes ops) f b x y room has.0 kept lx ly waits at h
+    parts.1 in
     let s : sizes (ops ++ fin) ≡ template_size p.layout
     (get_or body number instructions.Separator) = template_sizes k p.layout here
     (instructions.Compute to o first second) ∙ sym (ap (template_size p.layout) is) in

@@ -11,7 +11,7 @@ use Rattle.frame_rules.proofs.Undoing.{framed_saved, saved_register}
 use Rattle.virtual_unwind.specs.Contexts.{is_nonvolatile}
 use Rattle.x64_templates.specs.Straight.{registers_of}
 use Rattle.x64_templates.proofs.EpilogueRuns.{epilogue_leaves}
-use Rattle.x64_templates.specs.Words.{W64, low, Memory, may_read, Rax, Flags, ◌>>=◌, State, Answer, with_rip, load, effect, Slot, BodyState, with_slot, MachineView, machine, sizes, fetch, keep, sp_of, HasBack, moved, Reaches, HasCode, FramePlace, Roomy, FrameHolds, IsThere, ReachesBody, return_code, Returned}
+use Rattle.x64_templates.specs.Words.{W64, low, Memory, may_read, Rax, Flags, ◌>>=◌, State, Answer, with_rip, load, effect, Slot, BodyState, with_slot, MachineView, machine, sizes, fetch, keep, sp_of, HasBack, moved, Reaches, HasCode, FramePlace, Roomy, FrameHolds, AreArrived, IsKept, IsThere, ReachesBody, return_code, Returned}
 use Rattle.x64_instr.specs.declared.instruction.Instr.TheVariants as instrs
 use Rattle.x64_templates.proofs.PlacedCode.{all_may, load_at, reaches_then}
 use Rattle.x64_templates.proofs.Straight.{executes_nothing}
@@ -28,12 +28,13 @@ pub record Outlasts (reserved : ℕ → Bool) (sp : ℕ) (m m' : Memory) : Type 
 -- ---- after a call: RAX goes to its slot
 
 pub call_ends : (p : FramePlace) (to : Slot) (v : MachineView) (at : ℕ) (f : Flags) (b : BodyState)
-    → Roomy p → IsThere p to → v.rax < 2 ^ 64 → sp_of v ≡ p.sp → FrameHolds p v.locals v.memory b
+    → Roomy p → IsThere p to → IsKept p.layout to → v.rax < 2 ^ 64 → sp_of v ≡ p.sp
+    → FrameHolds p v.locals v.memory b
     → HasCode v.memory at (keep p.layout to) → ReachesBody p (length (keep p.layout to))
     (machine v at f) (at + sizes (keep p.layout to)) v.rest v.locals
     (record { slots = with_slot b.slots to v.rax; memory = b.memory })
-call_ends p to v at f b room is small sp h code =
-    leads_kept p [] to v at f b v.rax b.memory tt room is sp h code
+call_ends p to v at f b room is kept small sp h code =
+    leads_kept p [] to v at f b v.rax b.memory tt room is kept sp h code
     (record {
       after = v.memory;
       yields = record {
@@ -68,13 +69,13 @@ return_effect v sp back next f e high b =
 -- RAX is fetched, and the epilogue is run
 pub return_run : (p : FramePlace) (from : Slot) (v : MachineView) (old : ℕ → ℕ) (back rip : ℕ)
     (f : Flags) (b : BodyState) → let plan = plan_of_layout p.layout 0 in
-    Roomy p → IsThere p from → sp_of v ≡ p.sp → FrameHolds p v.locals v.memory b
+    Roomy p → IsThere p from → AreArrived p v → sp_of v ≡ p.sp → FrameHolds p v.locals v.memory b
     → IsPlan plan → old 4 < 2 ^ 47 → ((r : ℕ) → old r < 2 ^ 64)
     → HoldsFrame plan.frame plan.distance v.memory old back (registers (machine v rip f))
     (operations_of plan) (operations_of plan)
     → HasCode v.memory rip (return_code p.layout from)
     → Returned (length (return_code p.layout from)) (machine v rip f) old back (b.slots from)
-return_run p from v old back rip f b room is at h is_plan high fits holds code =
+return_run p from v old back rip f b room is here at h is_plan high fits holds code =
     let y = p.layout in
     let plan = plan_of_layout y 0 in
     let first = fetch y Rax from in
@@ -82,7 +83,7 @@ return_run p from v old back rip f b room is at h is_plan high fits holds code =
     let last = epilogue plan in
     let parts = code_split v.memory rip first last code in
     let r = runs_view first v w rip f (fetch_fine y p.counts p.sp p.base true from room is) parts.0
-    (fetch_does y p.counts p.reserved p.sp p.base room true from v b is at h) in
+    (fetch_does y p.counts p.reserved p.sp p.base p.arrived room true from v b is here at h) in
     let s = machine v rip f in
     let t = machine w (rip + sizes first) r.left in
     let same : (q : ℕ) → is_nonvolatile q ≡ true → registers t q ≡ registers s q = λ q nv.

@@ -1,6 +1,6 @@
 -- Worked templates, computed down to bytes.
-use Rattle.std.proofs.Common.{false, ◌≡◌, List, [], ◌∷◌, length, None, Some, refl}
-use Rattle.x64_templates.specs.Words.{modrm, spelled, Int, Signed, Local, Temporary, Instruction, Layout, size, compute_code, jump_code, template_size, offset_of}
+use Rattle.std.proofs.Common.{false, ◌≡◌, List, [], ◌∷◌, ◌++◌, length, None, Some, refl}
+use Rattle.x64_templates.specs.Words.{W32, modrm, opcode_register, spelled, parameters_code, return_code, Int, Signed, Local, Temporary, Instruction, Layout, size, compute_code, jump_code, template_size, offset_of}
 use Rattle.template_code.specs.declared.layout.TheConstants.{NO_REGISTERS}
 use Rattle.c_operations.specs.declared.operation.Pure.TheVariants as pures
 use Rattle.c_operations.specs.declared.operation.Operation.TheVariants as operations
@@ -17,6 +17,7 @@ function_layout = record {
   slots = 312;
   frame = 312;
   registers = NO_REGISTERS;
+  arrivals = 0;
   size = 312;
   pushes = 0;
   saves = 0;
@@ -32,6 +33,7 @@ block_layout = record {
   slots = 152;
   frame = 152;
   registers = NO_REGISTERS;
+  arrivals = 0;
   size = 152;
   pushes = 0;
   saves = 0;
@@ -48,6 +50,7 @@ register_layout = record {
   slots = 312;
   frame = 312;
   registers = Some 0 ∷ Some 3 ∷ None ∷ None ∷ None ∷ None ∷ None ∷ [];
+  arrivals = 0;
   size = 312;
   pushes = 0;
   saves = 0;
@@ -78,10 +81,54 @@ quotient_of_slots : spelled (compute_code block_layout (Temporary 0) (operations
 unfolding block_layout modrm
 quotient_of_slots = refl
 
--- in a block a local is reached through the base: mov rax,[rsp+32] ; mov rax,[rax+256], and so for
--- each slot
+-- one operand is fetched where the operation has no other: mov rax,[rsp+264] ; neg eax ;
+-- mov [rsp+256],rax
+negative_of_slot : spelled (compute_code function_layout (Local 0) (operations.Pure
+    (pures.Negate Int)) (Local 1) (Temporary 0)) ≡ 0x48 ∷ 0x8B ∷ 0x84 ∷ 0x24 ∷ 0x08 ∷ 0x01 ∷ 0x00
+    ∷ 0x00 ∷ 0xF7 ∷ 0xD8 ∷ 0x48 ∷ 0x89 ∷ 0x84 ∷ 0x24 ∷ 0x00 ∷ 0x01 ∷ 0x00 ∷ 0x00 ∷ []
+unfolding function_layout modrm
+negative_of_slot = refl
+
+-- and none for a constant: mov rax,5 ; mov [rsp+256],rax
+constant_to_slot : spelled (compute_code function_layout (Local 0) (operations.Pure
+    (pures.Constant 5)) (Temporary 0) (Temporary 0)) ≡ 0x48 ∷ 0xB8 ∷ 0x05 ∷ 0x00 ∷ 0x00 ∷ 0x00
+    ∷ 0x00 ∷ 0x00 ∷ 0x00 ∷ 0x00 ∷ 0x48 ∷ 0x89 ∷ 0x84 ∷ 0x24 ∷ 0x00 ∷ 0x01 ∷ 0x00 ∷ 0x00 ∷ []
+unfolding function_layout modrm opcode_register
+constant_to_slot = refl
+
+-- a leaf function of two parameters, which stay in RCX and RDX, and a temporary in the home space
+leaf_layout : Layout
+leaf_layout = record {
+  base = None;
+  pointers = 0;
+  locals = 8;
+  temporaries = 24;
+  slots = 0;
+  frame = 0;
+  registers = NO_REGISTERS;
+  arrivals = 2;
+  size = 0;
+  pushes = 0;
+  saves = 0;
+  framed = false;
+}
+
+-- mov rax,rdx ; mov eax,[rax] ; mov [rsp+24],rax
+load_of_parameter : spelled (compute_code leaf_layout (Temporary 0) (operations.Load W32) (Local 1)
+    (Local 1)) ≡ 0x48 ∷ 0x89 ∷ 0xD0 ∷ 0x8B ∷ 0x40 ∷ 0x00 ∷ 0x48 ∷ 0x89 ∷ 0x44 ∷ 0x24 ∷ 0x18 ∷ []
+unfolding leaf_layout modrm
+load_of_parameter = refl
+
+-- nothing is stored where it begins; return of its first parameter: mov rax,rcx ; ret
+parameters_stay : spelled (parameters_code leaf_layout 0 2 ++ return_code leaf_layout (Local 0))
+    ≡ 0x48 ∷ 0x89 ∷ 0xC8 ∷ 0xC3 ∷ []
+unfolding leaf_layout modrm
+parameters_stay = refl
+
+-- in a block a local is reached through the base: mov rax,[rsp+32] ; mov rax,[rax+256], and
+-- mov rcx,[rsp+32] ; mov [rcx+256],rax
 local_of_a_block : length (compute_code block_layout (Local 0) (operations.Pure pures.First)
-    (Local 0) (Local 1)) ≡ 6
+    (Local 0) (Local 1)) ≡ 4
 unfolding block_layout
 local_of_a_block = refl
 

@@ -23,6 +23,7 @@ function_place = record {
     slots = 192;
     frame = 200;
     registers = NO_REGISTERS;
+    arrivals = 0;
     size = 200;
     pushes = 0;
     saves = 0;
@@ -32,6 +33,7 @@ function_place = record {
   reserved = λ a. true;
   sp = 0x707FF000;
   base = 0x707FF000;
+  arrived = λ i. 0;
 }
 
 -- a block, one page below, keeps the base 24 above its RSP
@@ -45,6 +47,7 @@ block_place = record {
     slots = 192;
     frame = 200;
     registers = NO_REGISTERS;
+    arrivals = 0;
     size = 200;
     pushes = 0;
     saves = 0;
@@ -54,6 +57,7 @@ block_place = record {
   reserved = λ a. true;
   sp = 0x707FE000;
   base = 0x707FF000;
+  arrived = λ i. 0;
 }
 
 function_room : Roomy function_place
@@ -78,6 +82,7 @@ block_room = record {
 
 function_is : IsFunctionFrame function_place
 function_is = record {
+  none_arrive = refl;
   base = refl;
   temporaries = omega arith;
   locals = omega arith;
@@ -117,6 +122,7 @@ plain_small R11 = omega arith
 function_bare : FreshFrame function_place plain_registers plain_memory plain_memory
 function_bare = record {
   small = plain_small;
+  arrived = λ i. (let z : 0 < 2 ^ 64 = omega arith in z);
   bytes = λ a. (let z : 0 < 256 = omega arith in z);
   writable = λ a is. refl;
   own = λ a is. refl;
@@ -126,6 +132,6 @@ function_bare = record {
 }
 
 function_holds : FrameHolds function_place plain_registers plain_memory
-    (body_in_memory function_place.layout function_place.sp function_place.base plain_registers
-    plain_memory plain_memory)
+    (body_in_memory function_place.layout function_place.sp function_place.base
+    function_place.arrived plain_registers plain_memory plain_memory)
 function_holds = fresh_holds function_place plain_registers plain_memory plain_memory function_bare

@@ -44,19 +44,22 @@ pub record OnStack (p : FramePlace) (m : Memory) (count : ℕ) (arguments : ℕ 
 
 -- a function's frame, all slots of which lie below where slots end, and so below its end
 pub record IsFunctionFrame (p : FramePlace) : Type 0 where
+  pub none_arrive : p.layout.arrivals ≡ 0
   pub base : p.base ≡ p.sp
   pub temporaries : p.layout.temporaries + 8 * p.counts.temporaries ≤ p.layout.slots
   pub locals : p.layout.locals + 8 * p.counts.locals ≤ p.layout.slots
   pub within : p.layout.slots ≤ p.layout.frame
 
 -- the body whose slots hold what registers and memory have at their places
-abbrev pub body_in_memory : Layout → (sp base : ℕ) → LocalRegisters → Memory → Memory → BodyState
-body_in_memory y sp base locals m source =
-    record { slots = number_in y sp base locals m; memory = source }
+abbrev pub body_in_memory : Layout → (sp base : ℕ) → (arrived : ℕ → ℕ) → LocalRegisters → Memory
+    → Memory → BodyState
+body_in_memory y sp base arrived locals m source =
+    record { slots = number_in y sp base arrived locals m; memory = source }
 
 -- a frame's memory, and the registers of locals, before its body begins
 pub record FreshFrame (p : FramePlace) (locals : LocalRegisters) (m source : Memory) : Type 0 where
   pub small : (r : Reg) → local_in locals r < 2 ^ 64
+  pub arrived : (i : ℕ) → p.arrived i < 2 ^ 64
   pub bytes : IsBytes m
   pub writable : (a : ℕ) → InTemporaries p.layout p.counts p.sp a
       ⊎ InLocals p.layout p.counts p.base a → may_write m a ≡ true

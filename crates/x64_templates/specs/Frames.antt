@@ -1,5 +1,5 @@
 -- How the slots of a body and the source's memory are in the machine's memory.
-use Rattle.std.specs.Prelude.{◌≡◌, ℕ, ◌+◌, ◌*◌, ◌^◌, ◌<◌, ◌≤◌, Bool, true, false, ◌⊎◌, Option, Some, None}
+use Rattle.std.specs.Prelude.{◌≡◌, ℕ, ◌+◌, ◌*◌, ◌^◌, ◌<◌, ◌≤◌, Bool, true, false, ◌⊎◌, Option, Some, None, slice_index}
 use Rattle.flat_memory.specs.Memory.{Memory, number_at, may_write}
 use Rattle.host_layout.specs.Ranges.{in_guard}
 use Rattle.linear_code.specs.declared.slot.Slot.{Slot}
@@ -8,11 +8,12 @@ use Rattle.linear_code.specs.BodyState.{BodyState, Counts}
 use Rattle.linear_code.specs.Meaning.{IsSlot}
 use Rattle.template_code.specs.declared.layout.Layout.{Layout}
 use Rattle.x64_instr.specs.declared.register.Reg.{Reg}
+use Rattle.x64_instr.specs.Registers.{number}
 use Rattle.template_code.specs.declared.layout.Place.{Place}
-use Rattle.template_code.specs.declared.layout.Place.TheVariants.{InRegister, InFrame}
-use Rattle.template_code.specs.Places.{place_of}
+use Rattle.template_code.specs.declared.layout.Place.TheVariants.{InRegister, InFrame, Arriving}
+use Rattle.template_code.specs.Places.{parameter_register, place_of}
 use Rattle.template_code.specs.Slots.{temporary_at, local_at}
-use Rattle.x64_templates.specs.Straight.{LocalRegisters}
+use Rattle.x64_templates.specs.Straight.{LocalRegisters, MachineView, registers_of}
 use Rattle.x64_templates.specs.Locals.{is_of_local, local_in}
 
 -- where a slot's word in the frame is, by RSP and by the base of the activation's frame
@@ -61,20 +62,37 @@ pub record Agrees (reserved : ℕ → Bool) (m source : Memory) : Type 0 where
   pub protection : (a : ℕ) → reserved a ≡ false → m.protection a ≡ source.protection a
   pub guard : (a : ℕ) → in_guard a ≡ true → reserved a ≡ true
 
--- the number in a slot, by its place
-abbrev pub number_placed : Layout → (base : ℕ) → LocalRegisters → Memory → ℕ → Place → ℕ
-number_placed y base locals m i (InRegister r) = local_in locals r
-number_placed y base locals m i InFrame = number_at m.byte 8 (base + local_at y i)
+-- the number in the register in which a parameter arrives
+abbrev pub arriving : MachineView → ℕ → ℕ
+arriving v i = slice_index (registers_of v) (number (parameter_register i))
 
-abbrev pub number_in : Layout → (sp base : ℕ) → LocalRegisters → Memory → Slot → ℕ
-number_in y sp base locals m (Temporary i) = number_at m.byte 8 (sp + temporary_at y i)
-number_in y sp base locals m (Local i) = number_placed y base locals m i (place_of y i)
+-- the parameters that stay in the registers in which they arrive have these numbers there
+abbrev pub HasArrived : Layout → (ℕ → ℕ) → MachineView → Type 0
+HasArrived y arrived v = (i : ℕ) → i < y.arrivals → arriving v i ≡ arrived i
+
+-- a slot to which a result goes: no parameter that stays in its register
+abbrev pub IsKept : Layout → Slot → Type 0
+IsKept y (Temporary i) = Unit {0}
+IsKept y (Local i) = y.arrivals ≤ i
+
+-- the number in a slot, by its place; `arrived` are those of parameters that stay in registers
+abbrev pub number_placed : Layout → (base : ℕ) → (arrived : ℕ → ℕ) → LocalRegisters → Memory → ℕ
+    → Place → ℕ
+number_placed y base arrived locals m i (InRegister r) = local_in locals r
+number_placed y base arrived locals m i InFrame = number_at m.byte 8 (base + local_at y i)
+number_placed y base arrived locals m i Arriving = arrived i
+
+abbrev pub number_in : Layout → (sp base : ℕ) → (arrived : ℕ → ℕ) → LocalRegisters → Memory → Slot
+    → ℕ
+number_in y sp base arrived locals m (Temporary i) = number_at m.byte 8 (sp + temporary_at y i)
+number_in y sp base arrived locals m (Local i) =
+    number_placed y base arrived locals m i (place_of y i)
 
 -- the slots hold their numbers; those of the frame are in memory that may be written and that is
 -- reserved
 pub record HoldsBody (y : Layout) (n : Counts) (reserved : ℕ → Bool) (sp base : ℕ)
-    (locals : LocalRegisters) (m : Memory) (b : BodyState) : Type 0 where
-  pub slot : (x : Slot) → IsSlot n x → number_in y sp base locals m x ≡ b.slots x
+    (arrived : ℕ → ℕ) (locals : LocalRegisters) (m : Memory) (b : BodyState) : Type 0 where
+  pub slot : (x : Slot) → IsSlot n x → number_in y sp base arrived locals m x ≡ b.slots x
   pub small : (x : Slot) → IsSlot n x → b.slots x < 2 ^ 64
   pub kept_base : MemoryKeepsBase y.base sp base m
   pub writable : (a : ℕ) → InTemporaries y n sp a ⊎ InLocals y n base a → may_write m a ≡ true

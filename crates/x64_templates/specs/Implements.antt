@@ -14,6 +14,7 @@ use Rattle.c_operations.specs.declared.operation.Operation.{Operation}
 use Rattle.c_operations.specs.declared.operation.Operation.TheVariants as operations
 use Rattle.c_operations.specs.Numbers.{width}
 use Rattle.c_operations.specs.Performed.{OperationResult, Gives, Raises, Undefined}
+use Rattle.template_code.specs.Operands.{has_first, has_second}
 use Rattle.x64_templates.specs.Straight.{MachineView, machine, Yields}
 use Rattle.x64_templates.specs.Frames.{Agrees, IsBytes}
 
@@ -27,10 +28,10 @@ IsReady (operations.Divide s z) v = low (width z) v.rdx ≡ high_of s (width z) 
 IsReady (operations.Remainder s z) v = low (width z) v.rdx ≡ high_of s (width z) v.rax
 IsReady o v = Unit {0}
 
--- both operands are in their registers, and all that the operation needs beside them
+-- the operands that the operation reads are in their registers, and all that it needs beside them
 pub record HasOperands (o : Operation) (a b : ℕ) (v : MachineView) : Type 0 where
-  pub first : v.rax ≡ a
-  pub second : v.rcx ≡ b
+  pub first : has_first o ≡ true → v.rax ≡ a
+  pub second : has_second o ≡ true → v.rcx ≡ b
   pub ready : IsReady o v
 
 -- the first of the instructions faults, and so does nothing

@@ -25,11 +25,11 @@ use Rattle.frame_rules.specs.States.{IsEntry, registers}
 use Rattle.template_code.specs.Frames.{plan_of_layout}
 use Rattle.x64_templates.specs.Prologues.{AreProbed, MakesFrame}
 use Rattle.template_code.specs.Template.{Links, template, offset_of}
-use Rattle.x64_templates.specs.Frames.{SlotsHaveRoom}
+use Rattle.x64_templates.specs.Frames.{SlotsHaveRoom, IsKept}
 use Rattle.x64_templates.specs.Implements.{HasOperands}
 use Rattle.x64_templates.specs.CallStates.{sp_of, HasBelow}
-use Rattle.x64_templates.specs.Runs.{HasCode, FramePlace, Roomy, FrameHolds, IsThere, ReachesBody, Computed}
-use Rattle.x64_templates.specs.InstructionRuns.{RunsAllTo, IsLinked}
+use Rattle.x64_templates.specs.Runs.{HasCode, FramePlace, Roomy, FrameHolds, AreArrived, IsThere, ReachesBody, Computed}
+use Rattle.x64_templates.specs.InstructionRuns.{SparesArrivals, RunsAllTo, IsLinked}
 use Rattle.x64_templates.specs.EntryStates.{with_arguments, InRegisters, OnStack, IsFunctionFrame}
 use Rattle.x64_templates.specs.Returned.{CallBegun, Returned}
 use Rattle.x64_templates.specs.Retries.{FaultsAfter, Retried}
@@ -43,8 +43,8 @@ abbrev pub OperationsRun : Type 0
 OperationsRun =
     (p : FramePlace) (to : Slot) (o : Operation) (first second : Slot) (v : MachineView) (rip : ℕ)
     (f : Flags) (b : BodyState)
-    → Roomy p → IsThere p to → IsThere p first → IsThere p second → sp_of v ≡ p.sp
-    → FrameHolds p v.locals v.memory b
+    → Roomy p → IsThere p to → IsThere p first → IsThere p second → IsKept p.layout to
+    → AreArrived p v → sp_of v ≡ p.sp → FrameHolds p v.locals v.memory b
     → HasCode v.memory rip (compute_code p.layout to o first second)
     → Computed p to o first second v rip f b
     (step p.reserved (instructions.Compute to o first second) b)
@@ -54,22 +54,25 @@ OperationsRun =
 abbrev pub BodiesRun : Type 0
 BodiesRun =
     (p : FramePlace) (k : Links) (start : ℕ) (body : List Instruction) (n : ℕ) → Roomy p
+    → SparesArrivals p.layout body
     → (number : ℕ) (v : MachineView) (f : Flags) (b : BodyState) (last : ℕ) (c : BodyState)
-    → IsLinked p k v.memory start body → sp_of v ≡ p.sp → FrameHolds p v.locals v.memory b
+    → IsLinked p k v.memory start body → AreArrived p v → sp_of v ≡ p.sp
+    → FrameHolds p v.locals v.memory b
     → run p.reserved body n number b ≡ Some (last, c)
     → RunsAllTo p n (machine v (start + offset_of p.layout body number) f)
     (start + offset_of p.layout body last) v.rest v.locals c
 
 -- ---- faults
 
--- where a body's instruction faults, so does the machine's, with both operands in their registers
+-- where a body's instruction faults, so does the machine's, with its operands in their registers
 abbrev pub BodiesFault : Type 0
 BodiesFault =
     (p : FramePlace) (k : Links) (start : ℕ) (body : List Instruction) (n number : ℕ)
     (v : MachineView)
     (f : Flags) (b : BodyState) (last : ℕ) (c : BodyState)
     (to first second : Slot) (o : Operation) (code : Code) (access : Option (Bool × ℕ))
-    → Roomy p → IsLinked p k v.memory start body → sp_of v ≡ p.sp → FrameHolds p v.locals v.memory b
+    → Roomy p → SparesArrivals p.layout body → IsLinked p k v.memory start body → AreArrived p v
+    → sp_of v ≡ p.sp → FrameHolds p v.locals v.memory b
     → run p.reserved body n number b ≡ Some (last, c) → last < length body
     → get_or body last instructions.Separator ≡ instructions.Compute to o first second
     → step p.reserved (instructions.Compute to o first second) c ≡ Faults code access
@@ -142,7 +145,7 @@ abbrev pub BodiesReturn : Type 0
 BodiesReturn =
     (p : FramePlace) (from : Slot) (v : MachineView) (old : ℕ → ℕ) (back rip : ℕ) (f : Flags)
     (b : BodyState) → let plan = plan_of_layout p.layout 0 in
-    Roomy p → IsThere p from → sp_of v ≡ p.sp → FrameHolds p v.locals v.memory b
+    Roomy p → IsThere p from → AreArrived p v → sp_of v ≡ p.sp → FrameHolds p v.locals v.memory b
     → IsPlan plan → old 4 < 2 ^ 47 → ((r : ℕ) → old r < 2 ^ 64)
     → HoldsFrame plan.frame plan.distance v.memory old back (registers (machine v rip f))
     (operations_of plan) (operations_of plan)

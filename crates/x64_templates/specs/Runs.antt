@@ -19,7 +19,7 @@ use Rattle.linear_code.specs.Meaning.{InstructionEffect, Next, Faults, IsSlot}
 use Rattle.template_code.specs.declared.layout.Layout.{Layout}
 use Rattle.x64_templates.specs.Straight.{AreSmall, LocalRegisters, OtherRegisters, MachineView, machine, takes_frame}
 use Rattle.template_code.specs.Slots.{operands_code, finish_code, compute_code}
-use Rattle.x64_templates.specs.Frames.{SlotsHaveRoom, HoldsBody, KeepsUnused, Changes}
+use Rattle.x64_templates.specs.Frames.{SlotsHaveRoom, HasArrived, HoldsBody, KeepsUnused, Changes}
 use Rattle.x64_templates.specs.Implements.{HasOperands}
 
 -- an instruction of the image is run, which changes no protection and no byte that may not be
@@ -66,19 +66,25 @@ pub record HasCode (m : Memory) (at : ℕ) (code : List Instr) : Type 0 where
   pub is_there : IsCodeAt m at (spelled code)
   pub placed : IsPlaced at (at + sizes code)
 
--- where a frame is, and what its memory is agreed on
+-- where a frame is, what its memory is agreed on, and the numbers of parameters that stay in the
+-- registers in which they arrive
 pub record FramePlace : Type 0 where
   pub layout : Layout
   pub counts : Counts
   pub reserved : ℕ → Bool
   pub sp : ℕ
   pub base : ℕ
+  pub arrived : ℕ → ℕ
 
 abbrev pub Roomy : FramePlace → Type 0
 Roomy p = SlotsHaveRoom p.layout p.counts p.sp p.base
 
 abbrev pub FrameHolds : FramePlace → LocalRegisters → Memory → BodyState → Type 0
-FrameHolds p locals m b = HoldsBody p.layout p.counts p.reserved p.sp p.base locals m b
+FrameHolds p locals m b =
+    HoldsBody p.layout p.counts p.reserved p.sp p.base p.arrived locals m b
+
+abbrev pub AreArrived : FramePlace → MachineView → Type 0
+AreArrived p v = HasArrived p.layout p.arrived v
 
 abbrev pub ChangesOwn : FramePlace → Memory → Memory → Type 0
 ChangesOwn p old new = Changes p.layout p.counts p.reserved p.sp p.base old new
@@ -99,8 +105,8 @@ pub record ReachesBody (p : FramePlace) (turns : ℕ) (s : State) (to : ℕ) (ot
   pub holds : FrameHolds p after.locals after.memory b
   pub changes : ChangesOwn p s.memory after.memory
 
--- the run comes to an instruction that faults, with both operands in their registers and nothing in
--- memory changed
+-- the run comes to an instruction that faults, with the operands that it reads in their registers
+-- and nothing in memory changed
 pub record ReachesFault (turns : ℕ) (v : MachineView) (rip : ℕ) (flags : Flags) (at : ℕ)
     (o : Operation) (first second : ℕ) (code : Code) (access : Option (Bool × ℕ)) : Type 0 where
   pub stopped : MachineView

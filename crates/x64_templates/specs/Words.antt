@@ -55,26 +55,27 @@ pub use Rattle.template_code.specs.Bytes.{sizes, spelled, thunk}
 unfoldable pub use Rattle.template_code.specs.Bytes.{size}
 pub use Rattle.template_code.specs.Calls.{return_at, begin_call, parameter_register, keep_register, stack_parameter, parameter_code, parameters_code, field_load, information_code, keep_base, arguments_code, call_code, passing_code, field_at, return_code, finally_arguments, call_finally_code, address_to, local_unwind_code, parameter_placed}
 pub use Rattle.template_code.specs.Jumps.{distance, call, IsNear, compare_zero, jump_equal, test_code, jump_code, jump_if_zero_code, separator_code, jump}
+pub use Rattle.template_code.specs.Operands.{has_first, has_second}
 pub use Rattle.template_code.specs.Operations.{above, move, compare, before, work, high_half, extended, pure_code, compared, less, not_less, division}
 pub use Rattle.template_code.specs.Probing.{check_stack, first_touch}
-pub use Rattle.template_code.specs.Slots.{fetched, put_back, temporary_at, local_at, keep_local, keep, fetch_local, fetch, operands_code, finish_code, compute_code, fetch_placed, keep_placed}
+pub use Rattle.template_code.specs.Slots.{fetched, put_back, temporary_at, local_at, keep_local, keep, fetch_local, fetch, fetch_if, operands_code, finish_code, compute_code, fetch_placed, keep_placed}
 pub use Rattle.template_code.specs.Template.{Links, template, offset_of, code_from, nowhere, body_size, HasLabels}
 unfoldable pub use Rattle.template_code.specs.Template.{template_size}
 pub use Rattle.template_code.specs.declared.layout.Layout.{Layout}
 pub use Rattle.x64_templates.specs.CallStates.{sp_of, with_four, pushed, HasBelow, with_sp, moved, HasBack}
 pub use Rattle.x64_templates.specs.EntryStates.{with_arguments, InRegisters, OnStack, IsFunctionFrame, body_in_memory, FreshFrame, passed}
 pub use Rattle.x64_templates.specs.Exceptions.{IsField, field_width, MayRead, HasException}
-pub use Rattle.x64_templates.specs.Frames.{number_placed, number_in, KeepsUnused, Agrees, slot_at, InTemporaries, InLocals, HasBase, SlotsHaveRoom, MemoryKeepsBase, KeepsReserved, HoldsBody, IsBytes, Changes}
+pub use Rattle.x64_templates.specs.Frames.{arriving, HasArrived, IsKept, number_placed, number_in, KeepsUnused, Agrees, slot_at, InTemporaries, InLocals, HasBase, SlotsHaveRoom, MemoryKeepsBase, KeepsReserved, HoldsBody, IsBytes, Changes}
 pub use Rattle.x64_templates.specs.Implements.{Implements, IsReady, HasOperands, LeavesResult, HeadFaults, high_of}
-pub use Rattle.x64_templates.specs.InstructionRuns.{InstructionDone, IsLinked, RunsTo, RunsAllTo}
-pub use Rattle.x64_templates.specs.Keeping.{keeps_registers, stores_nothing, StoresNothing, Flows, StoresOnce, KeepsRegisters, is_volatile, is_volatile_or_memory, is_register, is_call}
+pub use Rattle.x64_templates.specs.InstructionRuns.{InstructionDone, KeepsArrivals, IsSpare, IsLeafCode, SparesArrivals, IsLinked, RunsTo, RunsAllTo}
+pub use Rattle.x64_templates.specs.Keeping.{keeps_registers, stores_nothing, StoresNothing, Flows, StoresOnce, KeepsRegisters, is_volatile, is_rax, is_memory_or, writes_only, spares_registers, SparesRegisters, is_register, is_call}
 pub use Rattle.x64_templates.specs.Placed.{IsCodeAt, IsPlaced}
 pub use Rattle.x64_templates.specs.Returned.{CallBegun, Returned}
-pub use Rattle.x64_templates.specs.Runs.{Reaches, HasCode, FramePlace, Roomy, FrameHolds, Runs, IsThere, ReachesBody, Finished, Computed, ChangesOwn, Enters, ReachesInside, ReachesFault, Steps}
+pub use Rattle.x64_templates.specs.Runs.{Reaches, HasCode, FramePlace, Roomy, FrameHolds, AreArrived, Runs, IsThere, ReachesBody, Finished, Computed, ChangesOwn, Enters, ReachesInside, ReachesFault, Steps}
 pub use Rattle.x64_templates.specs.Prologues.{Within, code_stores, none_stores, code_turns, codes_turns, IsProbed, AreProbed, MakesFrame}
 pub use Rattle.x64_templates.specs.Straight.{MachineView, machine, Executes, Yields, is_straight, AllStraight, begins_epilogue, takes_frame, NoneTakesFrame, is_rsp_place, is_subtraction, is_number, AreSmall, LocalRegisters, OtherRegisters, registers_of}
 unfoldable pub use Rattle.x64_templates.specs.Straight.{effects}
 pub use Rattle.x64_templates.specs.Locals.{is_of_local, local_in, with_local}
 pub use Rattle.template_code.specs.declared.layout.Place.{Place}
-pub use Rattle.template_code.specs.declared.layout.Place.TheVariants.{InRegister, InFrame}
+pub use Rattle.template_code.specs.declared.layout.Place.TheVariants.{InRegister, InFrame, Arriving}
 pub use Rattle.template_code.specs.Places.{place_of}

@@ -1,4 +1,4 @@
-use Rattle.std.proofs.Common.{◌≡◌, ◌∙◌, List, ℕ, length, false, ap, subst, arith}
+use Rattle.std.proofs.Common.{◌≡◌, ◌∙◌, ℕ, length, false, ap, subst, arith}
 use Rattle.std.specs.Prelude.{codes}
 use Rattle.seh_io.specs.Text.{ended, text}
 use Rattle.seh_host.specs.Running.{event_count, run_names}

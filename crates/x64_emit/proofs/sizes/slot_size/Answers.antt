@@ -1,6 +1,6 @@
 use Rattle.std.proofs.Common.{refl, sym, ap, ◌∙◌}
 use Rattle.x64_emit.specs.Words.{Slot, sizes, fetch, keep}
-use Rattle.x64_emit.proofs.TemplateSizes.{temporary_fetched, temporary_kept, local_fetched, local_kept, register_fetched, register_kept}
+use Rattle.x64_emit.proofs.TemplateSizes.{temporary_fetched, temporary_kept, local_fetched, local_kept, register_fetched, register_kept, arriving_fetched, arriving_kept}
 use Rattle.x64_emit.proofs.sizes.slot_size.Goals as goal
 
 pub returns-in-Temporary-clause-fetched : goal.returns-in-Temporary-clause-fetched
@@ -38,3 +38,13 @@ pub returns-in-InRegister-clause-kept : goal.returns-in-InRegister-clause-kept
 returns-in-InRegister-clause-kept c =
     ap (λ (x : Slot). sizes (keep c.args.layout.now x)) (c.in-Local.is)
     ∙ register_kept c.args.layout.now c.in-Local.i _ (sym c.place.ensures ∙ c.in-InRegister.is)
+
+pub returns-in-Arriving-clause-fetched : goal.returns-in-Arriving-clause-fetched
+returns-in-Arriving-clause-fetched c = λ to.
+    ap (λ (x : Slot). sizes (fetch c.args.layout.now to x)) (c.in-Local.is)
+    ∙ arriving_fetched c.args.layout.now c.in-Local.i (sym c.place.ensures ∙ c.in-Arriving.is) to
+
+pub returns-in-Arriving-clause-kept : goal.returns-in-Arriving-clause-kept
+returns-in-Arriving-clause-kept c =
+    ap (λ (x : Slot). sizes (keep c.args.layout.now x)) (c.in-Local.is)
+    ∙ arriving_kept c.args.layout.now c.in-Local.i (sym c.place.ensures ∙ c.in-Arriving.is)

@@ -1,5 +1,5 @@
-use Rattle.std.proofs.Common.{◌≡◌, ◌/◌, ◌%◌, sym, ap, ◌∙◌, refl, arith}
-use Rattle.x64_memory.specs.Words.{bytes_of, Page, page_with_number, page_at, page_numbered}
+use Rattle.std.proofs.Common.{◌/◌, sym, ap, refl, arith}
+use Rattle.x64_memory.specs.Words.{bytes_of, Page, page_at, page_numbered}
 use Rattle.x64_memory.proofs.Ordered.{page_set, page_kept}
 use Rattle.x64_memory.proofs.Paging.{number_put, unmapped}
 use Rattle.x64_memory.proofs.page_map.PageMapPaged.put.Goals as goal

@@ -1,5 +1,5 @@
 use Rattle.std.proofs.Common.{◌≡◌, ◌/◌, ◌%◌, ◌<◌, ℕ, length, drop, get_or, rules, sym, ap, ◌∙◌, refl, arith, length-drop}
-use Rattle.x64_memory.specs.Words.{bytes_of, unless_refused, with_bytes, with_number, is_writable, Page, paged, page_with_number, page_numbered}
+use Rattle.x64_memory.specs.Words.{bytes_of, unless_refused, with_bytes, with_number, Page, paged, page_numbered}
 use Rattle.x64_memory.proofs.Ordered.{page_set, page_kept}
 use Rattle.x64_memory.proofs.Paging.{number_put, stretch_some}
 use Rattle.x64_memory.proofs.RestsOfPages.{store_all, may_store_is}

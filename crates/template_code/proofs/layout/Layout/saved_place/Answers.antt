@@ -2,7 +2,7 @@ use Rattle.std.proofs.Common.{◌≡◌, ℕ, suc, ◌+◌, drop, ap, ◌∙◌,
 use Rattle.template_code.specs.Places.{place_among}
 use Rattle.template_code.specs.declared.layout.TheConstants.{LOCAL_REGISTERS}
 use Rattle.template_code.proofs.Places.{place_passed}
-use Rattle.template_code.proofs.layout.Layout.place.Goals as goal
+use Rattle.template_code.proofs.layout.Layout.saved_place.Goals as goal
 
 pub loop-index-preserved : goal.loop-index-preserved
 loop-index-preserved c =
