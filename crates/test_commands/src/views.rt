@@ -16,7 +16,7 @@ show | tables @ optional+140 00 @ file+272 01 05 02 00 05 32 01 30 01 07 01 00 0
 show | fourteen | 0 entries 0
 show | bytes 64*00 | 3 ! image NotPe 0
 show | bytes | 3 ! image Truncated 0
-show | compiled int main(void){} | 0 entry 0 00002033 0000205B 00004000 /  bytes 0104010004420000 /  info prolog 4 flags 0 frame - 0 /  code 4 alloc 40 / entries 1
+show | compiled int main(void){} | 0 entry 0 00002033 00002051 00004000 /  bytes 0104010004420000 /  info prolog 4 flags 0 frame - 0 /  code 4 alloc 40 / entries 1
 ";
 
 /// How many bytes a compiled image has: the headers, and a block of 512 for each section but
