@@ -7,7 +7,6 @@ use c_parse_atom::operands::{integer, literal, name};
 use c_parse_atom::operators::{assignment_of, binary_of, follows, increment_of, level, unary_of};
 use c_parse_type::front::punctuator;
 use std::alloc::{AllocError, Global};
-use std::test::Fail;
 
 /// The binary operator that the first punctuator is, and its level.
 pub fn binary_operator_of(alloc: Global, tokens: &[Token]) -> Result<String, AllocError> {
@@ -60,11 +59,6 @@ const BINARY: &str = r"
 || => LogicalOr 13
 ";
 
-#[test]
-fn binary_operators_have_levels(rt: HostRuntime) -> Result<(), Fail> {
-    all_as_wanted(&rt, rt.alloc(), Reader::Binary, &[BINARY])
-}
-
 /// Operators of assignments, and of one operand before and beside it.
 const OPERATORS: &str = r"
 ^= => Some(Some(ExclusiveOr)) None None
@@ -72,11 +66,6 @@ const OPERATORS: &str = r"
 * => None Some(Indirection) None
 -- => None None Some(Decrement)
 ";
-
-#[test]
-fn punctuators_are_operators(rt: HostRuntime) -> Result<(), Fail> {
-    all_as_wanted(&rt, rt.alloc(), Reader::Operator, &[OPERATORS])
-}
 
 /// A text from each of its operands on. No expression continues with an operand, 17, and one does
 /// with a comma, 16.
@@ -87,11 +76,6 @@ const OPERANDS: &str = r"
             , => no operand
 ";
 
-#[test]
-fn operands_are_literals_and_names(rt: HostRuntime) -> Result<(), Fail> {
-    all_as_wanted(&rt, rt.alloc(), Reader::Operand, &[OPERANDS])
-}
-
 /// Fields of the exception's record (Microsoft C reference, "GetExceptionInformation").
 const FIELDS: &str = r"
 GetExceptionInformation()->ExceptionRecord->ExceptionCode => Code 0 0
@@ -101,6 +85,9 @@ GetExceptionInformation()->Context->ExceptionFlags => no field
 ";
 
 #[test]
-fn fields_of_the_record_are_named(rt: HostRuntime) -> Result<(), Fail> {
-    all_as_wanted(&rt, rt.alloc(), Reader::Information, &[FIELDS])
+fn atoms_are_operators_and_operands(rt: HostRuntime) {
+    all_as_wanted(&rt, rt.alloc(), Reader::Binary, &[BINARY]);
+    all_as_wanted(&rt, rt.alloc(), Reader::Operator, &[OPERATORS]);
+    all_as_wanted(&rt, rt.alloc(), Reader::Operand, &[OPERANDS]);
+    all_as_wanted(&rt, rt.alloc(), Reader::Information, &[FIELDS]);
 }

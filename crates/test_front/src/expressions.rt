@@ -8,7 +8,6 @@ use c_syntax::expression::Expr;
 use c_syntax::level::COMMA;
 use c_syntax::limit::MOST_EXPRESSIONS;
 use std::alloc::{AllocError, Global};
-use std::test::Fail;
 
 /// The place of an expression's own operator, or of its first token.
 fn place(expr: &Expr) -> u64 {
@@ -179,37 +178,21 @@ const STARTS: &str = r"
 ";
 
 #[test]
-fn operators_bind_by_their_levels(rt: HostRuntime) -> Result<(), Fail> {
+fn operators_bind_by_their_levels(rt: HostRuntime) {
     let room = MOST_EXPRESSIONS;
     all_as_wanted(
         &rt,
         rt.alloc(),
         Reader::Expression { room },
         &[EXPRESSIONS, REFUSED],
-    )
+    );
+    all_as_wanted(&rt, rt.alloc(), Reader::Start, &[STARTS]);
 }
 
 #[test]
-fn expressions_nest_once(rt: HostRuntime) -> Result<(), Fail> {
-    all_as_wanted(
-        &rt,
-        rt.alloc(),
-        Reader::Expression { room: 1 },
-        &[ROOM_FOR_ONE],
-    )
-}
-
-#[test]
-fn expressions_nest_in_no_other(rt: HostRuntime) -> Result<(), Fail> {
-    all_as_wanted(
-        &rt,
-        rt.alloc(),
-        Reader::Expression { room: 0 },
-        &[ROOM_FOR_NONE],
-    )
-}
-
-#[test]
-fn expressions_start_at_their_first_tokens(rt: HostRuntime) -> Result<(), Fail> {
-    all_as_wanted(&rt, rt.alloc(), Reader::Start, &[STARTS])
+fn expressions_nest_within_the_room(rt: HostRuntime) {
+    let one = Reader::Expression { room: 1 };
+    all_as_wanted(&rt, rt.alloc(), one, &[ROOM_FOR_ONE]);
+    let none = Reader::Expression { room: 0 };
+    all_as_wanted(&rt, rt.alloc(), none, &[ROOM_FOR_NONE]);
 }

@@ -8,7 +8,6 @@ use c_lex::token::Token;
 use c_parse::program::parse;
 use c_syntax::declaration::ExternalDeclaration;
 use std::alloc::{AllocError, Global};
-use std::test::Fail;
 
 /// How many external declarations there are, and how many globals, parameters and items of its body
 /// the last of them has.
@@ -156,21 +155,11 @@ int f(){f(1$2000$,1$);} => 1 0 0 1
 ";
 
 #[test]
-fn texts_are_programs_or_refused(rt: HostRuntime) -> Result<(), Fail> {
+fn texts_are_programs_or_refused(rt: HostRuntime) {
     all_as_wanted(
         &rt,
         rt.alloc(),
         Reader::Program,
-        &[PROGRAMS, UNEXPECTED, BEYOND_LIMITS],
-    )
-}
-
-#[test]
-fn functions_locals_and_funclets_are_counted(rt: HostRuntime) -> Result<(), Fail> {
-    all_as_wanted(&rt, rt.alloc(), Reader::Program, &[COUNTED])
-}
-
-#[test]
-fn programs_may_be_deep_and_long(rt: HostRuntime) -> Result<(), Fail> {
-    all_as_wanted(&rt, rt.alloc(), Reader::Program, &[NESTED, LONG])
+        &[PROGRAMS, UNEXPECTED, BEYOND_LIMITS, COUNTED, NESTED, LONG],
+    );
 }

@@ -11,7 +11,6 @@ use c_lex::lexing::lex;
 use c_lex::token::Token;
 use std::alloc::{AllocError, Global};
 use std::process::Abort;
-use std::test::Fail;
 
 /// What reads the texts of a table.
 #[derive(Clone, Copy)]
@@ -41,32 +40,37 @@ pub enum Reader {
 }
 
 /// A row's text with each piece as often as it is wanted.
-fn expanded(alloc: Global, text: &str) -> Result<Vec<u8>, AllocError> {
+fn expanded(rt: &impl Abort, alloc: Global, text: &str) -> Vec<u8> {
     let mut whole = Vec::new(alloc);
     let mut is_byte = false;
     let mut times = 0u32;
     for (number, part) in text.split('$').enumerate() {
         match number % 3 {
-            0 => whole.extend_from_slice(part.as_bytes())?,
+            0 => whole
+                .extend_from_slice(part.as_bytes())
+                .expect(rt, "memory"),
             1 => {
                 is_byte = part == "byte";
                 times = part.parse().unwrap_or(0);
             }
             _ => {
                 if is_byte {
-                    whole.push(part.parse().unwrap_or(0))?;
+                    whole.push(part.parse().unwrap_or(0)).expect(rt, "memory");
                 }
                 for _ in 0..times {
-                    whole.extend_from_slice(part.as_bytes())?;
+                    whole
+                        .extend_from_slice(part.as_bytes())
+                        .expect(rt, "memory");
                 }
             }
         }
     }
-    Ok(whole)
+    whole
 }
 
 /// What is reported of a text with these tokens, and of what is given before it.
 fn report(
+    rt: &impl Abort,
     alloc: Global,
     reader: Reader,
     given: &str,
@@ -77,7 +81,7 @@ fn report(
 {
     match reader {
         Reader::Token => tokens::token_of(alloc, text, tokens),
-        Reader::Tokens => tokens::tokens_of(alloc, tokens),
+        Reader::Tokens => Ok(tokens::tokens_of(rt, alloc, tokens)),
         Reader::Binary => atoms::binary_operator_of(alloc, tokens),
         Reader::Operator => atoms::operator_of(alloc, tokens),
         Reader::Operand => atoms::operand_of(alloc, tokens),
@@ -91,40 +95,35 @@ fn report(
 }
 
 /// What is reported of a row's text. Before the items of a block numbers are given.
-fn found_of(alloc: Global, reader: Reader, row: &str) -> Result<String, AllocError> {
+fn found_of(rt: &impl Abort, alloc: Global, reader: Reader, row: &str) -> String {
     let (given, text) = match reader {
         Reader::Items => row.split_once(": ").unwrap_or(("", row)),
         _ => ("", row),
     };
-    let whole = expanded(alloc, text)?;
-    match lex(alloc, &whole) {
-        Ok(tokens) => report(alloc, reader, given, &whole, &tokens),
+    let whole = expanded(rt, alloc, text);
+    let found = match lex(alloc, &whole) {
+        Ok(tokens) => report(rt, alloc, reader, given, &whole, &tokens),
         Err(refusal) => { format!(in alloc; "{refusal:?}") }
-    }
+    };
+    found.expect(rt, "memory")
 }
 
 /// Compares what is reported of a row's text with the row.
-fn as_wanted(rt: &impl Abort, alloc: Global, reader: Reader, row: &str) -> Result<(), Fail> {
-    let Some((text, wanted)) = row.split_once(" => ") else {
-        assert!(rt; false, "no row: {row}");
-        return Ok(());
-    };
-    let found = found_of(alloc, reader, text)?;
-    assert_eq!(rt; found.as_str(), wanted, "of {text}");
-    Ok(())
+fn as_wanted(rt: &impl Abort, alloc: Global, reader: Reader, row: &str) {
+    match row.split_once(" => ") {
+        None => panic!(rt; "no row: {row}"),
+        Some((text, wanted)) => {
+            let found = found_of(rt, alloc, reader, text);
+            assert_eq!(rt; found.as_str(), wanted, "of {text}");
+        }
+    }
 }
 
 /// Compares what is reported of each text of some tables with its row.
-pub fn all_as_wanted(
-    rt: &impl Abort,
-    alloc: Global,
-    reader: Reader,
-    tables: &[&str],
-) -> Result<(), Fail> {
+pub fn all_as_wanted(rt: &impl Abort, alloc: Global, reader: Reader, tables: &[&str]) {
     for table in tables {
         for row in table.lines().skip(1) {
-            as_wanted(rt, alloc, reader, row)?;
+            as_wanted(rt, alloc, reader, row);
         }
     }
-    Ok(())
 }

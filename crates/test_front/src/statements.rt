@@ -10,7 +10,6 @@ use c_parse_stmt::left::Left;
 use c_parse_stmt::statements::items;
 use c_syntax::limit::MOST_STATEMENTS;
 use std::alloc::{AllocError, Global};
-use std::test::Fail;
 
 /// The three numbers that a row begins with; 0 for a word that is none.
 fn given_of(words: &str) -> Option<(u64, Left)> {
@@ -132,7 +131,7 @@ const REFUSED_IN_FILTERS: &str = r"
 ";
 
 #[test]
-fn items_are_read_or_refused(rt: HostRuntime) -> Result<(), Fail> {
+fn items_are_read_or_refused(rt: HostRuntime) {
     all_as_wanted(
         &rt,
         rt.alloc(),
@@ -144,5 +143,5 @@ fn items_are_read_or_refused(rt: HostRuntime) -> Result<(), Fail> {
             REFUSED_AFTER_EXPRESSIONS,
             REFUSED_IN_FILTERS,
         ],
-    )
+    );
 }

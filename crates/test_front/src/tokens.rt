@@ -5,7 +5,6 @@ use c_lex::lexing::{LexErr, lex};
 use c_lex::token::{Kind, Token};
 use std::alloc::{AllocError, Global};
 use std::process::Abort;
-use std::test::Fail;
 
 /// What a token is: an integer's value and type, or the token's kind.
 fn kind_of(alloc: Global, kind: Kind) -> Result<String, AllocError> {
@@ -32,17 +31,17 @@ fn part_of(alloc: Global, separator: &str, token: Token) -> Result<String, Alloc
 }
 
 /// The tokens of a text, each with where it starts and ends.
-pub fn tokens_of(alloc: Global, tokens: &[Token]) -> Result<String, AllocError> {
-    if tokens.is_empty() {
-        return String::from_str(alloc, "no tokens");
-    }
+pub fn tokens_of(rt: &impl Abort, alloc: Global, tokens: &[Token]) -> String {
     let mut found = String::new(alloc);
     for token in tokens {
         let separator = if found.is_empty() { "" } else { ", " };
-        let part = part_of(alloc, separator, *token)?;
-        found.push_str(&part)?;
+        let part = part_of(alloc, separator, *token).expect(rt, "memory");
+        found.push_str(&part).expect(rt, "memory");
     }
-    Ok(found)
+    if tokens.is_empty() {
+        found.push_str("no tokens").expect(rt, "memory");
+    }
+    found
 }
 
 /// Whether a token is a character of a number.
@@ -282,17 +281,13 @@ fn is_bad(byte: u8) -> bool {
 }
 
 #[test]
-fn texts_are_one_token(rt: HostRuntime) -> Result<(), Fail> {
+fn texts_are_tokens_or_refused(rt: HostRuntime) {
     all_as_wanted(
         &rt,
         rt.alloc(),
         Reader::Token,
         &[NAMES, DECIMAL, OCTAL_AND_HEXADECIMAL, SUFFIXES, ESCAPES],
-    )
-}
-
-#[test]
-fn tokens_are_the_longest(rt: HostRuntime) -> Result<(), Fail> {
+    );
     all_as_wanted(
         &rt,
         rt.alloc(),
@@ -304,7 +299,7 @@ fn tokens_are_the_longest(rt: HostRuntime) -> Result<(), Fail> {
             BAD_CHARACTERS,
             BIG_LITERALS,
         ],
-    )
+    );
 }
 
 #[test]

@@ -4,7 +4,6 @@ use crate::rows::{Reader, all_as_wanted};
 use c_lex::token::Token;
 use c_parse_type::specifiers::c_type;
 use std::alloc::{AllocError, Global};
-use std::test::Fail;
 
 /// The type that a text begins with: its base, and how many pointers; one token is after it.
 pub fn type_of(alloc: Global, tokens: &[Token]) -> Result<String, AllocError> {
@@ -27,6 +26,6 @@ x int => no type
 ";
 
 #[test]
-fn texts_begin_with_types(rt: HostRuntime) -> Result<(), Fail> {
-    all_as_wanted(&rt, rt.alloc(), Reader::Type, &[TYPES])
+fn texts_begin_with_types(rt: HostRuntime) {
+    all_as_wanted(&rt, rt.alloc(), Reader::Type, &[TYPES]);
 }

@@ -7,9 +7,8 @@
 
 use crate::images::{image_of, many_funclets};
 use crate::shown::{Run, shows};
-use std::alloc::{AllocError, Global};
+use std::alloc::Global;
 use std::process::Abort;
-use std::test::Fail;
 use test_tables::calls::hundred_frames;
 
 /// A run without an argument, of ten thousand turns, with its trace.
@@ -20,18 +19,17 @@ const TRACED: Run = Run {
 };
 
 /// Compares what a row's image shows with its lines.
-fn row_shows(rt: &impl Abort, alloc: Global, row: &str) -> Result<(), Fail> {
+fn row_shows(rt: &impl Abort, alloc: Global, row: &str) {
     let (words, lines) = row.split_once(" | ").unwrap_or((row, ""));
-    let bytes = image_of(alloc, words)?;
-    shows(rt, alloc, &bytes, TRACED, lines)
+    let bytes = image_of(alloc, words).expect(rt, "memory");
+    shows(rt, alloc, &bytes, TRACED, lines);
 }
 
 /// The same of each row of a table.
-fn all_show(rt: &impl Abort, alloc: Global, table: &str) -> Result<(), Fail> {
+fn all_show(rt: &impl Abort, alloc: Global, table: &str) {
     for row in table.lines().skip(1) {
-        row_shows(rt, alloc, row)?;
+        row_shows(rt, alloc, row);
     }
-    Ok(())
 }
 
 /// A filter accepts, and a `__finally` block runs; unwindings collide; a raise is continued; one
@@ -51,11 +49,6 @@ plain RAISES | raise E0000001 0 / unhandled E0000001
 scoped ACCEPTED_FAULT, 2004 2011 1 1000 2026 2026 2026 | raise C0000005 0 read 0000000000000010 / except C0000005 / stopped Illegal 0000000140001000
 ";
 
-#[test]
-fn exceptions_are_handled(rt: HostRuntime) -> Result<(), Fail> {
-    all_show(&rt, rt.alloc(), HANDLED)
-}
-
 /// RSP in the callee's body is 0x707FFF30, but its frame register says where it was after the
 /// prologue: 0x707FFFD8 less 40, a return address, two pushes and 40 is 0x707FFF70, 1887436656. The
 /// blocks run in the order of the rows, with RBX of the body, 5. The landing has EAX of the
@@ -68,11 +61,6 @@ const PASSED: &str = r"
 caller_and_callee | raise E0000001 0 / filter 1 / answer 0 / filter 2 / answer 1 / finally 3 1 / 1887436656 / finally 4 1 / 5 / except E0000001 / 3758096385 / 9 / 4 / exit 7
 store_and_collision | raise C0000005 0 write 0000000020000000 / filter 1 / answer -1 / 5 / raise E0000001 0 / filter 2 / answer 0 / filter 3 / answer 1 / finally 5 1 / 1 / raise E0000002 0 / filter 2 / answer 0 / filter 3 / answer 1 / finally 6 1 / 2 / finally 4 1 / 4 / except E0000002 / 3 / exit 7
 ";
-
-#[test]
-fn exceptions_pass_to_callers(rt: HostRuntime) -> Result<(), Fail> {
-    all_show(&rt, rt.alloc(), PASSED)
-}
 
 /// No record is at the returns, or placed past the stack, or where it ends below address 0. A
 /// return address would be at 0x707FFFE0 + 40, above the stack's end. A service's return address
@@ -128,39 +116,46 @@ record_in_code | answer 1 / stack limit 00000001400020F8
 ";
 
 #[test]
-fn runs_are_stopped(rt: HostRuntime) -> Result<(), Fail> {
-    for table in [STACK, FRAMES, HARMED, IN_CODE] {
-        all_show(&rt, rt.alloc(), table)?;
+fn images_show_their_lines(rt: HostRuntime) {
+    for table in [HANDLED, PASSED, STACK, FRAMES, HARMED, IN_CODE] {
+        all_show(&rt, rt.alloc(), table);
     }
-    Ok(())
 }
 
 /// Adds the lines of a hundred `__finally` blocks, the innermost first. `main` has its frame at
 /// 0x707FFFD8 - 40, 1887436720; each of the functions takes 8 bytes for its return address and 40
 /// more.
-fn add_frames(alloc: Global, lines: &mut String) -> Result<(), AllocError> {
+fn add_frames(rt: &impl Abort, alloc: Global, lines: &mut String) {
     for k in 0..100_u64 {
         let frame = 1_887_436_720 - 48 * (100 - k);
-        let block = format!(in alloc; " / finally 2 1 / {frame}")?;
-        lines.push_str(&block)?;
+        let block = format!(in alloc; " / finally 2 1 / {frame}").expect(rt, "memory");
+        lines.push_str(&block).expect(rt, "memory");
     }
-    Ok(())
+}
+
+/// The lines of the run that passes those blocks.
+fn hundred_lines(rt: &impl Abort, alloc: Global) -> String {
+    let first = "raise E0000001 0 / filter 1 / answer 1";
+    let mut lines = String::from_str(alloc, first).expect(rt, "memory");
+    add_frames(rt, alloc, &mut lines);
+    lines
+        .push_str(" / except E0000001 / exit 7")
+        .expect(rt, "memory");
+    lines
 }
 
 #[test]
-fn an_exception_passes_a_hundred_frames(rt: HostRuntime) -> Result<(), Fail> {
-    let mut lines = String::from_str(rt.alloc(), "raise E0000001 0 / filter 1 / answer 1")?;
-    add_frames(rt.alloc(), &mut lines)?;
-    lines.push_str(" / except E0000001 / exit 7")?;
-    let bytes = hundred_frames(rt.alloc())?;
-    shows(&rt, rt.alloc(), &bytes, TRACED, &lines)
+fn an_exception_passes_a_hundred_frames(rt: HostRuntime) {
+    let lines = hundred_lines(&rt, rt.alloc());
+    let bytes = hundred_frames(rt.alloc()).expect(&rt, "memory");
+    shows(&rt, rt.alloc(), &bytes, TRACED, &lines);
 }
 
 // What is gathered at a row costs the logarithm of their number. The kind of a funclet is that of
 // its first row.
 #[test]
-fn many_funclets_are_gathered(rt: HostRuntime) -> Result<(), Fail> {
-    let bytes = many_funclets(rt.alloc())?;
+fn many_funclets_are_gathered(rt: HostRuntime) {
+    let bytes = many_funclets(&rt, rt.alloc());
     let lines = "raise E0000001 0 / filter 21 / answer 1 / except E0000001 / exit 0";
-    shows(&rt, rt.alloc(), &bytes, TRACED, lines)
+    shows(&rt, rt.alloc(), &bytes, TRACED, lines);
 }

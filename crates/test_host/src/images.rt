@@ -3,6 +3,7 @@
 use crate::shown::half_of;
 use eh_tables::ScopeRecord;
 use std::alloc::{AllocError, Global};
+use std::process::Abort;
 use test_tables::calls::{caller_and_callee, store_and_collision};
 use test_tables::code::{
     ACCEPTED_FAULT, CONTINUED_IN_VAIN, CONTINUED_RAISE, LOCAL_UNWIND, RAISE_IN_FILTER,
@@ -159,23 +160,27 @@ const MANY: &[u8] = &[
     0xFF, 0x25, 0x3B, 0x10, 0x00, 0x00, // jmp [__C_specific_handler]
 ];
 
+/// Adds a row.
+fn add_scope(rt: &impl Abort, scopes: &mut Vec<ScopeRecord>, record: ScopeRecord) {
+    scopes.push(record).expect(rt, "memory");
+}
+
 /// Adds a hundred thousand rows whose filters fall by address, and then some below.
-fn add_scopes(scopes: &mut Vec<ScopeRecord>) -> Result<(), AllocError> {
+fn add_scopes(rt: &impl Abort, scopes: &mut Vec<ScopeRecord>) {
     for n in 0..100_000_u32 {
-        scopes.push(scope(0x2000, 0x2001, 0x10_0000 - n, 0x2012))?;
+        add_scope(rt, scopes, scope(0x2000, 0x2001, 0x10_0000 - n, 0x2012));
     }
     for n in 0..20_u32 {
-        scopes.push(scope(0x2000, 0x2001, 0x1100 - n, 0x2012))?;
-        scopes.push(scope(0x2004, 0x2012, 0x2019, 0x2012))?;
-        scopes.push(scope(0x2000, 0x2001, 0x2019, 0))?;
+        add_scope(rt, scopes, scope(0x2000, 0x2001, 0x1100 - n, 0x2012));
+        add_scope(rt, scopes, scope(0x2004, 0x2012, 0x2019, 0x2012));
+        add_scope(rt, scopes, scope(0x2000, 0x2001, 0x2019, 0));
     }
-    Ok(())
 }
 
 /// An image of a function with many scope records.
-pub fn many_funclets(alloc: Global) -> Result<Vec<u8>, AllocError> {
+pub fn many_funclets(rt: &impl Abort, alloc: Global) -> Vec<u8> {
     let mut scopes = Vec::new(alloc);
-    add_scopes(&mut scopes)?;
+    add_scopes(rt, &mut scopes);
     let functions = [fixed(0x2000, 0x2019, &scopes), fixed(0x2019, 0x201F, &[])];
     let parts = Parts {
         data: &[],
@@ -183,5 +188,5 @@ pub fn many_funclets(alloc: Global) -> Result<Vec<u8>, AllocError> {
         handler: 0x201F,
         functions: &functions,
     };
-    built(alloc, parts)
+    built(alloc, parts).expect(rt, "memory")
 }

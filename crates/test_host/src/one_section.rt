@@ -11,10 +11,10 @@ use seh_io::plain::VecSink;
 use seh_io::planned::{MemSink, Plan};
 use seh_io::receiver::EventList;
 use seh_num::event::Event;
-use std::alloc::{AllocError, Global};
+use std::alloc::Global;
 use std::process::Abort;
-use std::test::Fail;
 use test_tables::one_section::{FOURTEEN, Fields, PLAIN, image};
+use test_tables::rows::{column, word};
 use test_tables::words::{bytes_of, number_of};
 use x64_memory::region::Region;
 
@@ -25,28 +25,26 @@ const TRACED: Run = Run {
     trace: true,
 };
 
-/// What a row `ARGUMENT | BYTES | INSTRUCTIONS | LINES` has.
-fn columns_of(row: &str) -> Option<(i64, &str, &str)> {
-    let mut columns = row.split(" | ");
-    let argument = columns.next()?.parse().ok()?;
-    let words = columns.next()?;
-    let _instructions = columns.next()?;
-    Some((argument, words, columns.next()?))
+/// The argument of a row `ARGUMENT | BYTES | INSTRUCTIONS | LINES`.
+fn argument_of(rt: &impl Abort, row: &str) -> i64 {
+    match column(row, 0).parse() {
+        Ok(argument) => argument,
+        Err(_) => panic!(rt; "no argument: {row}"),
+    }
 }
 
 /// The image of code that words spell.
-fn spelled(alloc: Global, words: &str) -> Result<Vec<u8>, AllocError> {
-    let code = bytes_of(alloc, words)?;
-    image(alloc, PLAIN, &code)
+fn spelled(rt: &impl Abort, alloc: Global, words: &str) -> Vec<u8> {
+    let code = bytes_of(alloc, words).expect(rt, "memory");
+    image(alloc, PLAIN, &code).expect(rt, "memory")
 }
 
 /// Compares what a row's image shows with its lines.
-fn row_shows(rt: &impl Abort, alloc: Global, row: &str) -> Result<(), Fail> {
-    let Some((argument, words, lines)) = columns_of(row) else {
-        panic!(rt; "no row: {row}")
-    };
-    let bytes = spelled(alloc, words)?;
-    shows(rt, alloc, &bytes, Run { argument, ..TRACED }, lines)
+fn row_shows(rt: &impl Abort, alloc: Global, row: &str) {
+    let argument = argument_of(rt, row);
+    let bytes = spelled(rt, alloc, column(row, 1));
+    let how = Run { argument, ..TRACED };
+    shows(rt, alloc, &bytes, how, column(row, 3));
 }
 
 /// Arguments, and statuses: the low 32 bits of RAX as a signed number.
@@ -79,31 +77,30 @@ const PLACES: &str = r"
 ";
 
 #[test]
-fn code_is_run(rt: HostRuntime) -> Result<(), Fail> {
+fn code_is_run(rt: HostRuntime) {
     for table in [STATUSES, ACCESSES, PLACES] {
         for row in table.lines().skip(1) {
-            row_shows(&rt, rt.alloc(), row)?;
+            row_shows(&rt, rt.alloc(), row);
         }
     }
-    Ok(())
 }
 
 /// An image of a section of these instructions: push rax.
-fn pushes(alloc: Global, fields: Fields, count: usize) -> Result<Vec<u8>, AllocError> {
-    let code = vec![in alloc; 0x50; count]?;
-    image(alloc, fields, &code)
+fn pushes(rt: &impl Abort, alloc: Global, fields: Fields, count: usize) -> Vec<u8> {
+    let code = vec![in alloc; 0x50; count].expect(rt, "memory");
+    image(alloc, fields, &code).expect(rt, "memory")
 }
 
 // The entry point is the section's last byte.
 #[test]
-fn code_ends_with_its_section(rt: HostRuntime) -> Result<(), Fail> {
+fn code_ends_with_its_section(rt: HostRuntime) {
     let fields = Fields {
         entry: 0x1FFF,
         ..PLAIN
     };
-    let bytes = pushes(rt.alloc(), fields, 4096)?;
+    let bytes = pushes(&rt, rt.alloc(), fields, 4096);
     let lines = "stopped Illegal 0000000140002000";
-    shows(&rt, rt.alloc(), &bytes, TRACED, lines)
+    shows(&rt, rt.alloc(), &bytes, TRACED, lines);
 }
 
 /// An image that ends after 13 turns, by how many turns it has.
@@ -129,7 +126,7 @@ fn run_of(row: &str) -> Option<(Run, &str)> {
 }
 
 /// Compares what a row's run shows with its lines.
-fn run_shows(rt: &impl Abort, alloc: Global, bytes: &[u8], row: &str) -> Result<(), Fail> {
+fn run_shows(rt: &impl Abort, alloc: Global, bytes: &[u8], row: &str) {
     match run_of(row) {
         None => panic!(rt; "no run: {row}"),
         Some((how, lines)) => shows(rt, alloc, bytes, how, lines),
@@ -137,12 +134,11 @@ fn run_shows(rt: &impl Abort, alloc: Global, bytes: &[u8], row: &str) -> Result<
 }
 
 #[test]
-fn an_image_puts_and_exits(rt: HostRuntime) -> Result<(), Fail> {
-    let bytes = image(rt.alloc(), PLAIN, &FOURTEEN)?;
+fn an_image_puts_and_exits(rt: HostRuntime) {
+    let bytes = image(rt.alloc(), PLAIN, &FOURTEEN).expect(&rt, "memory");
     for row in TURNS.lines().skip(1) {
-        run_shows(&rt, rt.alloc(), &bytes, row)?;
+        run_shows(&rt, rt.alloc(), &bytes, row);
     }
-    Ok(())
 }
 
 /// A run begins where the one before it ended, and a run that has ended shows its end alone.
@@ -169,17 +165,18 @@ fn ends(rt: &impl Abort, alloc: Global, host: &mut Host<'_, '_>) {
     assert!(rt; !seen.lacks);
 }
 
-/// What a row `CALL TAKEN | LINES` has.
-fn failure_of(row: &str) -> Option<(u64, u64, &str)> {
-    let (words, lines) = row.split_once(" | ")?;
-    let (call, taken) = words.split_once(' ')?;
-    Some((call.parse().ok()?, taken.parse().ok()?, lines))
+/// The number that a word of a row is.
+fn count_of(rt: &impl Abort, word: &str) -> u64 {
+    match word.parse() {
+        Ok(count) => count,
+        Err(_) => panic!(rt; "no number: {word}"),
+    }
 }
 
 /// A sink of at most two bytes a call, of which one call fails.
-fn sink(alloc: Global, call: u64) -> Result<MemSink, AllocError> {
-    let failing = [call].to_vec(alloc)?;
-    Ok(MemSink::new(Vec::new(alloc), Plan::new(failing, 2)))
+fn sink(rt: &impl Abort, alloc: Global, call: u64) -> MemSink {
+    let failing = [call].to_vec(alloc).expect(rt, "memory");
+    MemSink::new(Vec::new(alloc), Plan::new(failing, 2))
 }
 
 /// The ends of a run whose sink fails and of one of three turns after it, and what was taken.
@@ -189,8 +186,8 @@ fn failed(
     host: &mut Host<'_, '_>,
     call: u64,
     taken: u64,
-) -> Result<Vec<u8>, Fail> {
-    let mut out = sink(alloc, call)?;
+) -> Vec<u8> {
+    let mut out = sink(rt, alloc, call);
     assert!(rt;
         run(host, 100, false, &mut out) == Err(RunErr::Write { taken }),
         "call {call}"
@@ -199,7 +196,7 @@ fn failed(
         run(host, 3, false, &mut out) == Ok(RunEnd::Exit(7)),
         "call {call}"
     );
-    Ok(out.bytes)
+    out.bytes
 }
 
 /// No turn is made after the one whose line failed, and a later run continues from there: three
@@ -210,37 +207,34 @@ const FAILURES: &str = r"
 3 3 | 14 / exit 7
 ";
 
-/// Compares what a sink that fails takes with a row.
-fn fails(rt: &impl Abort, alloc: Global, view: &ImageView<'_>, row: &str) -> Result<(), Fail> {
-    let Some((call, taken, lines)) = failure_of(row) else {
-        panic!(rt; "no row: {row}")
-    };
-    let mut host = load(alloc, view, 0)?;
-    let found = failed(rt, alloc, &mut host, call, taken)?;
+/// Compares what a sink that fails takes with a row `CALL TAKEN | LINES`.
+fn fails(rt: &impl Abort, alloc: Global, view: &ImageView<'_>, row: &str) {
+    let words = column(row, 0);
+    let call = count_of(rt, word(words, 0));
+    let taken = count_of(rt, word(words, 1));
+    let mut host = load(alloc, view, 0).expect(rt, "a host");
+    let found = failed(rt, alloc, &mut host, call, taken);
     drop(host);
-    says(rt, alloc, &found, lines)?;
-    Ok(())
+    says(rt, alloc, &found, column(row, 1));
 }
 
 #[test]
-fn runs_go_on(rt: HostRuntime) -> Result<(), Fail> {
-    let bytes = image(rt.alloc(), PLAIN, &FOURTEEN)?;
-    let view = ImageView::read(rt.alloc(), &bytes)?;
+fn runs_go_on(rt: HostRuntime) {
+    let bytes = image(rt.alloc(), PLAIN, &FOURTEEN).expect(&rt, "memory");
+    let view = ImageView::read(rt.alloc(), &bytes).expect(&rt, "an image");
     for row in FAILURES.lines().skip(1) {
-        fails(&rt, rt.alloc(), &view, row)?;
+        fails(&rt, rt.alloc(), &view, row);
     }
-    let mut host = load(rt.alloc(), &view, 0)?;
+    let mut host = load(rt.alloc(), &view, 0).expect(&rt, "a host");
     continues(&rt, rt.alloc(), &mut host);
-    Ok(())
 }
 
 #[test]
-fn runs_end(rt: HostRuntime) -> Result<(), Fail> {
-    let bytes = image(rt.alloc(), PLAIN, &FOURTEEN)?;
-    let view = ImageView::read(rt.alloc(), &bytes)?;
-    let mut host = load(rt.alloc(), &view, 0)?;
+fn runs_end(rt: HostRuntime) {
+    let bytes = image(rt.alloc(), PLAIN, &FOURTEEN).expect(&rt, "memory");
+    let view = ImageView::read(rt.alloc(), &bytes).expect(&rt, "an image");
+    let mut host = load(rt.alloc(), &view, 0).expect(&rt, "a host");
     ends(&rt, rt.alloc(), &mut host);
-    Ok(())
 }
 
 /// Images by base, size, entry point and characteristics of their section, in hexadecimal, and
@@ -276,43 +270,42 @@ fn fields_of(words: &str) -> Option<Fields> {
 }
 
 /// The words of the answer of loading.
-fn answer_of(alloc: Global, answer: Option<LoadErr>) -> Result<String, AllocError> {
-    match answer {
+fn answer_of(rt: &impl Abort, alloc: Global, answer: Option<LoadErr>) -> String {
+    let words = match answer {
         None => String::from_str(alloc, "loaded"),
         Some(LoadErr::Place { base }) => { format!(in alloc; "Place {base:x}") }
         Some(LoadErr::Entry { rva }) => { format!(in alloc; "Entry {rva:x}") }
         Some(other) => { format!(in alloc; "{other:?}") }
-    }
+    };
+    words.expect(rt, "memory")
 }
 
 /// Compares what loading answers for an image's bytes with words.
-fn loads(rt: &impl Abort, alloc: Global, bytes: &[u8], wanted: &str) -> Result<(), Fail> {
-    let view = ImageView::read(alloc, bytes)?;
+fn loads(rt: &impl Abort, alloc: Global, bytes: &[u8], wanted: &str) {
+    let view = ImageView::read(alloc, bytes).expect(rt, "an image");
     assert!(rt; has_place(&view) != wanted.starts_with("Place"), "{wanted}");
     assert!(rt; wanted != "loaded" || has_entry(&view), "{wanted}");
     let refusal = load(alloc, &view, 0).err();
     drop(view);
-    let answer = answer_of(alloc, refusal)?;
+    let answer = answer_of(rt, alloc, refusal);
     assert!(rt; answer.as_str() == wanted, "{answer}");
-    Ok(())
 }
 
 /// The same of the image of a row.
-fn row_loads(rt: &impl Abort, alloc: Global, row: &str) -> Result<(), Fail> {
+fn row_loads(rt: &impl Abort, alloc: Global, row: &str) {
     let (words, wanted) = row.split_once(" => ").unwrap_or((row, ""));
     let Some(fields) = fields_of(words) else {
         panic!(rt; "no fields: {row}")
     };
-    let bytes = image(alloc, fields, &FOURTEEN)?;
-    loads(rt, alloc, &bytes, wanted)
+    let bytes = image(alloc, fields, &FOURTEEN).expect(rt, "memory");
+    loads(rt, alloc, &bytes, wanted);
 }
 
 #[test]
-fn images_are_loaded_or_refused(rt: HostRuntime) -> Result<(), Fail> {
+fn images_are_loaded_or_refused(rt: HostRuntime) {
     for row in LOADED.lines().skip(1) {
-        row_loads(&rt, rt.alloc(), row)?;
+        row_loads(&rt, rt.alloc(), row);
     }
-    Ok(())
 }
 
 /// The arena, the stack and a section.
@@ -348,22 +341,20 @@ fn are_regions(rt: &impl Abort, found: &[Region]) {
 }
 
 #[test]
-fn an_image_has_its_regions(rt: HostRuntime) -> Result<(), Fail> {
+fn an_image_has_its_regions(rt: HostRuntime) {
     let fields = Fields {
         size: 0x3000,
         ..PLAIN
     };
-    let bytes = pushes(rt.alloc(), fields, 4097)?;
-    let view = ImageView::read(rt.alloc(), &bytes)?;
+    let bytes = pushes(&rt, rt.alloc(), fields, 4097);
+    let view = ImageView::read(rt.alloc(), &bytes).expect(&rt, "an image");
     assert!(rt; has_place(&view));
-    let found = regions(rt.alloc(), &view)?;
+    let found = regions(rt.alloc(), &view).expect(&rt, "memory");
     are_regions(&rt, &found);
-    Ok(())
 }
 
 #[test]
-fn a_section_is_within_its_image(rt: HostRuntime) -> Result<(), Fail> {
-    let bytes = pushes(rt.alloc(), PLAIN, 4097)?;
+fn a_section_is_within_its_image(rt: HostRuntime) {
+    let bytes = pushes(&rt, rt.alloc(), PLAIN, 4097);
     assert!(rt; ImageView::read(rt.alloc(), &bytes).is_err());
-    Ok(())
 }

@@ -6,9 +6,8 @@
 use seh_num::event::Code;
 use seh_num::width::Width;
 use seh_records::{BadRecord, DispatchRecord, Guard, Kind, fetch, place};
-use std::alloc::{AllocError, Global};
+use std::alloc::Global;
 use std::process::Abort;
-use std::test::Fail;
 use test_tables::words::number_of;
 use x64_machine::context::Context;
 use x64_machine::cpu::{Cpu, Flags};
@@ -34,8 +33,8 @@ const REGIONS: [Region; 2] = [
     },
 ];
 
-fn space(alloc: Global) -> Result<PageMap, AllocError> {
-    PageMap::new(alloc, &REGIONS)
+fn space(rt: &impl Abort, alloc: Global) -> PageMap {
+    PageMap::new(alloc, &REGIONS).expect(rt, "memory")
 }
 
 /// A state whose registers have numbers from 50 on.
@@ -125,11 +124,10 @@ const FIELDS: &str = r"
 ";
 
 #[test]
-fn fields_are_at_their_offsets(rt: HostRuntime) -> Result<(), Fail> {
-    let mut space = space(rt.alloc())?;
+fn fields_are_at_their_offsets(rt: HostRuntime) {
+    let mut space = space(&rt, rt.alloc());
     is_placed(&rt, &mut space);
     words_are(&rt, &space, FIELDS);
-    Ok(())
 }
 
 /// What memory holds before a record is placed.
@@ -163,12 +161,11 @@ const WRITTEN: &str = r"
 ";
 
 #[test]
-fn all_is_written_but_the_home_space(rt: HostRuntime) -> Result<(), Fail> {
-    let mut space = space(rt.alloc())?;
+fn all_is_written_but_the_home_space(rt: HostRuntime) {
+    let mut space = space(&rt, rt.alloc());
     fill(&rt, &mut space);
     is_placed(&rt, &mut space);
     words_are(&rt, &space, WRITTEN);
-    Ok(())
 }
 
 /// The record is of 1,568 bytes, and its return address is below it: the lowest place is at
@@ -196,21 +193,19 @@ fn place_of(row: &str) -> Option<(u64, Result<u64, Guard>)> {
 }
 
 /// Compares where a record is placed with a row.
-fn places(rt: &impl Abort, alloc: Global, row: &str) -> Result<(), Fail> {
+fn places(rt: &impl Abort, alloc: Global, row: &str) {
     let Some((rsp, answer)) = place_of(row) else {
         panic!(rt; "no row: {row}")
     };
-    let mut space = space(alloc)?;
+    let mut space = space(rt, alloc);
     assert!(rt; place(&mut space, rsp, &record()) == answer, "{row}");
-    Ok(())
 }
 
 #[test]
-fn records_are_placed_in_the_stack(rt: HostRuntime) -> Result<(), Fail> {
+fn records_are_placed_in_the_stack(rt: HostRuntime) {
     for row in PLACES.lines().skip(1) {
-        places(&rt, rt.alloc(), row)?;
+        places(&rt, rt.alloc(), row);
     }
-    Ok(())
 }
 
 /// Bytes that are changed, by their offset, and whether the record is fetched then.
@@ -227,11 +222,11 @@ const DAMAGED: &str = r"
 ";
 
 /// Compares what is fetched of a damaged record with a row.
-fn fetches(rt: &impl Abort, alloc: Global, row: &str) -> Result<(), Fail> {
+fn fetches(rt: &impl Abort, alloc: Global, row: &str) {
     let Some((offset, value)) = pair_of(row) else {
         panic!(rt; "no row: {row}")
     };
-    let mut space = space(alloc)?;
+    let mut space = space(rt, alloc);
     is_placed(rt, &mut space);
     let _ = space.store(AT.wrapping_add(offset), Width::W8, value);
     let answer = if row.ends_with("fetched") {
@@ -240,25 +235,22 @@ fn fetches(rt: &impl Abort, alloc: Global, row: &str) -> Result<(), Fail> {
         Err(BadRecord { address: AT })
     };
     assert!(rt; fetch(&space, AT) == answer, "{row}");
-    Ok(())
 }
 
 #[test]
-fn damaged_records_are_refused(rt: HostRuntime) -> Result<(), Fail> {
+fn damaged_records_are_refused(rt: HostRuntime) {
     for row in DAMAGED.lines().skip(1) {
-        fetches(&rt, rt.alloc(), row)?;
+        fetches(&rt, rt.alloc(), row);
     }
-    Ok(())
 }
 
 #[test]
-fn no_record_is_there(rt: HostRuntime) -> Result<(), Fail> {
-    let space = space(rt.alloc())?;
+fn no_record_is_there(rt: HostRuntime) {
+    let space = space(&rt, rt.alloc());
     for address in [0, 0x7000_1A00, 0x2000_0000] {
         assert!(rt;
             fetch(&space, address) == Err(BadRecord { address }),
             "{address}"
         );
     }
-    Ok(())
 }

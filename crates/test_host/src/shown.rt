@@ -8,9 +8,8 @@ use seh_host::run::run;
 use seh_io::plain::VecSink;
 use seh_num::end::Reason;
 use seh_num::event::Code;
-use std::alloc::{AllocError, Global};
+use std::alloc::Global;
 use std::process::Abort;
-use std::test::Fail;
 use test_tables::words::number_of;
 
 /// A run of an image: its argument, how many turns it has, and whether its trace is shown.
@@ -67,34 +66,33 @@ fn end_of(line: &str) -> Option<RunEnd> {
 }
 
 /// The text of lines that are joined by ` / `.
-fn text_of(alloc: Global, lines: &str) -> Result<String, AllocError> {
+fn text_of(rt: &impl Abort, alloc: Global, lines: &str) -> String {
     let mut text = String::new(alloc);
     for line in lines.split(" / ") {
-        text.push_str(line)?;
-        text.push_str("\n")?;
+        text.push_str(line).expect(rt, "memory");
+        text.push_str("\n").expect(rt, "memory");
     }
-    Ok(text)
+    text
 }
 
 /// Compares bytes with that text.
-pub fn says(rt: &impl Abort, alloc: Global, found: &[u8], lines: &str) -> Result<(), AllocError> {
-    let text = text_of(alloc, lines)?;
+pub fn says(rt: &impl Abort, alloc: Global, found: &[u8], lines: &str) {
+    let text = text_of(rt, alloc, lines);
     assert!(rt; found == text.as_bytes(), "{lines}");
-    Ok(())
 }
 
 /// How a host's run ends, and the bytes of its text.
-fn run_of(alloc: Global, host: &mut Host<'_, '_>, how: Run) -> Result<(RunEnd, Vec<u8>), Fail> {
+fn run_of(rt: &impl Abort, alloc: Global, host: &mut Host<'_, '_>, how: Run) -> (RunEnd, Vec<u8>) {
     let mut out = VecSink::new(alloc);
-    let end = run(host, how.turns, how.trace, &mut out)?;
-    Ok((end, out.bytes))
+    let end = run(host, how.turns, how.trace, &mut out).expect(rt, "a run");
+    (end, out.bytes)
 }
 
 /// The same of an image that is loaded.
-fn shown(alloc: Global, bytes: &[u8], how: Run) -> Result<(RunEnd, Vec<u8>), Fail> {
-    let view = ImageView::read(alloc, bytes)?;
-    let mut host = load(alloc, &view, how.argument)?;
-    run_of(alloc, &mut host, how)
+fn shown(rt: &impl Abort, alloc: Global, bytes: &[u8], how: Run) -> (RunEnd, Vec<u8>) {
+    let view = ImageView::read(alloc, bytes).expect(rt, "an image");
+    let mut host = load(alloc, &view, how.argument).expect(rt, "a host");
+    run_of(rt, alloc, &mut host, how)
 }
 
 /// Whether the last of lines that are joined by ` / ` is that of an end.
@@ -106,15 +104,8 @@ fn ends_with(lines: &str, end: RunEnd) -> bool {
 }
 
 /// Compares what an image's run shows with lines that are joined by ` / `.
-pub fn shows(
-    rt: &impl Abort,
-    alloc: Global,
-    bytes: &[u8],
-    how: Run,
-    lines: &str,
-) -> Result<(), Fail> {
-    let (end, found) = shown(alloc, bytes, how)?;
+pub fn shows(rt: &impl Abort, alloc: Global, bytes: &[u8], how: Run, lines: &str) {
+    let (end, found) = shown(rt, alloc, bytes, how);
     assert!(rt; ends_with(lines, end), "{lines}");
-    says(rt, alloc, &found, lines)?;
-    Ok(())
+    says(rt, alloc, &found, lines);
 }

@@ -3,9 +3,8 @@ use host_layout::service::Service;
 use seh_num::event::Code;
 use seh_num::size::LONGEST_INSTRUCTION;
 use seh_num::width::Width;
-use std::alloc::{AllocError, Global};
+use std::alloc::Global;
 use std::process::Abort;
-use std::test::Fail;
 use test_tables::rows::{column, word, word_if};
 use test_tables::words::put_bytes;
 use x64_instr::decoding::decode;
@@ -92,16 +91,16 @@ fn put_code(rt: &impl Abort, table: &str, pages: &mut [u8]) {
 }
 
 /// Memory with the code of a table.
-fn with_code(rt: &impl Abort, alloc: Global, table: &str) -> Result<PageMap, AllocError> {
+fn with_code(rt: &impl Abort, alloc: Global, table: &str) -> PageMap {
     let mut pages = [0; 0x2000];
     put_code(rt, table, &mut pages);
-    let mut space = PageMap::new(alloc, &REGIONS)?;
+    let mut space = PageMap::new(alloc, &REGIONS).expect(rt, "memory");
     space.fill(0x4000_0000, &pages);
-    Ok(space)
+    space
 }
 
 /// Memory of zeros.
-fn space(rt: &impl Abort, alloc: Global) -> Result<PageMap, AllocError> {
+fn space(rt: &impl Abort, alloc: Global) -> PageMap {
     with_code(rt, alloc, "")
 }
 

@@ -9,7 +9,6 @@ use flat_memory::access::RefusedAccess;
 use seh_num::width::Width;
 use std::alloc::{AllocError, Global};
 use std::process::Abort;
-use std::test::Fail;
 use test_tables::rows::{column, word, word_if};
 use test_tables::words::are_spelled;
 use x64_memory::page_map::PageMap;
@@ -70,14 +69,14 @@ fn space(alloc: Global) -> Result<PageMap, AllocError>
 }
 
 /// The bytes 1 to 16 over the end of the first page of code, and 7s over the end of the data.
-fn filled_space(alloc: Global) -> Result<PageMap, AllocError> {
-    let mut space = space(alloc)?;
+fn filled_space(rt: &impl Abort, alloc: Global) -> PageMap {
+    let mut space = space(alloc).expect(rt, "memory");
     space.fill(
         0x4000_0FF8,
         &[1, 2, 3, 4, 5, 6, 7, 8, 9, 10, 11, 12, 13, 14, 15, 16],
     );
     space.fill(0x4000_2FFE, &[7; 4100]);
-    Ok(space)
+    space
 }
 
 /// What is asked of memory at an address.
@@ -195,10 +194,9 @@ FFFFFFFFFFFFFFFF 16 | fault FFFFFFFFFFFFFFFF
 ";
 
 #[test]
-fn loads_what_was_filled(rt: HostRuntime) -> Result<(), Fail> {
-    let mut space = filled_space(rt.alloc())?;
+fn loads_what_was_filled(rt: HostRuntime) {
+    let mut space = filled_space(&rt, rt.alloc());
     all_answer(&rt, &mut space, LOADS);
-    Ok(())
 }
 
 /// What is loaded again where 1122334455667788h was stored; the last three are over the end of a
@@ -236,13 +234,12 @@ fn stores<S: AddressSpace>(rt: &impl Abort, space: &mut S, text: &str) {
 }
 
 #[test]
-fn loads_what_was_stored(rt: HostRuntime) -> Result<(), Fail> {
-    let mut space = space(rt.alloc())?;
+fn loads_what_was_stored(rt: HostRuntime) {
+    let mut space = space(rt.alloc()).expect(&rt, "memory");
     for text in STORED.lines().skip(1) {
         stores(&rt, &mut space, text);
     }
     all_answer(&rt, &mut space, BESIDE);
-    Ok(())
 }
 
 /// Stores that are refused, by the first byte that may not be written.
@@ -277,13 +274,12 @@ fn is_refused<S: AddressSpace>(rt: &impl Abort, space: &mut S, text: &str) {
 }
 
 #[test]
-fn refused_stores_change_nothing(rt: HostRuntime) -> Result<(), Fail> {
-    let mut space = filled_space(rt.alloc())?;
+fn refused_stores_change_nothing(rt: HostRuntime) {
+    let mut space = filled_space(&rt, rt.alloc());
     for text in REFUSED.lines().skip(1) {
         is_refused(&rt, &mut space, text);
     }
     all_answer(&rt, &mut space, GUARDED);
-    Ok(())
 }
 
 /// The bytes that are fetched of 15. The fourth row's next page isn't executable; nor are the
@@ -312,12 +308,11 @@ fn fetches<S: AddressSpace>(rt: &impl Abort, space: &S, row: &str) {
 }
 
 #[test]
-fn fetches_executable_bytes(rt: HostRuntime) -> Result<(), Fail> {
-    let space = filled_space(rt.alloc())?;
+fn fetches_executable_bytes(rt: HostRuntime) {
+    let space = filled_space(&rt, rt.alloc());
     for row in FETCHED.lines().skip(1) {
         fetches(&rt, &space, row);
     }
-    Ok(())
 }
 
 /// Rights of pages that are asked for, and accesses after it.
@@ -345,12 +340,11 @@ const MODES: &str = r"
 ";
 
 #[test]
-fn protects_pages_of_the_arena(rt: HostRuntime) -> Result<(), Fail> {
-    let mut space = space(rt.alloc())?;
+fn protects_pages_of_the_arena(rt: HostRuntime) {
+    let mut space = space(rt.alloc()).expect(&rt, "memory");
     all_answer(&rt, &mut space, MODES);
     // Nothing of the arena is executable.
     fetches(&rt, &space, "20005FF0 |");
-    Ok(())
 }
 
 fn stored_then_loaded<S: AddressSpace>(
@@ -381,7 +375,7 @@ fn in_new_memory(
 }
 
 #[test]
-fn a_generic_caller_sees_what_was_made(rt: HostRuntime) -> Result<(), Fail> {
-    assert_eq!(rt; in_new_memory(rt.alloc(), &REGIONS, 0x4000_2000, 5)?, Ok(5));
-    Ok(())
+fn a_generic_caller_sees_what_was_made(rt: HostRuntime) {
+    let found = in_new_memory(rt.alloc(), &REGIONS, 0x4000_2000, 5).expect(&rt, "memory");
+    same(&rt, found, Ok(5), "a number");
 }

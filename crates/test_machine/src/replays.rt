@@ -3,7 +3,6 @@ use host_layout::range::ARENA_START;
 use seh_num::width::Width;
 use std::alloc::Global;
 use std::process::Abort;
-use std::test::Fail;
 use x64_memory::page_map::PageMap;
 use x64_memory::region::ARENA;
 use x64_memory::space::AddressSpace;
@@ -42,23 +41,18 @@ const REFUSED_CALLS: [Op; 3] = [
     },
 ];
 
-fn answers_calls<S: AddressSpace>(
-    rt: &impl Abort,
-    alloc: Global,
-    space: &mut S,
-) -> Result<(), Fail> {
-    let answers = replay(alloc, space, &THREE_CALLS)?;
+fn answers_calls<S: AddressSpace>(rt: &impl Abort, alloc: Global, space: &mut S) {
+    let answers = replay(alloc, space, &THREE_CALLS).expect(rt, "memory");
     assert!(rt; answers[..] == [Answer::Protected(true), Answer::Stored, Answer::Loaded(7)]);
-    let answers = replay(alloc, space, &REFUSED_CALLS)?;
+    let answers = replay(alloc, space, &REFUSED_CALLS).expect(rt, "memory");
     let refused = |write| Answer::Refused(RefusedAccess::Fault { address: 8, write });
     assert!(rt; answers[..] == [Answer::Protected(false), refused(true), refused(false)]);
-    Ok(())
 }
 
 #[test]
-fn replay_of_three_calls(rt: HostRuntime) -> Result<(), Fail> {
-    let mut paged = PageMap::new(rt.alloc(), &[ARENA])?;
-    answers_calls(&rt, rt.alloc(), &mut paged)?;
-    let mut mapped = MapSpace::new(rt.alloc(), &[ARENA])?;
-    answers_calls(&rt, rt.alloc(), &mut mapped)
+fn replay_of_three_calls(rt: HostRuntime) {
+    let mut paged = PageMap::new(rt.alloc(), &[ARENA]).expect(&rt, "memory");
+    answers_calls(&rt, rt.alloc(), &mut paged);
+    let mut mapped = MapSpace::new(rt.alloc(), &[ARENA]).expect(&rt, "memory");
+    answers_calls(&rt, rt.alloc(), &mut mapped);
 }

@@ -4,7 +4,6 @@ use seh_num::width::Width;
 use std::alloc::Global;
 use std::fmt::Debug;
 use std::process::Abort;
-use std::test::Fail;
 use test_tables::rows::word;
 use test_tables::words::number_of;
 
@@ -38,14 +37,7 @@ pub fn same<T: Copy + PartialEq + Debug>(rt: &impl Abort, found: T, want: T, not
 }
 
 /// Compares what `Debug` shows of a value.
-pub fn shows<T: Debug>(
-    rt: &impl Abort,
-    alloc: Global,
-    value: &T,
-    want: &str,
-    row: &str,
-) -> Result<(), Fail> {
-    let found = format!(in alloc; "{value:?}")?;
+pub fn shows<T: Debug>(rt: &impl Abort, alloc: Global, value: &T, want: &str, row: &str) {
+    let found = format!(in alloc; "{value:?}").expect(rt, "memory");
     assert_eq!(rt; found.as_str(), want, "{row}");
-    Ok(())
 }

@@ -137,37 +137,27 @@ fn quotient_of(rt: &impl Abort, before: Cpu, answer: &str) -> Result<Cpu, Stop> 
 }
 
 /// Compares the effects of the rows of a table.
-fn all_have_effects(rt: &impl Abort, alloc: Global, table: &str) -> Result<(), Fail> {
-    let mut space = space(rt, alloc)?;
+fn all_have_effects<S: AddressSpace>(rt: &impl Abort, space: &mut S, table: &str) {
     for row in table.lines().skip(1) {
         let (before, after) = states_of(rt, row);
-        has_effect(rt, &mut space, row, before, Ok(after));
+        has_effect(rt, space, row, before, Ok(after));
     }
-    Ok(())
 }
 
-#[test]
-fn bits_and_flags(rt: HostRuntime) -> Result<(), Fail> {
-    all_have_effects(&rt, rt.alloc(), BITS_AND_FLAGS)
-}
-
-#[test]
-fn shifts(rt: HostRuntime) -> Result<(), Fail> {
-    all_have_effects(&rt, rt.alloc(), SHIFTS)
-}
-
-#[test]
-fn other_registers(rt: HostRuntime) -> Result<(), Fail> {
-    all_have_effects(&rt, rt.alloc(), OTHERS)
-}
-
-#[test]
-fn divisions(rt: HostRuntime) -> Result<(), Fail> {
-    let mut space = space(&rt, rt.alloc())?;
-    for row in DIVISIONS.lines().skip(1) {
-        let before = dividend_of(&rt, column(row, 2));
-        let want = quotient_of(&rt, before, column(row, 3));
-        has_effect(&rt, &mut space, row, before, want);
+/// Compares what the rows of a table divide.
+fn all_divide<S: AddressSpace>(rt: &impl Abort, space: &mut S, table: &str) {
+    for row in table.lines().skip(1) {
+        let before = dividend_of(rt, column(row, 2));
+        let want = quotient_of(rt, before, column(row, 3));
+        has_effect(rt, space, row, before, want);
     }
-    Ok(())
+}
+
+#[test]
+fn registers_and_flags(rt: HostRuntime) {
+    let mut space = space(&rt, rt.alloc());
+    for table in [BITS_AND_FLAGS, SHIFTS, OTHERS] {
+        all_have_effects(&rt, &mut space, table);
+    }
+    all_divide(&rt, &mut space, DIVISIONS);
 }

@@ -26,13 +26,12 @@ fn jump_of(rt: &impl Abort, row: &str) -> (Cpu, Cpu) {
 }
 
 #[test]
-fn jumps(rt: HostRuntime) -> Result<(), Fail> {
-    let mut space = space(&rt, rt.alloc())?;
+fn jumps(rt: HostRuntime) {
+    let mut space = space(&rt, rt.alloc());
     for row in JUMPS.lines().skip(1) {
         let (before, after) = jump_of(&rt, row);
         has_effect(&rt, &mut space, row, before, Ok(after));
     }
-    Ok(())
 }
 
 /// The only word of the stack that these instructions touch.
@@ -72,15 +71,6 @@ fn pushes<S: AddressSpace>(rt: &impl Abort, space: &mut S, row: &str) {
     same(rt, found, Ok(number_at(rt, answer, 2)), row);
 }
 
-#[test]
-fn pushes_and_pops(rt: HostRuntime) -> Result<(), Fail> {
-    let mut space = space(&rt, rt.alloc())?;
-    for row in PUSHES.lines().skip(1) {
-        pushes(&rt, &mut space, row);
-    }
-    Ok(())
-}
-
 /// Compares what the function `pop` makes of a number on the stack, and of an empty stack.
 fn pops<S: AddressSpace>(rt: &impl Abort, space: &mut S) {
     let empty = cpu();
@@ -101,18 +91,19 @@ fn pops<S: AddressSpace>(rt: &impl Abort, space: &mut S) {
 }
 
 #[test]
-fn pops_as_a_function(rt: HostRuntime) -> Result<(), Fail> {
-    let mut space = space(&rt, rt.alloc())?;
+fn pushes_and_pops(rt: HostRuntime) {
+    let mut space = space(&rt, rt.alloc());
+    for row in PUSHES.lines().skip(1) {
+        pushes(&rt, &mut space, row);
+    }
     pops(&rt, &mut space);
-    Ok(())
 }
 
 #[test]
-fn no_instructions_to_run(rt: HostRuntime) -> Result<(), Fail> {
-    let mut space = space(&rt, rt.alloc())?;
+fn no_instructions_to_run(rt: HostRuntime) {
+    let mut space = space(&rt, rt.alloc());
     has_effect(&rt, &mut space, "CC | int3", cpu(), Err(Stop::Illegal));
     has_effect(&rt, &mut space, "0F 0B | ud2", cpu(), Err(Stop::Illegal));
-    Ok(())
 }
 
 // Microsoft x64 ABI: RBX, RBP, RDI, RSI, RSP and R12 to R15 are nonvolatile; RIP beside them.
@@ -153,16 +144,15 @@ const SERVICES: &str = r"
 ";
 
 #[test]
-fn services(rt: HostRuntime) -> Result<(), Fail> {
+fn services(rt: HostRuntime) {
     for row in SERVICES.lines().skip(1) {
         let address = number(&rt, column(row, 0));
         let service = Service::at(address);
-        shows(&rt, rt.alloc(), &service, column(row, 1), row)?;
+        shows(&rt, rt.alloc(), &service, column(row, 1), row);
         if let Some(service) = service {
             same(&rt, service.address(), address, row);
         }
     }
-    Ok(())
 }
 
 /// A routine that calls the second of two returns, and a number after them.
@@ -265,8 +255,8 @@ fn steps_through<S: AddressSpace>(rt: &impl Abort, space: &mut S) -> Cpu {
 }
 
 #[test]
-fn steps_through_a_routine(rt: HostRuntime) -> Result<(), Fail> {
-    let mut space = with_code(&rt, rt.alloc(), ROUTINE)?;
+fn steps_through_a_routine(rt: HostRuntime) {
+    let mut space = with_code(&rt, rt.alloc(), ROUTINE);
     let cpu = steps_through(&rt, &mut space);
     all_hold(&rt, &space, LEFT);
     // 80000003h + FFFFFFFDh carries; the product after it fits.
@@ -274,7 +264,6 @@ fn steps_through_a_routine(rt: HostRuntime) -> Result<(), Fail> {
     same(&rt, cpu.rip, 0x4000_0031, "RIP");
     let want = violation(false, 0x7000_1000);
     is_refused(&rt, &mut space, cpu, want, "the stack is empty");
-    Ok(())
 }
 
 /// Instructions that are refused by what the registers hold. The last ones are a mov whose number
@@ -363,8 +352,8 @@ const KEPT: &str = r"
 ";
 
 #[test]
-fn refused_steps_change_nothing(rt: HostRuntime) -> Result<(), Fail> {
-    let mut space = with_code(&rt, rt.alloc(), PIECES)?;
+fn refused_steps_change_nothing(rt: HostRuntime) {
+    let mut space = with_code(&rt, rt.alloc(), PIECES);
     for row in REFUSED.lines().skip(1) {
         let before = refused_at(&rt, column(row, 0));
         let words = column(row, 1);
@@ -373,5 +362,4 @@ fn refused_steps_change_nothing(rt: HostRuntime) -> Result<(), Fail> {
         is_refused(&rt, &mut space, before, want, row);
     }
     all_hold(&rt, &space, KEPT);
-    Ok(())
 }
