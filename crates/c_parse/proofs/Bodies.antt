@@ -1,6 +1,7 @@
 -- Functions are read as far as they go after their names.
 use Rattle.std.proofs.Common.{◌≡◌, ◌≤◌, ℕ, List, [], ◌∷◌, ◌++◌, length, refl, sym, ap, ◌∙◌, subst}
 use Rattle.std.proofs.Common.{arith}
+use Rattle.c_syntax.specs.declared.limit.TheConstants.{MOST_LOCALS}
 use Rattle.c_lex.specs.declared.punctuator.Punctuator.TheVariants as punctuators
 use Rattle.c_lex.specs.declared.token.Kind.TheVariants as kinds
 use Rattle.c_parse.specs.Words.{Token, Parameter, Wraps, FunctionWithinFirst, AreParameters, Empty, token, HasPunctuator, Left, NoPunctuator, APunctuator, NoBlockItems, HasBlockItems, NoParameters, HasParameters, IsTail, NoTail, HasTail}
@@ -86,7 +87,7 @@ in_brace text funclets ts b found is few =
     }
 
 pub in_body : (text : List ℕ) (left : Left) (ts b c : List Token) (found : List Parameter)
-    → left.locals ≡ 256 → AreParameters found ts b → length found ≤ 8
+    → left.locals ≡ MOST_LOCALS → AreParameters found ts b → length found ≤ 8
     → HasPunctuator punctuators.OpenBrace b c
     → Wraps (NoBlockItems 65 left) (HasBlockItems 65 left) (NoTail left.funclets)
     (HasTail left.funclets) text c ts

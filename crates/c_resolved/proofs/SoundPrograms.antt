@@ -4,6 +4,7 @@ use Rattle.std.proofs.lemmas.Bool.{le-leb, eqb-true, and_parts}
 use Rattle.std.proofs.lemmas.List.{append_assoc, length-append, length-map, length-drop, length_push, drop_at}
 use Rattle.std.specs.Prelude.{suc, true, false, not, ◌&&◌, ◌||◌, nat_eq, List, [], ◌∷◌, ◌++◌, length, map, drop, slice_get, Option, Some}
 use Rattle.c_resolved.specs.Words.{Size, Inside, some_sizes, are_sizes, is_size, statements_sound, funclets, count_up, all_funclets, function_sound, functions_sound, main_sound, IsSound, Parameter, LongLong, CType, Identifier, every_limit, FunctionWithinFirst, EachWithinFirst, Within, funclets_of_all, ExternalDeclaration, Globals, Function, Statements, Duplicate, TypeClash, plain, is_scalar, size_of, same_base, same_type, int, Entity, LocalVariable, UserFunction, Scope, spelled, meaning_in, unless_holds, is_taken, with_name, Numbering, ResolvedStatements, resolve_statements, file_of, empty_file, parameter_types, with_parameters, parameter_faults, result_size, around, function_of, functions_of, main_name, are_main_parameters, place_of_function, main_of, resolve, Accepted, AcceptedIsSound}
+use Rattle.seh_num.specs.declared.limit.TheConstants.{MOST_LOCALS}
 use Rattle.c_operations.specs.declared.operation.Size.TheVariants as sizes
 use Rattle.c_checked.specs.Statement as checked
 use Rattle.c_checked.specs.Program as checked_program
@@ -142,9 +143,9 @@ function_holds fs text file t n ps body number within fit none =
     let few : length (parameter_sizes ps) ≤ 8 = omega (arith, parameters) in
     let dropped = length-drop (length ps) zs in
     let declared = within.locals (omega arith) in
-    let locals : length (drop (length ps) zs) ≤ 256 = omega (arith, declared, c.sizes) in
+    let locals : length (drop (length ps) zs) ≤ MOST_LOCALS = omega (arith, declared, c.sizes) in
     and_true (and_true sound (le-leb (length (parameter_sizes ps)) 8 few))
-    (le-leb (length (drop (length ps) zs)) 256 locals)
+    (le-leb (length (drop (length ps) zs)) MOST_LOCALS locals)
 
 -- ---- all functions
 

@@ -4,7 +4,7 @@ use Rattle.std.specs.Prelude.{max}
 use Rattle.std.proofs.lemmas.Bool.{and_parts, leb-false}
 use Rattle.frame_rules.specs.Plan.{frame_size}
 use Rattle.frame_rules.proofs.Sizes.{frame_has_its_size}
-use Rattle.template_code.specs.declared.layout.TheConstants.{LARGEST_FRAME}
+use Rattle.template_code.specs.declared.layout.TheConstants.{FRAME_BY_WEIGHT}
 use Rattle.frame_layout.specs.Layout.{pushed_count, words, padded, FitsFrame, is_framed, size_if, frame_if, frame_of, IsFrame, IsLaidOut, IsFramedBySize}
 use Rattle.frame_layout.specs.Plans.{plan_of}
 use Rattle.frame_layout.specs.declared.frame.Facts.{Facts}
@@ -18,16 +18,16 @@ size_enough f true = let m : words f ≤ max (words f) 32 = omega arith in omega
 size_enough f false = omega arith
 
 size_few : (f : Facts) (framed : Bool) → FitsFrame f
-    → size_if f framed + 8 * (pushed_count f + 1) + 8 ≤ LARGEST_FRAME
+    → size_if f framed + 8 * (pushed_count f + 1) + 8 ≤ FRAME_BY_WEIGHT * f.weight
 size_few f true h = let w = h.words in omega arith
 size_few f false h = let w = h.words in omega arith
 
 small_if : (f : Facts) (framed : Bool) → FitsFrame f
-    → (frame_if f framed).depth + 8 ≤ LARGEST_FRAME
+    → (frame_if f framed).depth + 8 ≤ FRAME_BY_WEIGHT * f.weight
 small_if f framed h = by framed (size_few f framed h)
   where
-    by : (b : Bool) → size_if f b + 8 * (pushed_count f + 1) + 8 ≤ LARGEST_FRAME
-        → (frame_if f b).depth + 8 ≤ LARGEST_FRAME
+    by : (b : Bool) → size_if f b + 8 * (pushed_count f + 1) + 8 ≤ FRAME_BY_WEIGHT * f.weight
+        → (frame_if f b).depth + 8 ≤ FRAME_BY_WEIGHT * f.weight
     by true few = omega arith
     by false few = omega arith
 
@@ -42,7 +42,7 @@ parts_if f framed h =
       some = omega arith;
       saved = omega arith;
       depth = refl;
-      small = let s = small_if f framed h in omega arith;
+      small = let s = small_if f framed h in let light = h.weight in omega arith;
     }
 
 aligned_if : (f : Facts) (framed : Bool) → ((frame_if f framed).depth + 8) % 16 ≡ 0
@@ -80,8 +80,8 @@ framed_by_size f = record {
       (sym (ap (λ b. b && leb 256 (padded (words f) (pushed_count f))) may) ∙ e));
 }
 
--- all of it is in the largest frame
-pub small : (f : Facts) → FitsFrame f → (frame_of f).depth + 8 ≤ LARGEST_FRAME
+-- all of it is in the largest frame of its weight
+pub small : (f : Facts) → FitsFrame f → (frame_of f).depth + 8 ≤ FRAME_BY_WEIGHT * f.weight
 small f h = small_if f (is_framed f) h
 
 -- its bytes with the pushes and the return address

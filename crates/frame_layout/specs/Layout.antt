@@ -3,7 +3,7 @@ use Rattle.std.specs.Prelude.{◌≡◌, ℕ, ◌+◌, ◌-◌, ◌*◌, ◌%◌
 use Rattle.frame_layout.specs.declared.frame.Facts.{Facts}
 use Rattle.frame_layout.specs.declared.frame.FrameLayout.{FrameLayout}
 use Rattle.frame_layout.specs.declared.frame.TheConstants.{LEAST_FRAMED}
-use Rattle.template_code.specs.declared.layout.TheConstants.{LARGEST_FRAME}
+use Rattle.template_code.specs.declared.layout.TheConstants.{FRAME_BY_WEIGHT, MOST_WEIGHT}
 
 -- ---- what a routine needs, in words
 
@@ -23,10 +23,11 @@ abbrev pub words : Facts → ℕ
 words f = slot_words f + saved_count f
 
 -- with these, a word of padding, the pushes, RBP's among them, and the return address it is in the
--- largest frame
+-- largest frame of its weight
 pub record FitsFrame (f : Facts) : Type 0 where
   pub registers : f.registers ≤ 7
-  pub words : 8 * (words f + pushed_count f + 3) ≤ LARGEST_FRAME
+  pub weight : f.weight ≤ MOST_WEIGHT
+  pub words : 8 * (words f + pushed_count f + 3) ≤ FRAME_BY_WEIGHT * f.weight
 
 -- ---- the fixed allocation
 

@@ -1,13 +1,13 @@
 //! The layout of a frame.
 
-ghost use Rattle.std.specs.Prelude.{◌≡◌, ◌≤◌, ◌+◌, ◌-◌, ℕ, min, true};
+ghost use Rattle.std.specs.Prelude.{◌≡◌, ◌≤◌, ◌+◌, ◌-◌, ◌*◌, ℕ, min, true};
 ghost use Rattle.seh_num.specs.declared.width.Width.{Width};
 ghost use Rattle.x64_encode.specs.Chosen.{is_signed};
 ghost use Rattle.frame_rules.specs.Plan.{IsPlan, frame_size};
 ghost use Rattle.frame_layout.specs.Layout as spec;
 ghost use Rattle.frame_layout.specs.Plans.{plan_of};
 
-use template_code::layout::LARGEST_FRAME;
+use template_code::layout::{FRAME_BY_WEIGHT, MOST_WEIGHT};
 
 /// The bytes of a word of the stack.
 const WORD: u64 = 8;
@@ -36,6 +36,8 @@ pub struct Facts {
     pub registers: u64,
     /// Whether it has a frame register where its fixed allocation is large.
     pub frame_register: bool,
+    /// What it weighs, from 1 on: how much an activation of it counts in the depth.
+    pub weight: u64,
 }
 
 /// A frame. From RSP up it has the home space of what is called, further arguments of calls, what
@@ -67,7 +69,7 @@ pub struct FrameLayout {
 /// So many words, or one more, so that with so many pushes and the return address they are a
 /// multiple of 16 bytes.
 fn padded(words: u64, pushes: u64) -> u64
-    requires words { words ≤ LARGEST_FRAME }
+    requires words { words ≤ FRAME_BY_WEIGHT * MOST_WEIGHT }
     requires pushes { pushes ≤ 4 }
     ensures { result ≡ spec.padded words pushes }
 {
@@ -162,7 +164,7 @@ pub fn plan(facts: &Facts) -> FrameLayout
     ensures laid_out { spec.IsLaidOut facts.now result }
     ensures framed { spec.IsFramedBySize facts.now result }
     ensures parts { spec.IsFrame result }
-    ensures small { result.depth + 8 ≤ LARGEST_FRAME }
+    ensures small { result.depth + 8 ≤ FRAME_BY_WEIGHT * facts.now.weight }
     ensures size { (probe : ℕ) → frame_size (plan_of result probe) ≡ result.depth + 8 }
     ensures plan { (probe : ℕ) → is_signed Width.W32 Width.W64 probe ≡ true
         → IsPlan (plan_of result probe) }

@@ -5,8 +5,8 @@
 //! [`epilogue`] are the instructions that take it and give it back, and [`unwind_of`] what
 //! unwinding needs to know of them. No call takes memory.
 //!
-//! Proved: they keep the rules of `frame_rules`, and no frame is larger than `LARGEST_FRAME`. Begin
-//! with `specs/Layout.antt`.
+//! Proved: they keep the rules of `frame_rules`, and no frame is larger than `FRAME_BY_WEIGHT` for
+//! each 1 of its weight. Begin with `specs/Layout.antt`.
 #![tactic(auto)]
 
 mod frame;

@@ -13,7 +13,7 @@ use Rattle.image_link.proofs.Lemmas.{sizes_append}
 
 -- ---- the code
 
-check_size : sizes check_stack ≡ 21
+check_size : sizes check_stack ≡ 41
 unfolding size modrm
 check_size = refl
 

@@ -1,5 +1,5 @@
 -- Each routine of a program that fits is near, and all of them have room.
-use Rattle.std.proofs.Common.{◌≡◌, ℕ, suc, ◌+◌, ◌<◌, ◌≤◌, ◌==◌, Bool, true, false, not, List, [], ◌∷◌, ◌++◌, length, map, Option, Some, None, refl, sym, ap, subst, arith}
+use Rattle.std.proofs.Common.{◌≡◌, ℕ, suc, ◌+◌, ◌^◌, ◌<◌, ◌≤◌, ◌==◌, Bool, true, false, not, List, [], ◌∷◌, ◌++◌, length, map, Option, Some, None, refl, sym, ap, subst, arith}
 use Rattle.std.specs.Prelude.{◌&&◌}
 use Rattle.std.specs.List.{AllByRecursion}
 use Rattle.linear_code.specs.declared.slot.Slot.{Slot}
@@ -16,12 +16,16 @@ use Rattle.image_link.proofs.Lemmas.{all_at}
 use Rattle.image_link.specs.Text as texts
 use Rattle.image_link.specs.Fits.{room}
 
--- a layout all of whose parts are within 16,384 bytes
+-- the parts of a frame end below so many bytes
+abbrev low_end : ℕ
+low_end = 2 ^ 20
+
+-- a layout all of whose parts are below that
 record IsLow (y : Layout) : Type 0 where
   base : IsBaseNear y.base
-  pointers : y.pointers ≤ 16384
-  locals : y.locals ≤ 16384
-  temporaries : y.temporaries ≤ 16384
+  pointers : y.pointers ≤ low_end
+  locals : y.locals ≤ low_end
+  temporaries : y.temporaries ≤ low_end
   ending : IsFrameNear y
 
 -- ---- frames
@@ -29,13 +33,13 @@ record IsLow (y : Layout) : Type 0 where
 pub function_facts_fit : (f : LinearFunction) → FitsFunction f → FitsFrame (function_facts f)
 function_facts_fit f fits =
     let r = fits.registers in
-    let w = fits.body.words in
-    record { registers = omega arith; words = omega arith }
+    let w = fits.words in
+    record { registers = omega arith; weight = fits.weight; words = omega arith }
 
 pub funclet_facts_fit : (b : LinearBody) → FitsBody b → FitsFrame (funclet_facts b)
 funclet_facts_fit b fits =
     let w = fits.words in
-    record { registers = omega arith; words = omega arith }
+    record { registers = omega arith; weight = omega arith; words = omega arith }
 
 -- the epilogue of a frame is in its layout
 ending_near : (y : Layout) (h : IsFrame (frame_of_layout y)) → IsFrameNear y
@@ -70,7 +74,7 @@ slot_near : (y : Layout) (b : LinearBody) (x : Slot) → IsLow y → FitsBody b 
 slot_near y b (Temporary i) low fits lt = let t = low.temporaries in let w = fits.words in
     omega arith
 slot_near y b (Local i) low fits lt = (
-  let l = low.locals in let w = fits.words in
+  let l = low.locals in let w = fits.locals in
       omega arith,
   low.base,
 )
@@ -111,7 +115,8 @@ code_near y b (i ∷ is) low fits all = (
 
 leaf_near : (f : LinearFunction) → FitsFunction f → IsRoutineNear (leaf f)
 leaf_near f fits =
-    let w = fits.body.words in
+    let w = fits.words in
+    let light = fits.weight in
     let few = fits.parameters in
     let low : IsLow (leaf_layout f) = record {
       base = tt;
@@ -129,7 +134,8 @@ leaf_near f fits =
 
 framed_near : (f : LinearFunction) → FitsFunction f → IsRoutineNear (framed f)
 framed_near f fits =
-    let w = fits.body.words in
+    let w = fits.words in
+    let light = fits.weight in
     let few = fits.parameters in
     let r = fits.registers in
     let facts = function_facts_fit f fits in
@@ -143,7 +149,7 @@ framed_near f fits =
       ending = function_ending (function_frame f) f.registers (parts (function_facts f) facts);
     } in
     record {
-      frame = (parts (function_facts f) facts, all);
+      frame = (parts (function_facts f) facts, omega arith);
       entry = (few, record { locals = omega arith; stack = omega arith });
       code = code_near y f.body f.body.code low fits.body fits.body.code;
       regions = fits.body.regions;
@@ -185,7 +191,8 @@ funclet_low : (p : LinearProgram) (f : LinearFunclet) → FitsProgram p → Fits
     (funclet_frame f.body))
 funclet_low p f fits h =
     let b = function_at p f.function fits h.function in
-    let v = b.body.words in
+    let v = b.words in
+    let light = b.weight in
     let w = h.body.words in
     let all = small (funclet_facts f.body) (funclet_facts_fit f.body h.body) in
     record {
@@ -218,10 +225,11 @@ funclet_near : (p : LinearProgram) (f : LinearFunclet) → FitsProgram p → Fit
     → IsRoutineNear (funclet p f)
 funclet_near p f fits h =
     let facts = funclet_facts_fit f.body h.body in
+    let all = small (funclet_facts f.body) facts in
     let y = funclet_layout (function_frame (function_of_index p f.function))
     (funclet_frame f.body) in
     record {
-      frame = (parts (funclet_facts f.body) facts, small (funclet_facts f.body) facts);
+      frame = (parts (funclet_facts f.body) facts, omega arith);
       entry = entry_near p f f.kind fits h h.kind;
       code = code_near y f.body f.body.code (funclet_low p f fits h) h.body h.body.code;
       regions = h.body.regions;

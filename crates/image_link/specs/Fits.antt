@@ -1,6 +1,6 @@
 -- Programs that can be linked: the limits that keep every frame and the image within the largest
 -- ones (own).
-use Rattle.std.specs.Prelude.{ℕ, ◌+◌, ◌*◌, ◌^◌, ◌<◌, ◌≤◌, List, [], ◌∷◌, length}
+use Rattle.std.specs.Prelude.{ℕ, ◌+◌, ◌*◌, ◌/◌, ◌^◌, ◌<◌, ◌≤◌, List, [], ◌∷◌, length}
 use Rattle.std.specs.List.{AllByRecursion}
 use Rattle.seh_num.specs.declared.limit.TheConstants.{MOST_PARAMETERS, MOST_GLOBALS}
 use Rattle.linear_code.specs.declared.slot.Slot.{Slot}
@@ -9,8 +9,8 @@ use Rattle.linear_code.specs.declared.instruction.Instruction.{Instruction}
 use Rattle.linear_code.specs.declared.instruction.Instruction.TheVariants as instructions
 use Rattle.linear_code.specs.declared.program.FuncletKind.{FuncletKind}
 use Rattle.linear_code.specs.declared.program.FuncletKind.TheVariants.{Filter, Finally}
-use Rattle.linear_code.specs.Program.{LinearBody, LinearFunction, LinearFunclet, LinearProgram}
-use Rattle.template_code.specs.declared.layout.TheConstants.{MOST_REGISTERS}
+use Rattle.linear_code.specs.Program.{LinearBody, LinearFunction, LinearFunclet, LinearProgram, weight}
+use Rattle.template_code.specs.declared.layout.TheConstants.{MOST_REGISTERS, FRAME_BY_WEIGHT, MOST_WEIGHT}
 use Rattle.x64_emit.specs.Near.{IsFieldNear}
 use Rattle.x64_emit.specs.Rooms.{code_room}
 use Rattle.image_link.specs.Routines.{HasParent}
@@ -37,12 +37,17 @@ FitsInstruction b other = Unit {0}
 
 -- ---- bodies
 
--- the arguments that a body passes, its temporaries and its locals are at most so many words
+-- the arguments that a body passes, its temporaries and, of a function, its locals are at most so
+-- many words, and so many more for each 1 that the function weighs above 1
 abbrev pub most_words : ℕ
 most_words = 1000
 
+abbrev pub words_by_weight : ℕ
+words_by_weight = FRAME_BY_WEIGHT / 8
+
 pub record FitsBody (b : LinearBody) : Type 0 where
-  pub words : b.passed + b.temporaries + b.locals ≤ most_words
+  pub words : b.passed + b.temporaries ≤ most_words
+  pub locals : b.locals ≤ words_by_weight * MOST_WEIGHT
   pub code : AllByRecursion (FitsInstruction b) b.code
   -- the bytes of their scope records
   pub regions : 16 * length b.regions ≤ MOST_IMAGE
@@ -51,6 +56,9 @@ pub record FitsFunction (f : LinearFunction) : Type 0 where
   pub parameters : f.parameters ≤ MOST_PARAMETERS
   pub registers : length f.registers ≤ MOST_REGISTERS
   pub some : 0 < length f.body.code
+  pub weight : weight f ≤ MOST_WEIGHT
+  pub words : f.body.passed + f.body.temporaries + f.body.locals
+      ≤ most_words + words_by_weight * f.surplus
   pub body : FitsBody f.body
 
 abbrev pub FitsKind : LinearBody → FuncletKind → Type 0

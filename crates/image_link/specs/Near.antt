@@ -15,7 +15,7 @@ use Rattle.image_link.specs.declared.routine.Entry.TheVariants as entries
 use Rattle.image_link.specs.Routines.{RoutineView}
 use Rattle.image_link.specs.Text.{SiteView, base_of, room, routine_size}
 use Rattle.image_link.specs.Tables.{infos_room}
-use Rattle.template_code.specs.declared.layout.TheConstants.{LARGEST_FRAME}
+use Rattle.template_code.specs.declared.layout.TheConstants.{FRAME_BY_WEIGHT, MOST_WEIGHT}
 use Rattle.host_layout.specs.declared.limit.TheConstants.{MOST_IMAGE}
 use Rattle.linear_code.specs.Program.{LinearFunction}
 use Rattle.image_link.specs.Fits.{other_room}
@@ -23,7 +23,7 @@ use Rattle.image_link.specs.Walks.{names_room}
 
 abbrev pub IsFrameNear : Option FrameLayout → Type 0
 IsFrameNear None = Unit {0}
-IsFrameNear (Some f) = IsFrame f × (f.depth + 8 ≤ LARGEST_FRAME)
+IsFrameNear (Some f) = IsFrame f × (f.depth + 8 ≤ FRAME_BY_WEIGHT * MOST_WEIGHT)
 
 abbrev pub IsEntryNear : Layout → Entry → Type 0
 IsEntryNear y (entries.Function count) = (count ≤ MOST_PARAMETERS) × AreParametersNear y count

@@ -7,7 +7,7 @@ use Rattle.linear_code.specs.declared.slot.Slot.{Slot}
 use Rattle.linear_code.specs.declared.slot.Slot.TheVariants.{Local, Temporary}
 use Rattle.linear_code.specs.declared.program.FuncletKind.{FuncletKind}
 use Rattle.linear_code.specs.declared.program.FuncletKind.TheVariants.{Filter, Finally}
-use Rattle.linear_code.specs.Program.{LinearBody, LinearFunction, LinearFunclet, LinearProgram}
+use Rattle.linear_code.specs.Program.{LinearBody, LinearFunction, LinearFunclet, LinearProgram, weight}
 use Rattle.frame_layout.specs.declared.frame.Facts.{Facts}
 use Rattle.frame_layout.specs.declared.frame.FrameLayout.{FrameLayout}
 use Rattle.frame_layout.specs.Layout.{frame_of}
@@ -64,6 +64,7 @@ function_facts f =
       locals = f.body.locals;
       registers = length f.registers;
       frame_register = true;
+      weight = weight f;
     }
 
 abbrev pub function_frame : LinearFunction → FrameLayout
@@ -148,6 +149,7 @@ funclet_facts b =
       locals = 0;
       registers = 0;
       frame_register = false;
+      weight = 1;
     }
 
 abbrev pub funclet_frame : LinearBody → FrameLayout
@@ -159,7 +161,8 @@ nothing = record { locals = 0; temporaries = 0; passed = 0; code = []; regions =
 
 -- a function without a name or a body
 abbrev pub no_function : LinearFunction
-no_function = record { name = []; parameters = 0; registers = []; body = nothing }
+no_function =
+    record { name = []; parameters = 0; registers = []; surplus = 0; body = nothing }
 
 abbrev pub function_of_index : LinearProgram → ℕ → LinearFunction
 function_of_index p index = get_or p.functions index no_function

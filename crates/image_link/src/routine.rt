@@ -166,6 +166,7 @@ fn function_frame(function: &IrFunction) -> FrameLayout
         locals: body.locals,
         registers: function.registers.len() as u64,
         frame_register: true,
+        weight: 1 + function.surplus,
     })
 }
 
@@ -233,6 +234,7 @@ fn funclet_frame(body: &IrBody) -> FrameLayout
         locals: 0,
         registers: 0,
         frame_register: false,
+        weight: 1,
     })
 }
 

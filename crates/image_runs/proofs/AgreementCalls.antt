@@ -1,16 +1,14 @@
 -- A call: the callee's actual configuration has the stack's numbers in locals after arguments.
 use Rattle.std.proofs.Common.{◌≡◌, ℕ, ◌+◌, ◌-◌, Bool, true, false, List, [], ◌∷◌, ◌++◌, length, take, drop, Some, None, inl, inr, refl, sym, ap, ◌∙◌, arith, length-append}
-use Rattle.std.specs.Prelude.{◌⊎◌, nat_lt, replicate, if◌then◌else◌}
+use Rattle.std.specs.Prelude.{◌⊎◌, ◌≤◌, nat_lt, replicate, slice_get, if◌then◌else◌}
 use Rattle.std.proofs.lemmas.Bool.{eq-eqb}
-use Rattle.std.proofs.lemmas.List.{append-nil}
-use Rattle.image_runs.specs.Words.{State, Functions, Funclet, Instruction, LinearProgram, LinearFunction, Waits, Frame, Configuration, Seen, Running, Finished, Next, pick, last_temporaries, act, begin_function, waiting, instruction_at, ImagePlan, Moves, Fails, IsMatched, AgreeOnSet, StepsAgree, Sites, turns_left, in_hand, turns_in_hand, turns_per_step, RepresentsWhereSet, called_with, CallBegins}
+use Rattle.image_runs.specs.Words.{State, Functions, Funclet, Instruction, LinearProgram, LinearFunction, weight, FunctionBody, body_of, Waits, Frame, Configuration, Seen, Running, Finished, Next, pick, last_temporaries, act, begin_function, waiting, instruction_at, ImagePlan, separators_in, separators_at, Begins, Fails, IsTaken, AgreeOnSet, StepsAgree, Sites, turns_left, turns_per_step, RepresentsWhereSet, called_with, CallBegins}
 use Rattle.source_meaning.specs.declared.ended.Ended.TheVariants.{Deep}
 use Rattle.linear_code.specs.declared.instruction.Instruction.TheVariants as instructions
 use Rattle.lowering_invariants.proofs.Same.{alike_is_same}
 use Rattle.image_runs.proofs.Lemmas.{agreement_at_call}
 use Rattle.match_turns.proofs.CallActs.{call_acts}
 use Rattle.image_runs.proofs.AgreementSteps.{same_left, carried}
-use Rattle.image_runs.proofs.TurnsInHand.{with_hand}
 
 -- ---- lists with the same end
 
@@ -47,7 +45,8 @@ module _ (t : Functions) (fs : List Funclet) (program : LinearProgram) (p : Imag
     (c d : Configuration) (agreement : AgreeOnSet program c d) (s : State) (f first count : ℕ)
     (at : instruction_at program d ≡ Some (instructions.Call f first count))
     (held : length d.frame.temporaries ≡ first + count)
-    (full : in_hand c.frame.body c.frame.next ≡ 6) where
+    (weighs : (function : LinearFunction) → slice_get program.functions f ≡ Some function
+    → weight function ≤ separators_in (body_of program (FunctionBody f)) 0) where
   abbrev i : Instruction
   i = instructions.Call f first count
 
@@ -57,7 +56,7 @@ module _ (t : Functions) (fs : List Funclet) (program : LinearProgram) (p : Imag
 
   module _ (v : CallBegins t fs program p q s d f first count) where
     abbrev deep : Bool
-    deep = nat_lt 1000 (length d.store.activations + d.frame.held + 1)
+    deep = nat_lt 1000 (length d.store.activations + d.frame.held + weight v.function)
 
     abbrev ended : Seen
     ended = Finished (Deep 1001) d.events
@@ -93,9 +92,9 @@ module _ (t : Functions) (fs : List Funclet) (program : LinearProgram) (p : Imag
         ∙ ap (λ (x : Configuration). the_last x.store.activations) same
         ∙ last_is d.store.activations (last ++ zeros))
 
-    moves : deep ≡ false → Moves t fs program turns_per_step turns_in_hand
+    goes_on : deep ≡ false → Begins t fs program turns_per_step turns_left
         (RepresentsWhereSet t fs program p q) s c i
-    moves e =
+    goes_on e =
         let taken : last_temporaries d.frame.temporaries first count
         ≡ Some v.arguments = held_arguments d.frame.temporaries first count held
         ∙ ap (λ (xs : List ℕ). Some xs) (sym (arguments_are e)) in
@@ -105,8 +104,10 @@ module _ (t : Functions) (fs : List Funclet) (program : LinearProgram) (p : Imag
         let on = called_with c d f first v.function v.arguments v.others in
         let few = v.few in
         let left = same_left g.agreement.marks g.on on g.agreement.alike in
-        let none : in_hand g.on.frame.body g.on.frame.next ≡ 0 = sym
-        (ap (λ (x : Frame). in_hand x.body x.next) g.agreement.alike.frame) in
+        let ahead : separators_in (body_of program (FunctionBody f)) 0
+        ≡ separators_at program g.on = ap (λ (x : Frame). separators_in
+        (body_of program x.body) x.next) g.agreement.alike.frame in
+        let enough = weighs v.function v.there in
         let same = same_left agreement.marks c d agreement.alike in
         record {
           turns = v.turns;
@@ -114,28 +115,24 @@ module _ (t : Functions) (fs : List Funclet) (program : LinearProgram) (p : Imag
           configuration = g.on;
           few = omega arith;
           state = v.state;
-          events = [];
           comes = v.comes;
           acts = g.goes;
-          shown = sym g.agreement.alike.events ∙ agreement.alike.events ∙ sym (append-nil c.events);
+          shown = sym g.agreement.alike.events ∙ agreement.alike.events;
           is_there = record { actual = on; agreement = g.agreement; is_there = inl v.begins };
         }
 
-    begins : IsMatched t fs program turns_per_step turns_in_hand
-        (RepresentsWhereSet t fs program p q) s c i
+    begins : Begins t fs program turns_per_step turns_left (RepresentsWhereSet t fs program p q) s
+        c i
     begins = by deep refl
       where
-        by : (b : Bool) → deep ≡ b → IsMatched t fs program turns_per_step turns_in_hand
+        by : (b : Bool) → deep ≡ b → Begins t fs program turns_per_step turns_left
             (RepresentsWhereSet t fs program p q) s c i
         by true e = absurd (shallow e)
-        by false e = inl (moves e)
+        by false e = goes_on e
 
   pub called : StepsAgree program i c d → CallBegins t fs program p q s d f first count
       ⊎ Fails t fs program turns_per_step turns_left s d i
-      → IsMatched t fs program turns_per_step turns_in_hand (RepresentsWhereSet t fs program p q) s
-      c i
-  called go (inl v) = begins v
+      → IsTaken t fs program turns_per_step turns_left (RepresentsWhereSet t fs program p q) s c i
+  called go (inl v) = inr (begins v)
   called go (inr v) =
-      with_hand t fs program turns_per_step turns_per_step (RepresentsWhereSet t fs program p q) s c
-      i (omega arith)
-      (carried t fs program p q c d agreement s i go turns_per_step (inr (inr (inr v))))
+      inl (carried t fs program p q c d agreement s i go turns_per_step (inr (inr (inr v))))

@@ -1,7 +1,7 @@
 -- The machine keeps representing where linear code is, in all locals that have been set.
-use Rattle.std.proofs.Common.{◌≡◌, ◌≤◌, ℕ, zero, ◌+◌, false, length, Some, refl, inl, inr, sym, ap, subst, ◌∙◌, arith}
+use Rattle.std.proofs.Common.{◌≡◌, ℕ, zero, ◌+◌, false, length, Some, refl, inl, inr, sym, ap, subst, ◌∙◌, arith}
 use Rattle.std.specs.Prelude.{List}
-use Rattle.image_runs.specs.Words.{State, Functions, Funclet, Program, IsSound, Slot, Temporary, Instruction, LinearProgram, BodyName, FunctionBody, Frame, Configuration, body_of, FuncletBody, act, instruction_in, instruction_at, exec, ImagePlan, lowered, HasRule, IsMatched, StepIsMatched, IsReady, CanContinue, ReadsNoUnset, AgreeOnSet, StepsAgree, Sites, turns_left, in_hand, turns_in_hand, RepresentsAt, IsKnown, KnownNext, turns_per_step, IsWithinBody, Represents, WorksOn, IsSoundImage, RepresentsWhereSet, AgreementSimulates}
+use Rattle.image_runs.specs.Words.{State, Functions, Funclet, Program, IsSound, Slot, Temporary, Instruction, LinearProgram, BodyName, FunctionBody, Frame, Configuration, body_of, FuncletBody, act, instruction_in, instruction_at, exec, ImagePlan, lowered, HasRule, is_separator, IsMatched, IsTakenIf, IsTaken, StepIsMatched, IsReady, CanContinue, ReadsNoUnset, AgreeOnSet, StepsAgree, Sites, turns_left, RepresentsAt, IsKnown, KnownNext, turns_per_step, IsWithinBody, Represents, WorksOn, IsSoundImage, RepresentsWhereSet, AgreementSimulates}
 use Rattle.linear_code.specs.declared.instruction.Instruction.TheVariants as instructions
 use Rattle.image_runs.proofs.Lemmas.{agreement_continues}
 use Rattle.match_bodies.proofs.BodySteps.{within_body, separators_are_matched}
@@ -18,8 +18,8 @@ use Rattle.c_operations.specs.declared.built_in.BuiltIn.{BuiltIn}
 use Rattle.c_operations.specs.declared.built_in.BuiltIn.TheVariants.{Put, Protect, RaiseException, Walk}
 use Rattle.image_runs.specs.StepMatches.{StepMatches}
 use Rattle.image_runs.proofs.AgreementFacts.{known, known_next}
-use Rattle.image_runs.proofs.AgreementSteps.{carried}
-use Rattle.image_runs.proofs.TurnsInHand.{is_separator, past_first, with_hand}
+use Rattle.image_runs.proofs.AgreementSteps.{carried, carried_there}
+use Rattle.image_runs.proofs.FirstSeparators.{first_separators_weigh}
 use Rattle.image_runs.proofs.AgreementCalls.{called}
 use Rattle.image_runs.proofs.LiveStates.{live}
 
@@ -95,8 +95,7 @@ module _ (program : Program) (sound : IsSound program) (reads : ReadsNoUnset (lo
   linear = lowered program
 
   abbrev Goal : Instruction → Type 0
-  Goal i = IsMatched t fs linear turns_per_step turns_in_hand (RepresentsWhereSet t fs linear p q) s
-      c i
+  Goal i = IsTaken t fs linear turns_per_step turns_left (RepresentsWhereSet t fs linear p q) s c i
 
   actual : IsKnown linear d
   actual = known program sound reads c d agreement
@@ -110,29 +109,20 @@ module _ (program : Program) (sound : IsSound program) (reads : ReadsNoUnset (lo
   on_actual : (i : Instruction) → instruction_at linear d ≡ Some i → StepsAgree linear i c d
   on_actual i at = agreement_continues linear reads c d agreement i at
 
-  -- at an instruction that is no separator six turns are in hand
-  full : (i : Instruction) → is_separator i ≡ false → instruction_at linear d ≡ Some i
-      → in_hand c.frame.body c.frame.next ≡ 6
-  full i plain at =
-      sym (ap (λ (f : Frame). in_hand f.body f.next) agreement.alike.frame)
-      ∙ past_first program d.frame.body d.frame.next i at plain
-
-  handed : (few : ℕ) (i : Instruction) → instruction_at linear d ≡ Some i
-      → few + 6 ≤ turns_per_step + in_hand c.frame.body c.frame.next
-      → IsMatched t fs linear few turns_left (Represents t fs linear p q) s d i → Goal i
-  handed few i at enough m =
-      with_hand t fs linear few turns_per_step (RepresentsWhereSet t fs linear p q) s c i enough
-      (carried t fs linear p q c d agreement s i (on_actual i at) few m)
-
   back : (i : Instruction) → is_separator i ≡ false → instruction_at linear d ≡ Some i
       → StepMatches t fs linear p q s d i → Goal i
-  back i plain at m = let hand = full i plain at in handed turns_per_step i at (omega arith) m
+  back i plain at m = subst (λ x. IsTakenIf t fs linear turns_per_step turns_left x
+      (RepresentsWhereSet t fs linear p q) s c i) (sym plain)
+      (inl (carried t fs linear p q c d agreement s i (on_actual i at) turns_per_step m))
 
   separated : RepresentsAt t fs linear p q s d
       → instruction_at linear d ≡ Some instructions.Separator → Goal instructions.Separator
-  separated b at = handed 1 instructions.Separator at (omega arith)
-      (matched_there t fs linear p q 1 s d instructions.Separator
-      (inl (separators_are_matched t fs linear p q image.image image.made s d b actual at)))
+  separated b at = (
+    omega arith,
+    carried_there t fs linear p q c d agreement s instructions.Separator
+        (on_actual instructions.Separator at) 1
+        (separators_are_matched t fs linear p q image.image image.made s d b actual at),
+  )
 
   -- at the beginning of an instruction
   begun : RepresentsAt t fs linear p q s d → (i : Instruction) → instruction_at linear d ≡ Some i
@@ -154,7 +144,7 @@ module _ (program : Program) (sound : IsSound program) (reads : ReadsNoUnset (lo
   begun b (instructions.Call f first count) at rule next =
       called t fs linear p q c d agreement s f first count at
       (arguments_held t fs linear p q image s d b actual f first count at)
-      (full (instructions.Call f first count) refl at)
+      (first_separators_weigh program f)
       (on_actual (instructions.Call f first count) at)
       (calls_begin t fs linear p q image.image image.made image.apart s d f first count b actual at)
   begun b (instructions.CallBuiltIn f first) at rule next =
@@ -175,7 +165,7 @@ module _ (program : Program) (sound : IsSound program) (reads : ReadsNoUnset (lo
   begun b (instructions.Return from) at rule next = back (instructions.Return from) refl at
       (returned t fs linear p q image s d b actual from at rule next)
 
-  step : Represents t fs linear p q s d → StepIsMatched t fs linear turns_per_step turns_in_hand
+  step : Represents t fs linear p q s d → StepIsMatched t fs linear turns_per_step turns_left
       (RepresentsWhereSet t fs linear p q) s c
   step r i at rule = by r
     where

@@ -1,6 +1,7 @@
 -- A step that is matched from the actual configuration is matched.
-use Rattle.std.proofs.Common.{◌≡◌, ℕ, ◌+◌, ◌*◌, List, length, sym, arith}
-use Rattle.image_runs.specs.Words.{State, Functions, Funclet, Instruction, LinearProgram, Configuration, ImagePlan, IsMatched, Marks, AreAlike, AgreeOnSet, StepsAgree, Sites, turns_left, held_below, Represents, RepresentsWhereSet}
+use Rattle.std.proofs.Common.{◌≡◌, inl, ℕ, ◌+◌, ◌*◌, List, length, ◌++◌, sym, ap, ◌∙◌, arith}
+use Rattle.seh_num.specs.declared.event.Event.{Event}
+use Rattle.image_runs.specs.Words.{State, Functions, Funclet, Instruction, LinearProgram, Configuration, ImagePlan, Moves, IsMatched, Marks, AreAlike, AgreeOnSet, StepsAgree, Sites, turns_left, held_below, RepresentsAt, Represents, RepresentsWhereSet}
 use Rattle.match_runs.proofs.Turns.{comes_nowhere}
 use Rattle.match_runs.proofs.Matches.{StepCarries, matched_by}
 
@@ -35,3 +36,26 @@ module _ (t : Functions) (fs : List Funclet) (program : LinearProgram) (p : Imag
       matched_by t fs program turns_left 0 most most
       (Represents t fs program p q) (RepresentsWhereSet t fs program p q) s s c d i
       (comes_nowhere t fs s) (omega arith) carries m
+
+  -- a step that leads to the beginning of an instruction
+  pub carried_there : (most : ℕ)
+      → Moves t fs program most turns_left (RepresentsAt t fs program p q) s d i
+      → Moves t fs program most turns_left (RepresentsWhereSet t fs program p q) s c i
+  carried_there most v =
+      let x = carries.continues v.state v.configuration v.acts (inl v.is_there) in
+      let left = x.left in
+      let few = v.few in
+      let same = same_left agreement.marks c d agreement.alike in
+      record {
+        turns = v.turns;
+        some = v.some;
+        configuration = x.configuration;
+        few = omega arith;
+        state = v.state;
+        events = v.events;
+        comes = v.comes;
+        acts = x.acts;
+        shown = x.events ∙ v.shown
+            ∙ ap (λ (es : List Event). es ++ v.events) agreement.alike.events;
+        is_there = x.is_there;
+      }

@@ -3,7 +3,7 @@ use Rattle.std.proofs.Common.{◌≡◌, ℕ, ◌+◌, ◌-◌, ◌*◌, ◌^◌
 use Rattle.std.specs.Prelude.{slice_get}
 use Rattle.std.proofs.lemmas.List.{append-nil}
 use Rattle.std.proofs.lemmas.Option.{slice_get_within}
-use Rattle.image_runs.specs.Words.{STACK_START, STACK_END, Memory, Protection, Rsp, State, register, word, Functions, distance, Funclet, LinearProgram, LinearBody, LinearFunction, FunctionBody, body_of, Layout, Instr, parameters_code, context_below, ImagePlan, IsWellFormed, Sites, arguments_code, function_arguments, IsLayoutIf, IsMachineMemory, IsProgramImage, slots_end, RepresentsAt, LARGEST_FRAME, arrivals, home_end, Comes, begun, machine}
+use Rattle.image_runs.specs.Words.{weight, weight_of, STACK_START, STACK_END, Memory, Protection, Rsp, State, register, word, Functions, distance, Funclet, LinearProgram, LinearBody, LinearFunction, FunctionBody, body_of, Layout, Instr, parameters_code, context_below, ImagePlan, IsWellFormed, Sites, arguments_code, function_arguments, IsLayoutIf, IsMachineMemory, IsProgramImage, slots_end, RepresentsAt, FRAME_BY_WEIGHT, arrivals, home_end, Comes, begun, machine}
 use Rattle.image_runs.proofs.Lemmas.{Keeps, enters_keeps, stays_well_formed, may_read_written, word_of}
 use Rattle.match_stack.specs.StackRecords.{On}
 use Rattle.lowering_invariants.specs.SmallNumbers.{AreSmall}
@@ -112,33 +112,48 @@ module _ (t : Functions) (fs : List Funclet) (program : LinearProgram) (p : Imag
   arguments_are : arguments_code program p (FunctionBody f) ≡ parameters_code layout 0 fn.parameters
   arguments_are = ap (λ x. function_arguments layout x) h.function
 
-  arguments_stored : (leaf : Bool) → IsLayoutIf program p layout o leaf
+  -- ---- the plan of its frame
+
+  abbrev weighs : ℕ
+  weighs = weight_of (slice_get program.functions f)
+
+  weighs_so : weighs ≡ weight fn
+  weighs_so = ap weight_of h.function
+
+  abbrev HasPlan : Bool → Type 0
+  HasPlan leaf = IsLayoutIf program p weighs layout o leaf
+
+  planned : HasPlan (p.leaf (FunctionBody f))
+  planned = image.laid_out (FunctionBody f) o there
+
+  frame_small : (leaf : Bool) → HasPlan leaf → layout.frame + 8 ≤ FRAME_BY_WEIGHT * weight fn
+  frame_small true l = let e = l.frame in omega arith
+  frame_small false l = let z = l.small in let e = weighs_so in omega arith
+
+  arguments_stored : (leaf : Bool) → HasPlan leaf
       → AllSteady (owed_of p (FunctionBody f)) layout.slots layout.frame 40
-      (parameters_code layout 0 fn.parameters) × (layout.frame + 8 ≤ LARGEST_FRAME)
+      (parameters_code layout 0 fn.parameters)
   arguments_stored true l =
       let e = l.frame in
       let a = l.locals in
       let n = l.few in
       let fits = h.fits in
-      let few = h.few in (
-        parameters_steady (owed_of p (FunctionBody f)) layout.slots layout.frame 40 layout 0
-            fn.parameters
-            (locals_own (setting_of t fs program p q image) (FunctionBody f) o there)
-            (omega arith) (omega arith) (λ j lt. inr (omega arith, omega arith)),
-        omega arith,
-      )
+      let few = h.few in
+      parameters_steady (owed_of p (FunctionBody f)) layout.slots layout.frame 40 layout 0
+      fn.parameters
+      (locals_own (setting_of t fs program p q image) (FunctionBody f) o there)
+      (omega arith) (omega arith) (λ j lt. inr (omega arith, omega arith))
   arguments_stored false l =
       let a = l.locals in
       let w = l.within in
       let z = l.small in
+      let y = l.light in
       let fits = h.fits in
-      let few = h.few in (
-        parameters_steady (owed_of p (FunctionBody f)) layout.slots layout.frame 40 layout 0
-            fn.parameters
-            (locals_own (setting_of t fs program p q image) (FunctionBody f) o there)
-            (omega arith) (omega arith) (λ j lt. inl (omega arith)),
-        l.small,
-      )
+      let few = h.few in
+      parameters_steady (owed_of p (FunctionBody f)) layout.slots layout.frame 40 layout 0
+      fn.parameters
+      (locals_own (setting_of t fs program p q image) (FunctionBody f) o there)
+      (omega arith) (omega arith) (λ j lt. inl (omega arith))
 
   abbrev kept : List ℕ
   kept = others_of first.cpu.registers
@@ -150,7 +165,9 @@ module _ (t : Functions) (fs : List Funclet) (program : LinearProgram) (p : Imag
       kept [] inside.turns first after (arguments_code program p (FunctionBody f))
   entry_run =
       let stored = arguments_stored (p.leaf (FunctionBody f))
-      (image.laid_out (FunctionBody f) o there) in
+      planned in
+      let small = frame_small (p.leaf (FunctionBody f)) planned in
+      let light = h.light in
       let lo = h.low in
       let at : register first.cpu Rsp ≡ top = subst (λ (x : State). register x.cpu Rsp ≡ top)
       first_is h.stack in
@@ -159,9 +176,9 @@ module _ (t : Functions) (fs : List Funclet) (program : LinearProgram) (p : Imag
       (arguments_code program p (FunctionBody f)) [] 40
       (sym (append-nil (arguments_code program p (FunctionBody f)))) inside.exact
       (enters_steps from to inside.turns first after inside.comes) refl at beneath_main small_there
-      h.memory.code stored.1 (omega arith) refl
+      h.memory.code (omega arith) refl
       (subst (λ (xs : List Instr). AllSteady (owed_of p (FunctionBody f)) layout.slots layout.frame
-      40 xs) (sym arguments_are) stored.0)
+      40 xs) (sym arguments_are) stored)
 
   -- its frame is there, with the registers that the host gave
   frame_there : HasFrame after (p.leaf (FunctionBody f)) (frame_of p (FunctionBody f) 0 kept)
@@ -177,7 +194,7 @@ module _ (t : Functions) (fs : List Funclet) (program : LinearProgram) (p : Imag
       inside.comes entry_run.keeps
       h.memory.code silent_after)
 
-  pub soon : inside.turns ≤ 25
+  pub soon : inside.turns ≤ 29 + 8 * fn.surplus
   soon = inside.soon
 
   well_formed_after : IsWellFormed after
@@ -223,16 +240,6 @@ module _ (t : Functions) (fs : List Funclet) (program : LinearProgram) (p : Imag
 
   -- ---- the frame
 
-  abbrev HasPlan : Bool → Type 0
-  HasPlan leaf = IsLayoutIf program p layout o leaf
-
-  planned : HasPlan (p.leaf (FunctionBody f))
-  planned = image.laid_out (FunctionBody f) o there
-
-  frame_small : (leaf : Bool) → HasPlan leaf → layout.frame + 8 ≤ LARGEST_FRAME
-  frame_small true l = let e = l.frame in omega arith
-  frame_small false l = l.small
-
   slots_fit : (leaf : Bool) → HasPlan leaf → (layout.locals + 8 * o.locals ≤ slots_end layout leaf)
       × (inside.sp + slots_end layout leaf ≤ STACK_END)
   slots_fit true l = let e = l.frame in let a = l.locals in let k = l.temporaries in
@@ -245,7 +252,7 @@ module _ (t : Functions) (fs : List Funclet) (program : LinearProgram) (p : Imag
   at_home false l e = absurd (let no : false ≡ true = e in cc)
 
   sp_low : STACK_START ≤ inside.sp
-  sp_low = let z = h.low in let e = inside.place in
+  sp_low = let z = h.low in let light = h.light in let e = inside.place in
       let n = frame_small (p.leaf (FunctionBody f)) planned in omega arith
 
   argument_there : (i v : ℕ) → slice_get arguments i ≡ Some v
@@ -277,13 +284,16 @@ module _ (t : Functions) (fs : List Funclet) (program : LinearProgram) (p : Imag
 
   -- ---- all of it
 
-  pub begins : RepresentsAt t fs program p q after (begun f (arguments ++ others) 0 [] source [] [])
+  pub begins : RepresentsAt t fs program p q after
+      (begun f (arguments ++ others) (0 + fn.surplus) [] source [] [])
   begins =
       let small = frame_small (p.leaf (FunctionBody f)) planned in
+      let light = h.light in
       let e = inside.place in
       let stack = inside.stack in
       let up : register after.cpu Rsp + layout.frame + 8 ≡ top + 8 = omega arith in
-      function_begins t fs program p q image after source f o there [] [] 0 [] (arguments ++ others)
+      function_begins t fs program p q image after source f o there [] [] (0 + fn.surplus) []
+      (arguments ++ others)
       well_formed_after memory inside.rip some
       (record { space = omega arith; shallow = omega arith }) tt
       (λ leaf. subst (λ x. x + home_end ≤ STACK_END) (sym stack)

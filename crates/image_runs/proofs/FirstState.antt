@@ -4,8 +4,9 @@ use Rattle.std.proofs.lemmas.List.{get_or-take}
 use Rattle.image_tables.specs.RoutinePlaces.{routines_begin}
 use Rattle.image_runs.specs.Words.{Memory, number_at, next, word, first_cpu, mapped, image_of, ImageContents, sizes_of, text_at, LinearProgram, text_begin, linked, functions_of, funclets_of, plan_of, sites_of, HasWholeImage, first_stack, RoutineView, routines, bounds}
 use Rattle.host_model.specs.Loading.{start}
+use Rattle.image_link.specs.Fits.{FitsFunction}
 use Rattle.image_link.proofs.Bounds.{bounds_least}
-use Rattle.image_runs.proofs.Lemmas.{is, images_are_programs, images_start, may_read_written, word_of}
+use Rattle.image_runs.proofs.Lemmas.{all_at, is, images_are_programs, images_start, may_read_written, word_of}
 use Rattle.image_tables.proofs.Shape.{as_long}
 use Rattle.image_states.proofs.Data.{stack_writes, stack_zero}
 use Rattle.image_runs.proofs.MainStart.{main_is_begun}
@@ -65,5 +66,6 @@ pub mains_begin : MainsBegin
 mains_begin program c bytes made arg main is_main goes =
     main_is_begun (functions_of program) (funclets_of program) program (plan_of program)
     (sites_of program) (images_are_programs program c) made arg main
-    (start (image_of (linked program)) arg) is_main goes
+    (start (image_of (linked program)) arg) is_main
+    (all_at FitsFunction program.functions program.main main c.fits.functions is_main).weight goes
     (first_states_start program c bytes arg)

@@ -1,7 +1,7 @@
 -- The function is entered, whatever its frame is.
-use Rattle.std.proofs.Common.{◌≡◌, ℕ, ◌+◌, ◌-◌, ◌<◌, Bool, true, false, Some, List, [], length, refl, sym, ap, subst, ◌∙◌, arith, inl, inr}
-use Rattle.std.specs.Prelude.{slice_index}
-use Rattle.image_runs.specs.Words.{Memory, State, Functions, Funclet, LinearProgram, LinearBody, LinearFunction, FunctionBody, body_of, Layout, sizes, parameters_code, MachineView, ImagePlan, Sites, IsLayoutIf, IsFunctionLayout, IsLeafLayout, IsProgramImage, seen_by_templates, Enters}
+use Rattle.std.proofs.Common.{◌≡◌, ℕ, ◌+◌, ◌-◌, ◌*◌, ◌<◌, ◌≤◌, Bool, true, false, Some, List, [], length, refl, sym, ap, subst, ◌∙◌, arith, inl, inr}
+use Rattle.std.specs.Prelude.{slice_get, slice_index}
+use Rattle.image_runs.specs.Words.{weight, weight_of, Memory, State, Functions, Funclet, LinearProgram, LinearBody, LinearFunction, FunctionBody, body_of, Layout, sizes, parameters_code, MachineView, ImagePlan, Sites, IsLayoutIf, IsFunctionLayout, IsLeafLayout, IsProgramImage, seen_by_templates, Enters}
 use Rattle.match_bodies.specs.CodeSites.{body_plan, making_size}
 use Rattle.match_bodies.specs.BodyViews.{arrived_in}
 use Rattle.x64_templates.specs.Frames.{number_placed}
@@ -56,6 +56,12 @@ module _ (t : Functions) (fs : List Funclet) (program : LinearProgram) (p : Imag
 
   -- ---- a leaf function
 
+  abbrev weighs : ℕ
+  weighs = weight_of (slice_get program.functions f)
+
+  weighs_so : weighs ≡ weight fn
+  weighs_so = ap weight_of h.function
+
   leaf_entered : p.leaf (FunctionBody f) ≡ true → IsLeafLayout layout o → Goal
   leaf_entered leaf l =
       let e = l.frame in
@@ -89,7 +95,7 @@ module _ (t : Functions) (fs : List Funclet) (program : LinearProgram) (p : Imag
 
   -- ---- a function with a frame
 
-  module _ (leaf : p.leaf (FunctionBody f) ≡ false) (l : IsFunctionLayout layout o) where
+  module _ (leaf : p.leaf (FunctionBody f) ≡ false) (l : IsFunctionLayout weighs layout o) where
     abbrev frame : ℕ
     frame = layout.frame
 
@@ -105,6 +111,7 @@ module _ (t : Functions) (fs : List Funclet) (program : LinearProgram) (p : Imag
         let x = h.low in
         let z = h.high in
         let k = l.small in
+        let light = l.light in
         let first = entering.first t fs program p q image s source f fn top arguments h in
         let same : s.cpu.registers ≡ first.cpu.registers = ap (λ (u : State). u.cpu.registers)
         (is_machine s h.count) in
@@ -126,9 +133,18 @@ module _ (t : Functions) (fs : List Funclet) (program : LinearProgram) (p : Imag
         (entering.view_stack t fs program p q image s source f fn top arguments h)
         h.registers plan q.check_stack frame (body_planned setting (FunctionBody f) o there some
         leaf)
-        (let few = l.few in let n = few_turns plan in omega arith)
         (plan_depth plan frame l.plan.whole) begins (entry false leaf).making
         (body_probed setting (FunctionBody f) o there some) h.memory.code.check_stack
+
+    -- it takes four turns for each page, and one for each register that it saves
+    soon : prologue_turns plan ≤ 21 + 8 * fn.surplus
+    soon =
+        let few = l.few in
+        let n = few_turns plan in
+        let whole = l.plan.whole in
+        let small = l.small in
+        let weight_is = weighs_so in
+        omega arith
 
     framed_entered : Goal
     framed_entered =
@@ -138,6 +154,7 @@ module _ (t : Functions) (fs : List Funclet) (program : LinearProgram) (p : Imag
         let m = l.locals in
         let j = l.within in
         let k = l.small in
+        let light = l.light in
         entering.entered t fs program p q image s source f fn top arguments h sp
         (target + sizes (making_frame p q f false)) (prologue_turns plan) made
         (record {
@@ -155,7 +172,7 @@ module _ (t : Functions) (fs : List Funclet) (program : LinearProgram) (p : Imag
           temporaries = omega arith;
           locals = omega arith;
           within = l.within;
-        }) k
+        }) (omega arith) soon
         (omega arith) (entry false leaf).storing (entry false leaf).ends
         (λ a out i. elim i [
           | inl w ↦ (let g = w.0 in let u = w.1 in
@@ -179,7 +196,7 @@ module _ (t : Functions) (fs : List Funclet) (program : LinearProgram) (p : Imag
   entered = by (p.leaf (FunctionBody f)) refl
     where
       by : (leaf : Bool) → p.leaf (FunctionBody f) ≡ leaf → Goal
-      by true e = leaf_entered e (subst (λ x. IsLayoutIf program p layout o x) e
+      by true e = leaf_entered e (subst (λ x. IsLayoutIf program p weighs layout o x) e
           (image.laid_out (FunctionBody f) o there))
-      by false e = framed_entered e (subst (λ x. IsLayoutIf program p layout o x) e
+      by false e = framed_entered e (subst (λ x. IsLayoutIf program p weighs layout o x) e
           (image.laid_out (FunctionBody f) o there))

@@ -3,6 +3,7 @@ use Rattle.std.proofs.Common.{◌≡◌, ℕ, zero, suc, ◌+◌, ◌-◌, ◌<�
 use Rattle.std.specs.List.{AllByRecursion}
 use Rattle.std.specs.Prelude.{slice_get}
 use Rattle.image_runs.specs.Words.{Program, Function, LinearFunction, LinearFunclet, scope_of, lowered, all_locals, lowered_function, lowered_funclets, all_funclets}
+use Rattle.c_checked.specs.Program.{weight}
 use Rattle.c_checked.specs.Statement.{Statement, Declare, Block, Evaluate, If, IfElse, For, DoWhile, Return, Break, Continue, Leave, TryExcept, TryFinally, Statements, Empty, Then}
 use Rattle.linear_code.specs.declared.program.RegionKind.TheVariants as kinds
 use Rattle.lowering_sizes.specs.Sizes.{expression_size, discarded_size, condition_size, all_declared_size, statement_size, statements_size, statements_notes}
@@ -118,13 +119,13 @@ module _ (all : List LinearFunction) where
 
   own : (fn : Function) (number : ℕ) → slice_get all number ≡ Some (lowered_function fn)
       → AllByRecursion (IsOwned all) (lowered_funclets number fn)
-  own fn number there = by (length (statements_regions fn.body 1)) refl
+  own fn number there = by (length (statements_regions fn.body (weight fn))) refl
     where
-      by : (n : ℕ) → length (statements_regions fn.body 1) ≡ n
+      by : (n : ℕ) → length (statements_regions fn.body (weight fn)) ≡ n
           → AllByRecursion (IsOwned all) (lowered_funclets number fn)
       by zero e = nothing_owned (lowered_funclets number fn)
           (none_of fn.body (record { function = number; locals = all_locals fn; parent = None })
-          (scope_of fn).names 1 e)
+          (scope_of fn).names (weight fn) e)
       by (suc n) e =
           each_owned number (lowered_function fn) there (omega arith) (lowered_funclets number fn)
           (funclets_known (IsOf number (all_locals fn)) (Owns number (all_locals fn))

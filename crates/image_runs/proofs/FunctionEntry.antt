@@ -1,8 +1,8 @@
 -- A function with at most four parameters is entered from its first byte: once its frame is made,
 -- the parameters go to their locals.
-use Rattle.std.proofs.Common.{◌≡◌, ℕ, ◌+◌, ◌^◌, ◌<◌, ◌≤◌, true, Some, List, length, ap, subst, ◌∙◌, arith, inl, inr, refl}
+use Rattle.std.proofs.Common.{◌≡◌, ℕ, ◌+◌, ◌*◌, ◌^◌, ◌<◌, ◌≤◌, true, Some, List, length, ap, subst, ◌∙◌, arith, inl, inr, refl}
 use Rattle.std.specs.Prelude.{◌⊎◌, slice_get}
-use Rattle.image_runs.specs.Words.{STACK_START, STACK_END, Memory, may_write, Protection, Rsp, State, register, Functions, Funclet, Local, LinearProgram, LinearBody, LinearFunction, FunctionBody, body_of, function_body, Layout, sizes, spelled, parameters_code, stack_parameter, MachineView, InRegisters, with_arguments, OnStack, IsFunctionFrame, body_in_memory, HasCode, Enters, ReachesBody, ImagePlan, Sites, arguments_code, IsMachineMemory, IsProgramImage, OtherRegisters, seen_by_templates, counts_of, LARGEST_FRAME, is_reserved, machine}
+use Rattle.image_runs.specs.Words.{STACK_START, STACK_END, Memory, may_write, Protection, Rsp, State, register, Functions, Funclet, Local, LinearProgram, LinearBody, LinearFunction, FunctionBody, body_of, function_body, Layout, sizes, spelled, parameters_code, stack_parameter, MachineView, InRegisters, with_arguments, OnStack, IsFunctionFrame, body_in_memory, HasCode, Enters, ReachesBody, ImagePlan, Sites, arguments_code, IsMachineMemory, IsProgramImage, OtherRegisters, seen_by_templates, counts_of, FRAME_BY_WEIGHT, MOST_WEIGHT, weight, is_reserved, machine}
 use Rattle.flat_memory.specs.Protections.{is_writable}
 use Rattle.x64_templates.specs.CallStates.{sp_of}
 use Rattle.match_bodies.specs.CodeSites.{body_plan, making_size}
@@ -22,14 +22,15 @@ use Rattle.x64_templates.proofs.Ranges.{within_agrees}
 use Rattle.x64_templates.proofs.Entering.{fresh_holds, parameters_run}
 
 -- a state at a function's first byte: its arguments are in registers, the return address is at RSP,
--- and above that is room for a home space
+-- above that is room for a home space, and below it for the largest frame
 pub record IsCalled (t : Functions) (fs : List Funclet) (program : LinearProgram) (p : ImagePlan)
     (q : Sites) (s : State) (source : Memory) (f : ℕ) (fn : LinearFunction) (top : ℕ)
     (arguments : ℕ → ℕ) : Type 0 where
   pub function : slice_get program.functions f ≡ Some fn
   pub rip : s.cpu.rip ≡ q.function f
   pub stack : register s.cpu Rsp ≡ top
-  pub low : STACK_START + 16384 ≤ top
+  pub light : weight fn ≤ MOST_WEIGHT
+  pub low : STACK_START + FRAME_BY_WEIGHT * MOST_WEIGHT + 8192 ≤ top
   pub high : top + 40 ≤ STACK_END
   pub count : length s.cpu.registers ≡ 16
   pub numbers : AllSmall s.cpu.registers
@@ -79,7 +80,7 @@ module _ (t : Functions) (fs : List Funclet) (program : LinearProgram) (p : Imag
     pub turns : ℕ
     pub exact : turns ≡ making_steps (p.leaf (FunctionBody f)) (body_plan p q (FunctionBody f))
         + length (arguments_code program p (FunctionBody f))
-    pub soon : turns ≤ 25
+    pub soon : turns ≤ 29 + 8 * fn.surplus
     pub comes : Enters target (target + making_size p q (FunctionBody f)) turns first state
     pub rip : state.cpu.rip ≡ p.address (FunctionBody f) 0
     pub stack : register state.cpu Rsp ≡ sp
@@ -95,7 +96,8 @@ module _ (t : Functions) (fs : List Funclet) (program : LinearProgram) (p : Imag
   module _ (sp to n : ℕ) (made : Made view target to s.cpu.flags top sp arguments n)
       (own : IsOwn program.globals layout o sp)
       (whole : IsFunctionFrame (own_frame program.globals layout o sp))
-      (short : layout.frame + 8 ≤ LARGEST_FRAME) (place : sp + layout.frame ≡ top)
+      (short : layout.frame + 8 ≤ FRAME_BY_WEIGHT * MOST_WEIGHT) (early : n ≤ 21 + 8 * fn.surplus)
+      (place : sp + layout.frame ≡ top)
       (code : HasCode s.memory to (parameters_code layout 0 count))
       (ends : to + sizes (parameters_code layout 0 count) ≡ p.address (FunctionBody f) 0)
       (outside : (a : ℕ) → Outside a → InTemporaries layout (counts_of o) sp a
@@ -170,7 +172,6 @@ module _ (t : Functions) (fs : List Funclet) (program : LinearProgram) (p : Imag
     pub entered : InFunction
     entered =
         let long = parameters_soon y 0 count (omega arith) in
-        let early = made.few in
         let few = h.few in
         record {
           sp = sp;

@@ -1,9 +1,9 @@
 -- Within an instruction the walk gives the frames that it gave where the instruction
 -- began.
-use Rattle.std.proofs.Common.{◌≡◌, ℕ, ◌+◌, ◌^◌, ◌<◌, ◌≤◌, false, Some, List, [], ◌∷◌, length, refl, sym, ap, subst, arith}
+use Rattle.std.proofs.Common.{◌≡◌, ℕ, ◌+◌, ◌^◌, ◌<◌, ◌≤◌, false, Some, List, [], ◌∷◌, length, refl, sym, ap, subst, ◌∙◌, arith}
 use Rattle.std.specs.List.{AllByRecursion}
 use Rattle.virtual_unwind.specs.Contexts.{get}
-use Rattle.image_runs.specs.Words.{STACK_START, Memory, Context, context_of, State, rsp, Functions, Funclet, LinearProgram, LinearBody, Frame, body_of, Item, Waits, Configuration, StackItem, Framed, Leaf, FrameIsAt, IsStack, StackFrame, ImagePlan, InCode, Activation, BodyWaits, Linked, HasSpace, below_end, Sites, HasProgram, IsResumed, IsProgramImage, IsWithinInstruction, WalkGives, WalksGiveTheFramesWithin, frame_of}
+use Rattle.image_runs.specs.Words.{STACK_START, Memory, Context, context_of, State, rsp, Functions, Funclet, LinearProgram, LinearBody, Frame, body_of, Item, Waits, Configuration, StackItem, Framed, Leaf, FrameIsAt, IsStack, StackFrame, ImagePlan, InCode, Activation, BodyWaits, Linked, HasSpace, below_end, Sites, HasProgram, IsResumed, IsProgramImage, IsWithinInstruction, WalkGives, WalksGiveTheFramesWithin, frame_of, frame_at_label}
 use Rattle.linear_code.specs.declared.program.Region.{Region}
 use Rattle.linear_machine.specs.Regions.{holds, regions_of}
 use Rattle.match_stack.specs.ListLaws as linked
@@ -43,7 +43,8 @@ module _ (t : Functions) (fs : List Funclet) (program : LinearProgram) (p : Imag
     abbrev to : Context
     to = record { rip = rip; kept = c.kept }
 
-    waits_there : (now : ℕ → ℕ) (size end : ℕ) → BodyWaits t fs program p m c now size end b acts
+    abbrev waits_there : (now : ℕ → ℕ) (size end : ℕ)
+        → BodyWaits t fs program p m c now size end b acts
         → BodyWaits t fs program p m to now size end b acts
     waits_there now size end w = record {
       code = w.code;
@@ -57,13 +58,21 @@ module _ (t : Functions) (fs : List Funclet) (program : LinearProgram) (p : Imag
       space = w.space;
     }
 
-    frame_there : (f : StackFrame) → p.leaf b.body ≡ false → f.entry ≡ p.entry b.body
+    -- all instructions of the body have the same entry
+    one_entry : (label other : ℕ) → p.entry b.body label ≡ p.entry b.body other
+    one_entry = (image.pieces b.body code there).entries
+
+    frame_there : (f : StackFrame) (label : ℕ) → p.leaf b.body ≡ false
+        → f.entry ≡ p.entry b.body label
         → f.slots ≡ (p.layout b.body).slots → FrameIsAt t m c f → FrameIsAt t m to f
-    frame_there f framed entry slots s =
-        let same = frame_is t fs program p q image m c f b.body code there framed entry slots s in
-        let size = frame_size t fs program p q image m c f b.body code there framed entry s in
+    frame_there f label framed entry slots s =
+        let same = frame_is t fs program p q image m c f b.body code label there framed entry slots
+        s in
+        let size = frame_size t fs program p q image m c f b.body code label there framed entry s in
         let own = frame_of p b.body f.return_address f.others in
-        subst (FrameIsAt t m to) (sym same)
+        let here : f ≡ frame_at_label p b.body b.next f.return_address f.others =
+        same ∙ (λ i. record own { entry = one_entry 0 b.next i }) in
+        subst (FrameIsAt t m to) (sym here)
         (image.frames m b.body code b.next to f.return_address f.others there framed has resumed
         (record {
           kept = s.kept;
@@ -77,14 +86,14 @@ module _ (t : Functions) (fs : List Funclet) (program : LinearProgram) (p : Imag
         → Linked t fs program p m c is (Waits b ∷ below) acts
         → linked.IsLinkedStack t fs program p m to is (Waits b ∷ below) acts
     there_too (Framed f ∷ is) s l = record {
-      stack = (frame_there f l.0.framed l.0.entry l.0.slots s.0, s.1);
+      stack = (frame_there f l.0.waits.label l.0.framed l.0.entry l.0.slots s.0, s.1);
       linked = (
         record {
           framed = l.0.framed;
-          entry = l.0.entry;
           slots = l.0.slots;
           small = l.0.small;
           waits = waits_there (get c) f.slots _ l.0.waits;
+          entry = l.0.entry ∙ one_entry l.0.waits.label b.next;
           pointers = l.0.pointers;
           returns = l.0.returns;
         },

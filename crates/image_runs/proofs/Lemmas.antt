@@ -7,6 +7,7 @@ pub use Rattle.lowering_locals.proofs.AgreementSteps.{agreement_at_call, agreein
 pub use Rattle.template_code.proofs.Sizes.{template_sizes, sizes_append}
 pub use Rattle.x64_templates.proofs.PlacedCode.{same_number, bytes_kept, enters_then, outside_page, bytes_split, spells, reads}
 pub use Rattle.match_runs.proofs.Steps.{at_instruction, matched_step, steps_are_matched}
+pub use Rattle.match_runs.proofs.Taken.{Takes, taken}
 pub use Rattle.match_stack.proofs.ItemVisits.{set_head, frame_is_visited, leaf_is_visited, search_is_passed, unwinding_is_passed, stack_is_over}
 pub use Rattle.match_bodies.proofs.BodyFrames.{told_with}
 pub use Rattle.match_bodies.proofs.BodyResumption.{frame_size, frame_is}
@@ -17,7 +18,7 @@ pub use Rattle.match_bodies.proofs.StackTop.{leaf_layout, OnTop, leaf_frame, fra
 pub use Rattle.match_bodies.proofs.StackWords.{word_is, may_read_written, word_of}
 pub use Rattle.match_bodies.proofs.StepNeeds.{label_in}
 pub use Rattle.match_bodies.proofs.TemplateRuns.{get_or_is}
-pub use Rattle.match_bodies.proofs.TemplateSizes.{template_some, first_in_code, address_next}
+pub use Rattle.match_bodies.proofs.TemplateSizes.{template_some, first_in_code, code_ends}
 pub use Rattle.match_turns.proofs.FunctionLocals.{argument_is}
 pub use Rattle.match_turns.proofs.FunctionParameters.{parameters_stay, arguments_arrive, number_unarrived, own_frame, IsOwn, roomy_own, fresh_own, parameters_soon}
 pub use Rattle.match_turns.proofs.FunctionPrologue.{Made, planned_frame}

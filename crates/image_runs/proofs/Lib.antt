@@ -9,7 +9,7 @@ pub mod FirstFunction
 pub mod MainStart
 pub mod FirstState
 pub mod AgreementFacts
-pub mod TurnsInHand
+pub mod FirstSeparators
 pub mod AgreementSteps
 pub mod AgreementCalls
 pub mod LiveStates

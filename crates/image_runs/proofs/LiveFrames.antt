@@ -49,8 +49,8 @@ module _ (t : Functions) (fs : List Funclet) (program : LinearProgram) (p : Imag
     are_frames m c (Framed f ∷ is) (Waits b ∷ below) acts s l =
         let y = p.layout b.body in
         let w = l.0.waits in
-        let size = frame_size t fs program p q image m c f b.body w.code w.body l.0.framed l.0.entry
-        s.0 in
+        let size = frame_size t fs program p q image m c f b.body w.code w.label w.body l.0.framed
+        l.0.entry s.0 in
         let caller = after_frame c f in (
           record {
             now = get c;
@@ -65,8 +65,8 @@ module _ (t : Functions) (fs : List Funclet) (program : LinearProgram) (p : Imag
             after = ap (λ n. rsp c + n + 8) size;
             kept = subst (λ (leaf : Bool). KeepsCaller t fs program p m c b.body leaf caller)
                 (sym l.0.framed) (subst (IsAsTold m c)
-                (frame_is t fs program p q image m c f b.body w.code w.body l.0.framed l.0.entry
-                l.0.slots s.0) s.0.is_told);
+                (frame_is t fs program p q image m c f b.body w.code w.label w.body l.0.framed
+                l.0.entry l.0.slots s.0) s.0.is_told);
           },
           are_frames m (after_frame c f) is below (activations_below b.body acts) s.1 l.2,
         )

@@ -2,7 +2,7 @@
 use Rattle.std.proofs.Common.{◌≡◌, ℕ, ◌+◌, ◌^◌, ◌<◌, false, List, [], ◌∷◌, ◌++◌, length, Option, Some, None, Ok, refl, sym, ap, subst, ◌∙◌, arith}
 use Rattle.std.specs.Prelude.{slice_get}
 use Rattle.std.proofs.lemmas.Bool.{false≢true}
-use Rattle.image_runs.specs.Words.{Memory, Rax, Instr, chosen, Context, rsp, word, FrameIsAt, LeafIsAt, Slot, Local, Temporary, LinearBody, LinearProgram, BodyName, body_of, Layout, spelled, sizes, text_begin, linked, HasProgram, IsFramed, frame_of, functions_of, funclets_of, plan_of, sites_of, or_none, routine_of, HasWholeImage, IsReturning, fetch_local, local_at, fetch, code_from, entry_code, entry_size, check_stack_at, routine_code, stack_frame, begin_of, code_of, LinkedReturnsWait}
+use Rattle.image_runs.specs.Words.{Memory, Rax, Instr, chosen, Context, rsp, word, FrameIsAt, LeafIsAt, Slot, Local, Temporary, LinearBody, LinearProgram, BodyName, body_of, Layout, spelled, sizes, text_begin, linked, HasProgram, IsFramed, frame_at_label, functions_of, funclets_of, plan_of, sites_of, or_none, routine_of, HasWholeImage, IsReturning, fetch_local, local_at, fetch, code_from, entry_code, entry_size, check_stack_at, routine_code, stack_frame, begin_of, code_of, LinkedReturnsWait}
 use Rattle.image_states.specs.Plans.{is_leaf}
 use Rattle.frame_rules.specs.Bytes.{IsExecutableAt}
 use Rattle.frame_rules.specs.Plan.{epilogue}
@@ -137,13 +137,14 @@ module _ (p : LinearProgram) (c : HasWholeImage p) (m : Memory) (name : BodyName
       → HasProgram (functions_of p) (funclets_of p) p (plan_of p) (sites_of p) m
       → IsReturning (functions_of p) (funclets_of p) p (plan_of p) (sites_of p) b name label k.rip
       → IsFramed (plan_of p) m name k back others
-      → FrameIsAt (functions_of p) m k (frame_of (plan_of p) name back others)
+      → FrameIsAt (functions_of p) m k (frame_at_label (plan_of p) name label back others)
   framed_still others framed has r w =
       let f = framed_of x.routine.frame framed in
       let at = (place p c name b is).at in
       let first = returning p m x label r.from (code_there has) (here p c name b is)
       (at_return r.from r.there) in
-      let same : stack_frame p x f.0 back others ≡ frame_of (plan_of p) name back others =
+      let same : stack_frame p x f.0 back others
+      ≡ frame_at_label (plan_of p) name label back others =
       λ i. record {
         entry = tables.entry_of (site_of p) x (or_none (sym f.1 i));
         slots = x.routine.layout.slots;

@@ -1,7 +1,8 @@
 -- A run that is matched step by step passes a state for each step.
-use Rattle.std.proofs.Common.{◌≡◌, inl, inr, ℕ, zero, suc, List, Some, subst, ◌∙◌}
-use Rattle.image_runs.specs.Words.{State, Functions, Funclet, Instruction, LinearProgram, Configuration, Seen, Running, Finished, Stuck, act, instruction_at, exec, HasRule, IsMatched, Simulates, IsRunning, HasNextStep, Passes}
-use Rattle.image_runs.proofs.Lemmas.{at_instruction, matched_step}
+use Rattle.std.proofs.Common.{◌≡◌, inl, inr, ℕ, zero, suc, List, [], Some, sym, subst, ◌∙◌, arith}
+use Rattle.std.proofs.lemmas.List.{append-nil}
+use Rattle.image_runs.specs.Words.{State, Functions, Funclet, Instruction, LinearProgram, Configuration, Seen, Running, Finished, Stuck, act, instruction_at, exec, HasRule, turns_ahead, IsMatched, Simulates, IsRunning, HasNextStep, Passes}
+use Rattle.image_runs.proofs.Lemmas.{at_instruction, matched_step, Takes, taken}
 
 running_has_rule : (x : Seen) → IsRunning x → HasRule x
 running_has_rule (Running es) h = tt
@@ -13,33 +14,49 @@ module _ (t : Functions) (fs : List Funclet) (program : LinearProgram) (turns_pe
     (Holds : State → Configuration → Type 0)
     (simulates : Simulates t fs program turns_per_step credit R)
     (holds : (n : ℕ) (s : State) (c : Configuration) → R n s c → Holds s c) where
-  step : (n : ℕ) (s : State) (c : Configuration) (i : Instruction)
-      → instruction_at program c ≡ Some i
-      → ((u : State) (d : Configuration) → R n u d → IsRunning (exec program n d)
+  module _ (n : ℕ) (s : State) (c : Configuration) (i : Instruction)
+      (at : instruction_at program c ≡ Some i)
+      (rest : (u : State) (d : Configuration) → R n u d → IsRunning (exec program n d)
       → Passes t fs program turns_per_step credit Holds n u d)
-      → IsRunning (act program i (exec program n) c)
-      → IsMatched t fs program turns_per_step credit (R n) s c i
-      → HasNextStep t fs program turns_per_step credit (Passes t fs program turns_per_step credit
-      Holds n) s c
-  step n s c i at rest running (inl v) = record {
-    turns = v.turns;
-    some = v.some;
-    configuration = v.configuration;
-    few = v.few;
-    state = v.state;
-    events = v.events;
-    comes = v.comes;
-    shown = v.shown;
-    continues = λ k. at_instruction program k c i at ∙ v.acts (exec program k);
-    rest = rest v.state v.configuration v.is_there
-        (subst IsRunning (v.acts (exec program n)) running);
-  }
-  step n s c i at rest running (inr (inl v)) = absurd
-      (subst IsRunning (v.acts (exec program n)) running)
-  step n s c i at rest running (inr (inr (inl v))) = absurd
-      (subst IsRunning (v.acts (exec program n)) running)
-  step n s c i at rest running (inr (inr (inr v))) = absurd
-      (subst IsRunning (v.acts (exec program n)) running)
+      (running : IsRunning (act program i (exec program n) c)) where
+    abbrev Goal : Type 0
+    Goal = HasNextStep t fs program turns_per_step credit
+        (Passes t fs program turns_per_step credit Holds n) s c
+
+    plainly : turns_ahead program turns_per_step c ≡ 0
+        → IsMatched t fs program turns_per_step credit (R n) s c i → Goal
+    plainly none (inl v) = record {
+      turns = v.turns;
+      some = v.some;
+      configuration = v.configuration;
+      few = (let few = v.few in omega arith);
+      state = v.state;
+      events = v.events;
+      comes = v.comes;
+      shown = v.shown;
+      continues = λ k. at_instruction program k c i at ∙ v.acts (exec program k);
+      rest = rest v.state v.configuration v.is_there
+          (subst IsRunning (v.acts (exec program n)) running);
+    }
+    plainly none (inr (inl v)) = absurd (subst IsRunning (v.acts (exec program n)) running)
+    plainly none (inr (inr (inl v))) = absurd (subst IsRunning (v.acts (exec program n)) running)
+    plainly none (inr (inr (inr v))) = absurd (subst IsRunning (v.acts (exec program n)) running)
+
+    step : Takes t fs program turns_per_step credit (R n) s c i → Goal
+    step (inl m) = plainly m.0 m.1
+    step (inr v) = record {
+      turns = v.turns;
+      some = v.some;
+      configuration = v.configuration;
+      few = v.few;
+      state = v.state;
+      events = [];
+      comes = v.comes;
+      shown = v.shown ∙ sym (append-nil c.events);
+      continues = λ k. at_instruction program k c i at ∙ v.acts (exec program k);
+      rest = rest v.state v.configuration v.is_there
+          (subst IsRunning (v.acts (exec program n)) running);
+    }
 
   -- where the relation gives that something holds, it holds in a state for each step
   pub passes : (n : ℕ) (s : State) (c : Configuration) → R n s c → IsRunning (exec program n c)
@@ -50,5 +67,6 @@ module _ (t : Functions) (fs : List Funclet) (program : LinearProgram) (turns_pe
       (simulates.steps n s c r) (running_has_rule (exec program (suc n) c) running) in (
         holds (suc n) s c r,
         step n s c x.instruction x.at (λ u d. passes n u d) (subst IsRunning
-            (at_instruction program n c x.instruction x.at) running) x.matched,
+            (at_instruction program n c x.instruction x.at) running)
+            (taken t fs program turns_per_step credit (R n) s c x.instruction x.at x.matched),
       )

@@ -1,14 +1,15 @@
 -- The run of a compiled image passes the states that represent linear code's configurations.
-use Rattle.std.proofs.Common.{◌≡◌, inl, zero, refl, subst, ap, []}
+use Rattle.std.proofs.Common.{◌≡◌, inl, zero, refl, subst, ap, [], arith}
 use Rattle.std.specs.Prelude.{ℕ, ℤ, slice_get, get_or, Option, Some}
 use Rattle.std.proofs.lemmas.Option.{slice_get-get_or}
-use Rattle.image_runs.specs.Words.{image_of, State, Program, LinearFunction, LinearProgram, Configuration, with_some, seen, exec, start, lowered, ReadsNoUnset, started_with, turns_in_hand, turns_per_step, no_function, linked, functions_of, funclets_of, plan_of, sites_of, HasBytes, MainBegins, IsLinkable, IsSoundImage, RepresentsWhereSet, IsRunning, ShowsFramesOf, PassesTheFrames, RunsPassTheFrames}
+use Rattle.image_runs.specs.Words.{image_of, State, Program, LinearFunction, LinearProgram, Configuration, with_some, seen, exec, start, lowered, ReadsNoUnset, started_with, turns_left, turns_per_step, no_function, linked, functions_of, funclets_of, plan_of, sites_of, HasBytes, MainBegins, IsLinkable, IsSoundImage, RepresentsWhereSet, IsRunning, ShowsFramesOf, PassesTheFrames, RunsPassTheFrames}
 use Rattle.host_model.specs.Loading as images
 use Rattle.image_runs.proofs.Lemmas.{continues, agreement_at_start}
 use Rattle.image_runs.proofs.FirstState.{mains_begin}
 use Rattle.image_runs.proofs.ImageCode.{lowered_is_compiled}
 use Rattle.image_runs.proofs.SoundImages.{lowered_has_image}
 use Rattle.image_runs.proofs.AgreementFacts.{known}
+use Rattle.image_runs.proofs.FirstSeparators.{first_separators_weigh}
 use Rattle.image_runs.proofs.AgreementSimulation.{agreement_simulates}
 use Rattle.image_runs.proofs.RunStates.{passes}
 use Rattle.image_runs.proofs.ReturnFrames.{linked_returns_wait}
@@ -62,11 +63,13 @@ module _ (program : Program) (l : IsLinkable program) (reads : ReadsNoUnset (low
             main = main;
             is_main = is_main;
             turns = b.turns;
-            few = b.few;
+            few = (let few = b.few in
+                let weighs = first_separators_weigh program linear.main main is_main in
+                omega arith);
             state = b.state;
             comes = b.comes;
             passes = passes (functions_of linear) (funclets_of linear) linear turns_per_step
-                turns_in_hand
+                turns_left
                 (λ k. RepresentsWhereSet (functions_of linear) (funclets_of linear) linear
                 (plan_of linear)
                 (sites_of linear)) (ShowsFramesOf program)

@@ -11,7 +11,7 @@ use Rattle.x64_encode.proofs.Lengths.{longest}
 use Rattle.frame_rules.specs.Body.{written, written_place, has, is_a_call}
 use Rattle.frame_rules.proofs.Writing.{writes_no_other}
 use Rattle.linear_code.specs.declared.instruction.Instruction.TheVariants as instructions
-use Rattle.image_runs.proofs.Lemmas.{sizes_append, template_sizes, outside_page, bytes_split, spells, reads, address_next, get_or_is, template_is_at}
+use Rattle.image_runs.proofs.Lemmas.{sizes_append, template_sizes, outside_page, bytes_split, spells, reads, code_ends, get_or_is, template_is_at}
 use Rattle.x64_templates.proofs.Computes.{code_split}
 use Rattle.match_stack.specs.ListLaws.{KeepsStack}
 use Rattle.image_runs.proofs.ScratchInstructions.{leaves}
@@ -114,7 +114,7 @@ module _ (t : Functions) (fs : List Funclet) (program : LinearProgram) (p : Imag
       let here = r.here in
       let to = goes_to in
       let g = get_or_is w.code.code c.frame.next r.instruction instructions.Separator r.there in
-      let n = address_next t fs program p q image c.frame.body w.code c.frame.next w.body g.1 in
+      let n = code_ends t fs program p q image c.frame.body w.code c.frame.next w.body g.1 in
       let z = ap (template_size (p.layout c.frame.body)) g.0 in
       let l = template_sizes (links_of p q c.frame.body) (p.layout c.frame.body)
       (p.address c.frame.body c.frame.next) r.instruction in

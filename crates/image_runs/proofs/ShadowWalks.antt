@@ -3,7 +3,7 @@ use Rattle.std.proofs.Common.{◌≡◌, ℕ, zero, ◌+◌, ◌*◌, ◌<◌, �
 use Rattle.std.specs.Prelude.{ℤ, pos, slice_get}
 use Rattle.std.proofs.lemmas.Nat.{mul-le}
 use Rattle.std.proofs.lemmas.Option.{slice_get_within}
-use Rattle.image_runs.specs.Words.{Shown, RunEnd, Rsp, Rbx, Rbp, Rsi, Rdi, R12, R13, R14, R15, Cpu, Context, context_of, State, register, image_of, Entry, word, Functions, Funclet, funclets, Program, LinearProgram, LinearFunction, FunctionBody, body_of, function_body, lowered, steps_per_turn_of, CanContinue, ReadsNoUnset, context_below, state, ImagePlan, Sites, turns_in_hand, IsProgramImage, linked, steps_per_turn_in, program_of, functions_of, funclets_of, plan_of, sites_of, IsLinkable, first_stack, IsFirst, IsImageOf, Calm, caller_at}
+use Rattle.image_runs.specs.Words.{Shown, RunEnd, Rsp, Rbx, Rbp, Rsi, Rdi, R12, R13, R14, R15, Cpu, Context, context_of, State, register, image_of, Entry, word, Functions, Funclet, funclets, Program, LinearProgram, LinearFunction, FunctionBody, body_of, function_body, lowered, steps_per_turn_of, CanContinue, ReadsNoUnset, context_below, state, ImagePlan, Sites, turns_left, IsProgramImage, linked, steps_per_turn_in, program_of, functions_of, funclets_of, plan_of, sites_of, IsLinkable, first_stack, IsFirst, IsImageOf, Calm, caller_at}
 use Rattle.host_model.specs.Machine.{machine}
 use Rattle.eh_tables.specs.Tables.{or_none}
 use Rattle.host_model.specs.Loading.{start}
@@ -15,6 +15,7 @@ use Rattle.match_runs.proofs.Shadows.{at_end}
 use Rattle.image_runs.proofs.RunMatches as runs
 use Rattle.match_bodies.proofs.BodyCallers.{gives_caller}
 use Rattle.match_bodies.proofs.OwedCallers.{finds_return}
+use Rattle.image_runs.specs.MatchLaws.{most_before_main}
 use Rattle.image_runs.specs.ShadowWalks.{WalksTheShadow, ImagesWalkTheShadow, CompiledWalkTheShadow, AcceptedWalkTheShadow}
 use Rattle.image_runs.proofs.FirstState.{first_states_start}
 use Rattle.image_runs.proofs.ImageCode.{lowered_is_compiled}
@@ -28,7 +29,7 @@ pub images_walk_the_shadow : ImagesWalkTheShadow
 images_walk_the_shadow t fs program p q sound reads image arg main s is_main b walk m n enough_steps
     calm
     none =
-    runs.shadow t fs program sound turns_in_hand arg b.turns m n s (first_shadow s)
+    runs.shadow t fs program sound turns_left arg most_before_main m n s (first_shadow s)
     (begins t fs program p q sound reads image arg main s is_main b m) enough_steps calm walk none
 
 -- ---- at the first byte of `main`

@@ -1,14 +1,14 @@
 -- All that steps of the machine ask of the image of a sound program.
 use Rattle.std.proofs.Common.{◌≡◌, ℕ, ◌<◌, [], ◌∷◌, length, get_or, Some, refl, sym, ap, ◌∙◌, arith, length-append}
 use Rattle.std.proofs.lemmas.Option.{slice_get-get_or}
-use Rattle.image_runs.specs.Words.{Program, Local, Temporary, LinearBody, LinearProgram, FunctionBody, function_body, body_of, scope_of, lowered, no_function, functions_of, funclets_of, plan_of, sites_of, IsLinkable, IsSoundImage, FunctionsApart, IsField, IsPlain, LoweredHasImage}
+use Rattle.image_runs.specs.Words.{Program, Local, Temporary, LinearBody, LinearProgram, FunctionBody, function_body, body_of, lowered, no_function, functions_of, funclets_of, plan_of, sites_of, IsLinkable, IsSoundImage, FunctionsApart, IsField, IsPlain, LoweredHasImage}
 use Rattle.c_operations.specs.declared.field.Field.{Field}
 use Rattle.linear_code.specs.declared.instruction.Instruction.TheVariants as instructions
 use Rattle.linear_code.specs.declared.program.FuncletKind.{FuncletKind}
 use Rattle.linear_code.specs.declared.program.FuncletKind.TheVariants.{Filter, Finally}
 use Rattle.linear_machine.specs.Unwinding.{flag_in, flag_of}
 use Rattle.lowering_expressions.specs.Scope.{finally_scope}
-use Rattle.lowering_expressions.specs.Expressions.{constant, expression_code}
+use Rattle.lowering_expressions.specs.Expressions.{expression_code}
 use Rattle.seh_ir.specs.Statements.{statements_code}
 use Rattle.lowering_invariants.proofs.CallRegions.{has_same_regions}
 use Rattle.lowering_invariants.proofs.Flags.{has_flags}
@@ -52,8 +52,7 @@ module _ (program : Program) (l : IsLinkable program) where
       (instructions.Return (Temporary 0) ∷ []) in omega arith))
       (λ owner names last. (let n = length-append (statements_code (finally_scope names) last 0)
       (instructions.Return (Local names.free) ∷ []) in omega arith))
-      (λ f. (let n = length-append (statements_code (scope_of f) f.body 1)
-      (constant 0 0 ∷ instructions.Return (Temporary 0) ∷ []) in omega arith))
+      (λ f. omega arith)
       program (FunctionBody k) b e
 
   apart : FunctionsApart linear (plan_of linear) (sites_of linear)

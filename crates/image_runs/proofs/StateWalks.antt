@@ -64,7 +64,8 @@ module _ (t : Functions) (fs : List Funclet) (program : LinearProgram) (p : Imag
 
       returning_top : (leaf : Bool) → p.leaf c.frame.body ≡ leaf
           → OnTop t fs program p q s c at.acts
-      returning_top false e = framed_top t fs program p q s c at e
+      returning_top false e = framed_top t fs program p q s c c.frame.next at
+          ((image.pieces c.frame.body at.slots.code at.slots.body).entries c.frame.next) e
           (still.frames s.memory c.frame.body at.slots.code c.frame.next (context_of s.cpu) at.back
           at.others at.slots.body e has r (framed_here t fs program p q s c at e))
       returning_top true e =

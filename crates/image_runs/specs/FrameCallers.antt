@@ -8,6 +8,7 @@ use Rattle.host_layout.specs.declared.imported.ImportedService.{ImportedService}
 use Rattle.c_checked.specs.Program.{Program}
 use Rattle.linear_code.specs.Program.{LinearProgram}
 use Rattle.seh_ir.specs.Lowered.{lowered}
+use Rattle.x64_emit.specs.declared.entry.TheConstants.{CHECK_STACK_SIZE}
 use Rattle.frame_layout.specs.declared.frame.FrameLayout.{FrameLayout}
 use Rattle.image_link.specs.Fits.{FitsProgram}
 use Rattle.image_tables.specs.RoutinePlaces.{Placed, end_of, placed, thunk_begin, probe_begin}
@@ -36,7 +37,7 @@ pub record FindsCallers (p : LinearProgram) : Type 0 where
       → FindsCaller p e s
   pub probes :
       (e s : State)
-      → IsInRange e s probe (probe_begin p) (probe_begin p + 21)
+      → IsInRange e s probe (probe_begin p) (probe_begin p + CHECK_STACK_SIZE)
       → FindsCaller p e s
 
 -- so it is of every checked program whose linear code is within the limits of linking

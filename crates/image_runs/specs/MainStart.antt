@@ -1,5 +1,5 @@
 -- The state that a run of a program's image starts with, and the beginning of `main`.
-use Rattle.std.specs.Prelude.{◌≡◌, ℕ, ◌-◌, ◌≤◌, List, [], length, ℤ, Ok}
+use Rattle.std.specs.Prelude.{◌≡◌, ℕ, ◌+◌, ◌-◌, ◌*◌, ◌≤◌, List, [], length, ℤ, Ok}
 use Rattle.host_layout.specs.declared.range.TheConstants.{FIRST_STACK}
 use Rattle.x64_machine.specs.Effect.{State}
 use Rattle.virtual_unwind.specs.Undone.{word}
@@ -30,14 +30,15 @@ module _ (t : Functions) (fs : List Funclet) (program : LinearProgram) (p : Imag
     pub memory : IsMachineMemory t fs program p q s.memory (first_memory program.globals)
     pub returns : word s.memory first_stack ≡ Ok 0
 
-  -- a few turns that show nothing lead to the first instruction of `main`: its arguments are its
-  -- first locals, and numbers that the stack held are in the others
+  -- a few turns that show nothing, and eight more for each 1 that `main` weighs above 1, come to
+  -- its first instruction: its arguments are its first locals, and numbers that the stack held are
+  -- in the others
   pub record MainBegins (arg : ℤ) (main : LinearFunction) (s : State) : Type 0 where
     pub values : List ℕ
     pub as_many : length values ≡ main.body.locals - main.parameters
     pub small : AreSmall values
     pub turns : ℕ
-    pub few : turns ≤ most_before_main
+    pub few : turns ≤ most_before_main + 8 * main.surplus
     pub state : State
     pub comes : Comes t fs turns s [] state
     pub begins : RepresentsAt t fs program p q state (started_with program arg main values)

@@ -13,7 +13,7 @@ use Rattle.linear_machine.specs.Frames.{BodyName, body_of}
 use Rattle.match_stack.specs.Stack.{FrameIsAt, LeafIsAt}
 use Rattle.match_stack.specs.ImagePlan.{ImagePlan}
 use Rattle.match_bodies.specs.CodeSites.{Sites}
-use Rattle.match_bodies.specs.ProgramImages.{HasProgram, IsFramed, frame_of}
+use Rattle.match_bodies.specs.ProgramImages.{HasProgram, IsFramed, frame_at_label}
 
 module _ (t : Functions) (fs : List Funclet) (program : LinearProgram) (p : ImagePlan)
     (q : Sites) where
@@ -29,7 +29,7 @@ module _ (t : Functions) (fs : List Funclet) (program : LinearProgram) (p : Imag
       (others : List ℕ)
       → body_of program name ≡ Some b → p.leaf name ≡ false → HasProgram t fs program p q m
       → IsReturning b name label c.rip → IsFramed p m name c back others
-      → FrameIsAt t m c (frame_of p name back others)
+      → FrameIsAt t m c (frame_at_label p name label back others)
 
   abbrev pub ReturningLeavesWait : Type 0
   ReturningLeavesWait =

@@ -20,7 +20,7 @@ use Rattle.lowering_locals.specs.Agreement.{AgreeOnSet}
 use Rattle.match_runs.specs.Laws.{ShowsAll, ShowsNoMore}
 use Rattle.match_runs.specs.Matched.{Simulates}
 use Rattle.match_bodies.specs.CodeSites.{Sites}
-use Rattle.match_bodies.specs.Bodies.{turns_in_hand}
+use Rattle.match_bodies.specs.Bodies.{turns_left}
 use Rattle.match_bodies.specs.ConfigurationFacts.{IsKnown, KnownNext}
 use Rattle.match_bodies.specs.StepLaws.{turns_per_step}
 use Rattle.image_runs.specs.SoundImages.{IsSoundImage}
@@ -43,7 +43,7 @@ abbrev pub AgreementSimulates : Type 0
 AgreementSimulates =
     (t : Functions) (fs : List Funclet) (program : Program) (p : ImagePlan) (q : Sites)
     → IsSound program → ReadsNoUnset (lowered program) → IsSoundImage t fs (lowered program) p q
-    → Simulates t fs (lowered program) turns_per_step turns_in_hand
+    → Simulates t fs (lowered program) turns_per_step turns_left
     (λ n. RepresentsWhereSet t fs (lowered program) p q)
 
 -- in 256 n + 256 turns the machine shows what the program shows within n steps, and has ended as it

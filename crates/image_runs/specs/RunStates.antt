@@ -8,6 +8,7 @@ use Rattle.linear_code.specs.Program.{LinearProgram}
 use Rattle.linear_machine.specs.Frames.{Configuration, Seen, Running, Finished, Stuck}
 use Rattle.linear_machine.specs.Run.{exec}
 use Rattle.match_runs.specs.Comes.{Comes}
+use Rattle.match_runs.specs.Matched.{turns_ahead}
 
 -- linear code has not ended
 abbrev pub IsRunning : Seen → Type 0
@@ -23,7 +24,8 @@ module _ (t : Functions) (fs : List Funclet) (program : LinearProgram) (turns_pe
     pub turns : ℕ
     pub some : 1 ≤ turns
     pub configuration : Configuration
-    pub few : turns + credit configuration ≤ turns_per_step + credit c
+    pub few : turns + credit configuration + turns_ahead program turns_per_step c
+        ≤ turns_per_step + credit c + turns_ahead program turns_per_step configuration
     pub state : State
     pub events : List Event
     pub comes : Comes t fs turns s events state

@@ -11,11 +11,11 @@ pub use Rattle.c_checked.specs.Sound.{IsSound, count_up}
 pub use Rattle.source_meaning.specs.Meaning.{meaning, is_calm, Calm}
 pub use Rattle.source_meaning.specs.Source.{is_reserved, first_memory}
 pub use Rattle.source_meaning.specs.declared.ended.Ended.{Ended}
-pub use Rattle.linear_code.specs.Program.{LinearProgram, LinearFunction, LinearBody, LinearFunclet}
+pub use Rattle.linear_code.specs.Program.{LinearProgram, LinearFunction, LinearBody, LinearFunclet, weight}
 pub use Rattle.linear_code.specs.declared.instruction.Instruction.{Instruction}
 pub use Rattle.linear_code.specs.declared.slot.Slot.{Slot}
 pub use Rattle.linear_code.specs.declared.slot.Slot.TheVariants.{Local, Temporary}
-pub use Rattle.linear_machine.specs.Frames.{Waits, Configuration, Seen, Running, Finished, Next, last_temporaries, BodyName, FunctionBody, Frame, body_of, FuncletBody, function_body, Item, Searches, Unwinds, Stuck}
+pub use Rattle.linear_machine.specs.Frames.{weight_of, Waits, Configuration, Seen, Running, Finished, Next, last_temporaries, BodyName, FunctionBody, Frame, body_of, FuncletBody, function_body, Item, Searches, Unwinds, Stuck}
 unfoldable pub use Rattle.linear_machine.specs.Frames.{pick, with_some}
 pub use Rattle.linear_machine.specs.Instructions.{act, begin_function, waiting}
 pub use Rattle.linear_machine.specs.Run.{instruction_at, instruction_in, main_arguments, start, seen, linear_meaning}
@@ -47,7 +47,7 @@ pub use Rattle.template_code.specs.Slots.{fetch_local, local_at, fetch, operands
 pub use Rattle.template_code.specs.Template.{template, code_from}
 unfoldable pub use Rattle.template_code.specs.Template.{template_size}
 pub use Rattle.template_code.specs.declared.layout.Layout.{Layout}
-pub use Rattle.template_code.specs.declared.layout.TheConstants.{LARGEST_FRAME}
+pub use Rattle.template_code.specs.declared.layout.TheConstants.{FRAME_BY_WEIGHT, MOST_WEIGHT}
 pub use Rattle.x64_templates.specs.EntryStates.{InRegisters, with_arguments, OnStack, IsFunctionFrame, body_in_memory}
 pub use Rattle.x64_templates.specs.Epilogues.{IsReturn}
 pub use Rattle.x64_templates.specs.Runs.{HasCode, Enters, ReachesBody}
@@ -65,7 +65,7 @@ pub use Rattle.host_model.specs.declared.funclet.Funclet.{Funclet}
 pub use Rattle.match_runs.specs.Comes.{Comes, IsLive}
 pub use Rattle.match_runs.specs.Ends.{HasRule, run_end_of}
 pub use Rattle.match_runs.specs.Laws.{ShowsAll, ShowsNoMore, RunBegins}
-pub use Rattle.match_runs.specs.Matched.{Moves, Fails, IsMatched, StepIsMatched, Simulates}
+pub use Rattle.match_runs.specs.Matched.{is_separator, separators, separators_in, separators_at, turns_ahead, Moves, Begins, Fails, IsMatched, IsTakenIf, IsTaken, StepIsMatched, Simulates}
 pub use Rattle.match_runs.specs.Shadow.{AllKeep, caller_at}
 pub use Rattle.match_stack.specs.DispatchStates.{IsWellFormed}
 pub use Rattle.match_stack.specs.ImagePlan.{ImagePlan, InCode}
@@ -73,12 +73,12 @@ pub use Rattle.match_stack.specs.ItemMatches.{home_end, HoldsWords, Activation, 
 pub use Rattle.match_stack.specs.PlainWalks.{state}
 pub use Rattle.match_stack.specs.Stack.{StackItem, Framed, Leaf, FrameIsAt, IsStack, StackFrame, Searching, Unwinding, after_frame, after_leaf, LeafIsAt}
 pub use Rattle.match_stack.specs.WalkLaws.{context_below}
-pub use Rattle.match_bodies.specs.Bodies.{turns_left, in_hand, turns_in_hand, RepresentsAt, held_below, slots_end, last_temporary, InBody}
+pub use Rattle.match_bodies.specs.Bodies.{turns_left, RepresentsAt, held_below, slots_end, last_temporary, InBody}
 pub use Rattle.match_bodies.specs.BodyViews.{seen_by_templates, counts_of}
 pub use Rattle.match_bodies.specs.CodeSites.{Sites, arguments_code, function_arguments, links_of, begin_of, code_of}
 pub use Rattle.match_bodies.specs.ConfigurationFacts.{IsKnown, KnownNext, IsWellMade}
 pub use Rattle.match_bodies.specs.Layouts.{IsLayoutIf, IsFunctionLayout, IsLeafLayout}
-pub use Rattle.match_bodies.specs.ProgramImages.{IsMachineMemory, IsProgramImage, HasProgram, IsResumed, IsFramed, frame_of}
+pub use Rattle.match_bodies.specs.ProgramImages.{IsMachineMemory, IsProgramImage, HasProgram, IsResumed, IsFramed, frame_of, frame_at_label}
 pub use Rattle.match_bodies.specs.StepLaws.{turns_per_step, IsWithinBody}
 pub use Rattle.match_turns.specs.CallOutcome.{CallBegins, begun, FunctionsApart}
 pub use Rattle.match_turns.specs.DispatchOutcome.{Represents, WorksOn}

@@ -65,7 +65,7 @@ past y [] (suc i) le = refl
 past y (b ∷ body) zero le = absurd (omega arith)
 past y (b ∷ body) (suc i) le = let r = past y body i (omega arith) in omega arith
 
-check_stack_size : sizes check_stack ≡ 21
+check_stack_size : sizes check_stack ≡ 41
 unfolding size modrm
 check_stack_size = refl
 

@@ -42,7 +42,7 @@ code_split m at (x ∷ a) b h =
     let e : at + 1 + length a ≡ at + length (x ∷ a) = omega arith in
     ((h.0, r.0), subst (λ y. IsCodeAt m y b) e r.1)
 
-check_stack_size : sizes check_stack ≡ 21
+check_stack_size : sizes check_stack ≡ 41
 unfolding size modrm
 check_stack_size = refl
 

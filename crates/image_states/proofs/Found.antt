@@ -90,7 +90,7 @@ module _ (program : LinearProgram) (c : HasWholeImage program) where
       let place = place_small (services_of program) imports.RaiseException in omega arith
   thunk_low Walk = let place = place_small (services_of program) imports.Walk in omega arith
 
-  stack_check : sizes check_stack ≡ 21
+  stack_check : sizes check_stack ≡ 41
   unfolding size modrm
   stack_check = refl
 

@@ -4,7 +4,7 @@ use Rattle.std.specs.Prelude.{slice_get}
 use Rattle.std.specs.List.{AllByRecursion}
 use Rattle.image_states.proofs.Lemmas.{some_same, none_some, routine_small, described, laid_plan, frame_is_at, leaves_are_at}
 use Rattle.std.proofs.lemmas.Bool.{false≢true}
-use Rattle.image_states.specs.Words.{Memory, Instr, FrameIsAt, IsExecutableAt, Instruction, LinearBody, LinearProgram, BodyName, body_of, FrameLayout, spelled, sizes, IsCodeAt, routine_code, IsInstructionNear, site_of, image_base, template_at, links, HasProgram, links_of, begin_of, code_of, functions_of, funclets_of, is_leaf, or_none, routine_of, address_of, plan_of, sites_of, HasWholeImage, IsReturn, IsInBody, frame_of, IsResumed, FramesAreWaiting, IsPlanned, LeavesAreWaiting, spell, IsFrameNear}
+use Rattle.image_states.specs.Words.{Memory, Instr, FrameIsAt, IsExecutableAt, Instruction, LinearBody, LinearProgram, BodyName, body_of, FrameLayout, spelled, sizes, IsCodeAt, routine_code, IsInstructionNear, site_of, image_base, template_at, links, HasProgram, links_of, begin_of, code_of, functions_of, funclets_of, is_leaf, or_none, routine_of, address_of, plan_of, sites_of, HasWholeImage, IsReturn, IsInBody, frame_at_label, IsResumed, FramesAreWaiting, IsPlanned, LeavesAreWaiting, spell, IsFrameNear}
 use Rattle.match_stack.specs.Stack.{IsAsTold}
 use Rattle.eh_tables.specs.Infos.{Info}
 use Rattle.frame_layout.specs.Plans as layouts
@@ -108,7 +108,7 @@ module _ (program : LinearProgram) (c : HasWholeImage program) where
       ∙ (let q : image_base + template_at x label + sizes r.done
       ≡ image_base + rva = omega arith in q) in
       let same : stack_frame program x f.0 back others
-      ≡ frame_of (plan_of program) name back others =
+      ≡ frame_at_label (plan_of program) name label back others =
       λ i. record {
         entry = tables.entry_of (site_of program) x (or_none (sym f.1 i));
         slots = x.routine.layout.slots;

@@ -5,7 +5,7 @@ use Rattle.std.specs.List.{AllByRecursion}
 use Rattle.std.proofs.lemmas.Bool.{cases_lt, lt-ltb, le-ltb, le-leb, lt-leb, ltb-true, eq-eqb, ne_eqb, false≢true}
 use Rattle.std.proofs.lemmas.List.{length-map}
 use Rattle.std.proofs.lemmas.Option.{slice_get_within}
-use Rattle.image_states.specs.Words.{Cpu, ScopeRecord, distance, by_kind, arrivals, FuncletKind, Instruction, Region, RegionKind, LinearBody, LinearProgram, BodyName, body_of, instruction_in, IsKindOf, IsRegionOf, Layout, address_or, routines, own_addresses, text_begin, linked, Placed, body_begin, site_of, infos_begin, image_base, template_at, funclet_begin, functions_of, funclets_of, or_none, routine_of, address_of, plan_of, HasWholeImage, Local, parent_of, IsFuncletOf, IsLanding, has_except, has_finally, handler_address, jump_target, scope_record, InCode, by_parent, parent_body, IsFunclet, JumpsTo, IsOfKind, IsRegion, AreRegions, AllFinally, AllExcept, IsFlagged, IsEntryOf, IsGiven, Gives, routines_begin}
+use Rattle.image_states.specs.Words.{Cpu, ScopeRecord, distance, by_kind, arrivals, FuncletKind, Instruction, Region, RegionKind, LinearBody, LinearProgram, BodyName, body_of, instruction_in, IsKindOf, IsRegionOf, Layout, address_or, routines, own_addresses, text_begin, linked, Placed, body_begin, site_of, infos_begin, image_base, template_at, funclet_begin, functions_of, funclets_of, or_none, routine_of, address_of, plan_of, HasWholeImage, Local, parent_of, IsFuncletOf, IsLanding, has_except, has_finally, handler_address, jump_target, scope_record, InCode, by_parent, parent_body, IsFunclet, JumpsTo, IsOfKind, IsRegion, AreRegions, AllFinally, AllExcept, IsFlagged, IsEntryOf, HasEntries, IsGiven, Gives, routines_begin}
 use Rattle.seh_walk.specs.Asked.{is_end}
 use Rattle.seh_walk.specs.Asked as rows
 use Rattle.linear_code.specs.declared.instruction.Instruction.TheVariants as instructions
@@ -332,7 +332,7 @@ module _ (program : LinearProgram) (c : HasWholeImage program) (name : BodyName)
   flag_of flag false e all = inr (all refl)
 
   flagged : IsFlagged (functions_of program) (funclets_of program) program (plan_of program)
-      ((plan_of program).entry name).info
+      ((plan_of program).entry name 0).info
   flagged =
       let f = entries_are_flagged (site_of program) x (or_none x.routine.frame) in
       record {
@@ -344,9 +344,9 @@ module _ (program : LinearProgram) (c : HasWholeImage program) (name : BodyName)
 
   -- ---- an entry
 
-  pub entry_given : IsEntryOf (functions_of program) (funclets_of program) program (plan_of program)
-      name b
-  entry_given =
+  entry_given : (label : ℕ) → IsEntryOf (functions_of program) (funclets_of program) program
+      (plan_of program) name b label
+  entry_given label =
       let p = place program c name b is in
       let own = (c.whole.bodies name b is).regions in
       let few = h.near.regions in
@@ -359,6 +359,14 @@ module _ (program : LinearProgram) (c : HasWholeImage program) (name : BodyName)
             (sym p.body) own));
         flagged = flagged;
         few = omega arith;
+      }
+
+  entries_given : HasEntries (functions_of program) (funclets_of program) program (plan_of program)
+      name b
+  entries_given =
+      let p = place program c name b is in
+      record {
+        entries = entry_given;
         landings = λ label lands cpu. at_none program c cpu (address_of program name label)
             (let s = small label in omega arith)
             (λ k lt. not_first program c name b is k lt label
@@ -376,7 +384,7 @@ module _ (program : LinearProgram) (c : HasWholeImage program) (name : BodyName)
   given_by : (leaf : Bool) → (plan_of program).leaf name ≡ leaf
       → IsGiven (functions_of program) (funclets_of program) program (plan_of program) name b leaf
   given_by true e = leaf_given e
-  given_by false e = entry_given
+  given_by false e = entries_given
 
   pub given : IsGiven (functions_of program) (funclets_of program) program (plan_of program) name b
       ((plan_of program).leaf name)

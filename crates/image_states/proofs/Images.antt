@@ -74,6 +74,7 @@ images_are_programs program c = record {
   gives = gives program c;
   laid_out = laid_out program c;
   addresses = λ name b is. addresses program c name b is;
+  pieces = λ name b is. record { ends = λ label lt. refl; entries = λ label other. refl };
   check_stack = check_stack_inside program c;
   registers = λ f x. refl;
   arrivals = parameters_arrive program c;

@@ -4,6 +4,8 @@ use Rattle.std.specs.Prelude.{slice_get, ◌&&◌}
 use Rattle.std.proofs.lemmas.Bool.{and_parts, and_right, false≢true}
 use Rattle.std.proofs.lemmas.Option.{slice_get_within, get_or_from_slice_get}
 use Rattle.image_states.specs.Words.{LinearBody, LinearFunction, LinearFunclet, LinearProgram, FunctionBody, FuncletBody, function_body, funclet_body, Layout, RoutineView, leaf_if, funclet_frame, funclet, no_function, is_leaf, routine_of, plan_of, HasWholeImage, ImagePlan, FitsFunction, function_frame, register_if}
+use Rattle.linear_code.specs.Program.{weight}
+use Rattle.linear_machine.specs.Frames.{weight_of}
 use Rattle.image_link.specs.Routines as link
 use Rattle.frame_layout.specs.Layout.{IsFrame}
 use Rattle.frame_layout.specs.Plans as layouts
@@ -57,7 +59,8 @@ leaf_if_facts fn other leaf e holds =
 module _ (program : LinearProgram) (p : ImagePlan) where
   function_by : (leaf : Bool) (fn : LinearFunction) → FitsFunction fn
       → (leaf ≡ true → IsLeafFunction fn)
-      → IsLayoutIf program p (leaf_if leaf fn).layout fn.body (is_leaf (leaf_if leaf fn).frame)
+      → IsLayoutIf program p (weight fn) (leaf_if leaf fn).layout fn.body
+      (is_leaf (leaf_if leaf fn).frame)
   function_by true fn fits facts = record {
     none = refl;
     slots = refl;
@@ -84,6 +87,7 @@ module _ (program : LinearProgram) (p : ImagePlan) where
         temporaries = omega arith;
         locals = omega arith;
         within = omega arith;
+        light = fits.weight;
         small = frame_small facts fit;
         plan = planned f (leaf_if false fn).layout h refl refl;
         few = let a = pushes_few f.pushes f.framed in let b = saves_length f.slots f.saves in
@@ -115,7 +119,7 @@ funclet_by program fl fn y e same few =
       small = omega arith;
       plan = planned (funclet_frame fl.body) (funclet program fl).layout
           (parts (link.funclet_facts fl.body)
-          (record { registers = omega arith; words = omega arith }))
+          (record { registers = omega arith; weight = omega arith; words = omega arith }))
           refl refl;
       bare = refl;
       none_arrive = refl;
@@ -137,11 +141,14 @@ module _ (program : LinearProgram) (c : HasWholeImage program) where
       (all_at FitsFunction program.functions f fn c.fits.functions lt) in
       let own = function_by program (plan_of program) leaf fn fit
       (leaf_if_facts fn (not (f == program.main)) leaf refl) in
-      subst (λ (d : LinearBody). IsLayoutIf program (plan_of program)
+      subst (λ (w : Option LinearFunction). IsLayoutIf program (plan_of program) (weight_of w)
+      (routine_of program (FunctionBody f)).routine.layout b
+      (is_leaf (routine_of program (FunctionBody f)).routine.frame)) (sym e)
+      (subst (λ (d : LinearBody). IsLayoutIf program (plan_of program) (weight fn)
       (routine_of program (FunctionBody f)).routine.layout d
       (is_leaf (routine_of program (FunctionBody f)).routine.frame)) (some_same h)
-      (subst (λ (r : RoutineView). IsLayoutIf program (plan_of program) r.layout fn.body
-      (is_leaf r.frame)) (sym g.routine) own)
+      (subst (λ (r : RoutineView). IsLayoutIf program (plan_of program) (weight fn) r.layout fn.body
+      (is_leaf r.frame)) (sym g.routine) own))
 
   -- all parameters of a leaf function stay in the registers in which they arrive
   pub parameters_arrive : (f : ℕ) (fn : LinearFunction) → slice_get program.functions f ≡ Some fn

@@ -202,10 +202,11 @@ resumes program resumption b values saved =
 abbrev pub plan_of : LinearProgram → ImagePlan
 plan_of program = record {
   address = address_of program;
+  after = λ name label. address_of program name (label + 1);
   funclet = λ k. image_base + funclet_begin program k;
   leaf = λ name. is_leaf (routine_of program name).routine.frame;
   entry =
-      λ name. tables.entry_of (site_of program) (routine_of program name)
+      λ name label. tables.entry_of (site_of program) (routine_of program name)
       (or_none (routine_of program name).routine.frame);
   layout = λ name. (routine_of program name).routine.layout;
   register = register_by program;

@@ -60,11 +60,11 @@ pub use Rattle.host_model.specs.Loading.{mode_in, stored_byte, with_slots, secti
 unfoldable pub use Rattle.host_model.specs.Loading.{mapped}
 pub use Rattle.host_model.specs.Slots.{SlotsAreApart, IsBeside}
 pub use Rattle.host_model.specs.declared.funclet.Funclet.{Funclet}
-pub use Rattle.match_stack.specs.ImagePlan.{InCode, by_parent, parent_body, IsFunclet, JumpsTo, IsOfKind, IsRegion, AreRegions, AllFinally, AllExcept, IsFlagged, IsEntryOf, IsGiven, Gives, ImagePlan}
+pub use Rattle.match_stack.specs.ImagePlan.{InCode, by_parent, parent_body, IsFunclet, JumpsTo, IsOfKind, IsRegion, AreRegions, AllFinally, AllExcept, IsFlagged, IsEntryOf, HasEntries, IsGiven, Gives, ImagePlan}
 pub use Rattle.match_stack.specs.Stack.{FrameIsAt}
 pub use Rattle.match_bodies.specs.Callers.{FindsReturn, FindsOwed, Owed, owed_after, owed_by, owed_of, HasCaller}
 pub use Rattle.match_bodies.specs.CodeSites.{begin_of, making_size, code_of, links_of, entry_code, frame_code, parent_base, keep_base, keep_argument, function_arguments, funclet_arguments}
-pub use Rattle.match_bodies.specs.ProgramImages.{HasProgram, IsInImage, service_of, HasService, FindsCallers, FindsCallersOutside, frame_of, IsResumed, FramesAreWaiting, IsPlanned, LeavesAreWaiting, FuncletsBegin, HasAddresses, view_of, ReturnsThere, WorksAgain, SaysResumptions}
+pub use Rattle.match_bodies.specs.ProgramImages.{HasProgram, IsInImage, service_of, HasService, FindsCallers, FindsCallersOutside, frame_at_label, IsResumed, FramesAreWaiting, IsPlanned, LeavesAreWaiting, FuncletsBegin, HasAddresses, view_of, ReturnsThere, WorksAgain, SaysResumptions}
 pub use Rattle.frame_layout.specs.declared.frame.FrameLayout.{FrameLayout}
 pub use Rattle.x64_emit.specs.Linking.{address_or, thunk_of}
 pub use Rattle.x64_emit.specs.Near.{IsInstructionNear, IsNear}

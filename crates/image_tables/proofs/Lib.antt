@@ -28,3 +28,4 @@ pub mod Callers
 pub mod RegionRows
 pub mod RoutineRows
 pub mod Shape
+pub mod FrameSizes

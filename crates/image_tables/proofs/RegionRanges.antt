@@ -1,10 +1,13 @@
 -- Each region of a body is a range of its instructions.
 use Rattle.std.proofs.Common.{◌≡◌, ℕ, ◌+◌, ◌≤◌, List, [], ◌∷◌, ◌++◌, length, map, arith, length-append}
 use Rattle.std.specs.List.{AllByRecursion}
+use Rattle.std.proofs.lemmas.List.{length-replicate}
 use Rattle.image_tables.specs.Words.{Statements, Function, Instruction, Local, Temporary, LinearFunction, Names, Owner, statements_regions, finally_funclet, scope_of, lowered_function, IsRange, HasRanges, statements_notes, finally_scope, LoweredHasRegions}
+use Rattle.c_checked.specs.Program.{surplus, weight}
 use Rattle.linear_code.specs.declared.instruction.Instruction.TheVariants as instructions
 use Rattle.lowering_expressions.specs.declared.scope.LoweringContext.{LoweringContext}
 use Rattle.lowering_expressions.specs.Expressions.{constant}
+use Rattle.seh_ir.specs.Lowered.{first_separators}
 use Rattle.seh_ir.specs.Statements.{statements_code}
 use Rattle.seh_ir.proofs.StatementParts.{statements_have}
 use Rattle.seh_ir.proofs.EveryStatement.{WaysHave, any_neutral, IsPlaced, HoldsOfPieces, statements_every}
@@ -68,10 +71,12 @@ module _ (n : ℕ) where
 
 function_ranges : (f : Function) → HasRanges (lowered_function f).body
 function_ranges f =
-    let code = statements_code (scope_of f) f.body 1 in
+    let code = statements_code (scope_of f) f.body (weight f) in
     let last = constant 0 0 ∷ instructions.Return (Temporary 0) ∷ [] in
-    let l = length-append code last in
-    statements_range (length (lowered_function f).body.code) f.body (scope_of f) 1
+    let l = length-append (first_separators f ++ code) last in
+    let a = length-append (first_separators f) code in
+    let s = length-replicate (surplus f) instructions.Separator in
+    statements_range (length (lowered_function f).body.code) f.body (scope_of f) (weight f)
     (record { exit = tt; loop_end = tt; loop_next = tt; leave = tt }) (omega arith)
 
 finally_ranges : (owner : Owner) (names : Names) (last : Statements)

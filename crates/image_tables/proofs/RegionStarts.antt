@@ -1,9 +1,10 @@
 -- No region of a lowered program begins where the prologue of its routine ends: after it a function
--- has a separator, and a funclet keeps the base.
+-- has separators, and a funclet keeps the base.
 use Rattle.std.proofs.Common.{◌≡◌, ◌⊎◌, inl, inr, ℕ, zero, suc, ◌+◌, ◌<◌, ◌≤◌, Bool, true, false, List, [], ◌∷◌, ◌++◌, length, map, Option, Some, None, refl, arith}
 use Rattle.std.specs.Prelude.{not, ◌&&◌, ◌==◌}
 use Rattle.std.specs.List.{AllByRecursion}
 use Rattle.image_tables.specs.Words.{W32, Rax, Rcx, Entry, ScopeRecord, Statements, Function, Instruction, LinearFunclet, LinearProgram, Region, Local, FrameLayout, Layout, modrm, keep_register, move, keep, size, sizes, template_size, body_size, label_list, address_or, info_of, Nothing, statements_regions, scope_of, lowered, lowered_function, statements_notes, RoutineView, is_leaf, leaf_if, functions_from, funclet, routines, IsRoutineNear, SiteView, routine_size, entry_size, argument_code, base_of, scope_records, info_bytes, Placed, placed_from, site_of, infos_begin, entry_of, entry_if, routines_begin}
+use Rattle.c_checked.specs.Program.{weight}
 use Rattle.linear_code.specs.declared.program.FuncletKind.{FuncletKind}
 use Rattle.linear_code.specs.declared.program.FuncletKind.TheVariants as kinds
 use Rattle.lowering_expressions.specs.declared.scope.LoweringContext.{LoweringContext}
@@ -49,15 +50,15 @@ pieces_late = record {
   of_return = λ names m e exit at k h w c. tt;
 }
 
-statements_late : (ss : Statements) (scope : LoweringContext)
+statements_late : (ss : Statements) (scope : LoweringContext) (at : ℕ) → 1 ≤ at
     → WaysHave (λ label. 1 ≤ label) (λ label. Unit {0}) scope
-    → AllByRecursion IsLate (statements_regions ss 1)
-statements_late ss scope w =
+    → AllByRecursion IsLate (statements_regions ss at)
+statements_late ss scope at le w =
     statements_every (λ at xs rs. AllByRecursion IsLate rs) (λ at xs. 1 ≤ at) (λ xs. Unit {0})
     (λ label. 1 ≤ label) (λ label. Unit {0}) (λ names m. Unit {0}) (λ e. Unit {0}) (λ e. Unit {0})
-    (λ x. Unit {0}) any_neutral places_late (λ names m k le h. tt) pieces_late ss scope 1
+    (λ x. Unit {0}) any_neutral places_late (λ names m k le h. tt) pieces_late ss scope at
     (statements_notes ss) (omega arith) tt w (statements_have (λ e. Unit {0}) (λ e. Unit {0})
-    (λ x. Unit {0}) (λ e. tt) (λ e. tt) (λ x. tt) ss) (omega arith)
+    (λ x. Unit {0}) (λ e. tt) (λ e. tt) (λ x. tt) ss) le
 
 -- ---- routines
 
@@ -68,7 +69,7 @@ IsStarted r =
     ⊎ (0 < sizes (argument_code r.layout r.entry))
 
 function_late : (f : Function) → AllByRecursion IsLate (lowered_function f).body.regions
-function_late f = statements_late f.body (scope_of f)
+function_late f = statements_late f.body (scope_of f) (weight f) (omega arith)
     (record { exit = tt; loop_end = tt; loop_next = tt; leave = tt })
 
 function_started : (leaf : Bool) (f : Function) → IsStarted (leaf_if leaf (lowered_function f))

@@ -4,12 +4,12 @@ use Rattle.std.specs.Prelude.{◌&&◌, nat_lt}
 use Rattle.std.specs.List.{AllByRecursion}
 use Rattle.std.proofs.lemmas.Bool.{ne_eqb, eq-eqb, false≢true, cases_lt}
 use Rattle.std.proofs.lemmas.List.{length-map, get_or-map}
-use Rattle.image_tables.specs.Words.{Region, LinearFunction, LinearFunclet, LinearProgram, FitsProgram, RoutineView, functions_from, funclet, routines, IsFrameNear, IsRoutineNear, routine_size, bounds, thunk_at, CSpecificHandler, has_except, has_finally, trailer, site_of, infos_begin, entry_of, entries, AreDifferent, rows_of, regions, named, funclet_begin, AreRows, nothing, funclet_frame, trailer_flags, routines_begin}
+use Rattle.image_tables.specs.Words.{Region, LinearFunction, LinearFunclet, LinearProgram, FitsProgram, RoutineView, functions_from, funclet, routines, IsRoutineNear, routine_size, bounds, thunk_at, CSpecificHandler, has_except, has_finally, trailer, site_of, infos_begin, entry_of, entries, AreDifferent, rows_of, regions, named, funclet_begin, AreRows, nothing, funclet_frame, trailer_flags, routines_begin}
 use Rattle.linear_code.specs.declared.program.FuncletKind.TheVariants.{Filter}
 use Rattle.image_tables.proofs.Lemmas.{no_routine, routines_near, all_at}
-use Rattle.image_tables.proofs.Lookups.{placed_has, entries_are_held}
+use Rattle.image_tables.proofs.Lookups.{entries_are_held}
 use Rattle.image_tables.proofs.Table.{framed_room}
-use Rattle.image_tables.specs.ShapeLaws.{BeginsEntry, HasShape, TablesHaveShape, HandlersDiffer, EntriesAreFlagged, FramesAreSmall}
+use Rattle.image_tables.specs.ShapeLaws.{BeginsEntry, HasShape, TablesHaveShape, HandlersDiffer, EntriesAreFlagged}
 use Rattle.image_tables.proofs.RegionRows.{as_many, finally_count, always_count, handlers_are, searched_by, unwound_by}
 use Rattle.image_tables.proofs.RoutineRows.{AreFar, routines_bare, routines_regions, all_rows, in_order, bounds_rise, is_placed}
 
@@ -180,13 +180,3 @@ entries_are_flagged s x f =
       searched = searched_of h x.routine.body.regions;
       unwound = unwound_of h x.routine.body.regions;
     }
-
--- ---- frames
-
-pub frames_are_small : FramesAreSmall
-frames_are_small p index x f fits e framed =
-    let near = placed_has IsRoutineNear (site_of p) (infos_begin p) (routines_begin p) (routines p)
-    index x (routines_near p fits) e in
-    let size = subst IsFrameNear framed near.frame in
-    let most = size.1 in
-    omega arith

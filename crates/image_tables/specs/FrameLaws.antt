@@ -20,6 +20,7 @@ use Rattle.host_layout.specs.declared.imported.ImportedService.{ImportedService}
 use Rattle.pe_write.specs.Program.{image_of}
 use Rattle.linear_code.specs.Program.{LinearProgram}
 use Rattle.frame_layout.specs.declared.frame.FrameLayout.{FrameLayout}
+use Rattle.x64_emit.specs.declared.entry.TheConstants.{CHECK_STACK_SIZE}
 use Rattle.image_link.specs.Fits.{FitsProgram}
 use Rattle.image_link.specs.Linked.{text_begin, linked}
 use Rattle.image_tables.specs.RoutinePlaces.{Placed, end_of, site_of, placed, thunk_begin, probe_begin}
@@ -160,5 +161,5 @@ ThunksAreFound =
 abbrev pub ProbesAreFound : Type 0
 ProbesAreFound =
     (p : LinearProgram) (e s : State) → FitsProgram p → HasRegions p
-    → IsInRange e s probe (probe_begin p) (probe_begin p + 21)
+    → IsInRange e s probe (probe_begin p) (probe_begin p + CHECK_STACK_SIZE)
     → FindsCaller p e s

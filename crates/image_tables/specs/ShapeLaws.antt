@@ -1,17 +1,18 @@
 -- What the function table of every program is like.
-use Rattle.std.specs.Prelude.{◌≡◌, ℕ, ◌+◌, ◌<◌, ◌≤◌, length, map, slice_get, Some}
+use Rattle.std.specs.Prelude.{◌≡◌, ℕ, ◌+◌, ◌*◌, ◌<◌, ◌≤◌, length, map, slice_get, Some}
 use Rattle.std.specs.List.{count_by}
 use Rattle.eh_tables.specs.Tables.{Entry, holding}
 use Rattle.seh_walk.specs.Asked.{is_searched, is_unwound}
-use Rattle.linear_code.specs.Program.{LinearProgram}
+use Rattle.linear_code.specs.Program.{LinearProgram, weight}
 use Rattle.frame_layout.specs.declared.frame.FrameLayout.{FrameLayout}
 use Rattle.image_link.specs.Fits.{FitsProgram}
+use Rattle.image_link.specs.Routines.{function_of_index}
 use Rattle.image_link.specs.Tables.{is_finally, has_except, has_finally}
 use Rattle.image_link.specs.Text.{SiteView}
 use Rattle.image_tables.specs.RoutinePlaces.{Placed, placed}
 use Rattle.image_tables.specs.Entries.{entry_of, entries}
 use Rattle.image_tables.specs.RegionRows.{AreDifferent, rows_of, is_finally_row, is_always_row, handlers, AreInOrder, regions, is_always, named, NamesFunclets, funclet_begin, AreRows}
-use Rattle.template_code.specs.declared.layout.TheConstants.{LARGEST_FRAME}
+use Rattle.template_code.specs.declared.layout.TheConstants.{FRAME_BY_WEIGHT}
 
 -- ---- its shape
 
@@ -55,8 +56,13 @@ EntriesAreFlagged = (s : SiteView) (x : Placed) (f : FrameLayout) → IsFlagged 
 
 -- ---- frames
 
--- none takes more than the largest frame, its return address counted
+-- what the routine of an index weighs: a function its weight, and a funclet 1
+abbrev pub weight_at : LinearProgram → ℕ → ℕ
+weight_at p index = weight (function_of_index p index)
+
+-- none takes more than the largest frame of its weight, its return address counted
 abbrev pub FramesAreSmall : Type 0
 FramesAreSmall =
     (p : LinearProgram) (index : ℕ) (x : Placed) (f : FrameLayout) → FitsProgram p
-    → slice_get (placed p) index ≡ Some x → x.routine.frame ≡ Some f → f.depth + 8 ≤ LARGEST_FRAME
+    → slice_get (placed p) index ≡ Some x → x.routine.frame ≡ Some f
+    → f.depth + 8 ≤ FRAME_BY_WEIGHT * weight_at p index

@@ -2,7 +2,7 @@
 //! of each of its frames (Microsoft x64 ABI, "Prolog and epilog").
 //!
 //! Proved: the table is read again as the entries of the program's routines (`table_laws`); it has
-//! one scope record for each region, in order, and no frame larger than `LARGEST_FRAME`
+//! one scope record for each region, in order, and no frame larger than its weight allows
 //! (`shape_laws`); of a checked program it has one row for each `__try` (`region_laws`); callers
 //! are found at every instruction boundary of functions, funclets, thunks, leaf functions and
 //! `__chkstk` (`frame_laws`). Begin with `specs/Entries.antt`.

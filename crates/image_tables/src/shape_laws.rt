@@ -15,7 +15,8 @@ pub fn flags()
     ensures { EntriesAreFlagged }
 {}
 
-/// No frame takes more than `LARGEST_FRAME`.
+/// No frame of a function takes more than `FRAME_BY_WEIGHT` for each 1 that the function weighs, and
+/// none of a filter or a `__finally` block more than that.
 pub fn sizes()
     ensures { FramesAreSmall }
 {}

@@ -1,5 +1,5 @@
 -- Linear code of programs, wherever it lies in memory.
-use Rattle.std.specs.Prelude.{ℕ, List, map, Option}
+use Rattle.std.specs.Prelude.{ℕ, ◌+◌, List, map, Option}
 use Rattle.linear_code.specs.declared.instruction.Instruction.{Instruction}
 use Rattle.linear_code.specs.declared.program.Region.{Region}
 use Rattle.linear_code.specs.declared.program.FuncletKind.{FuncletKind}
@@ -20,7 +20,13 @@ pub record LinearFunction : Type 0 where
   pub parameters : ℕ
   -- the locals that may stand in registers
   pub registers : List ℕ
+  -- how much an activation of it counts in the depth, above 1
+  pub surplus : ℕ
   pub body : LinearBody
+
+-- how much an activation counts in the depth, and how many parts its frame may have
+abbrev pub weight : LinearFunction → ℕ
+weight f = 1 + f.surplus
 
 pub record LinearFunclet : Type 0 where
   pub kind : FuncletKind
@@ -52,6 +58,7 @@ linear_function f =
       name = f.name.items;
       parameters = f.parameters;
       registers = f.registers.items;
+      surplus = f.surplus;
       body = linear_body f.body;
     }
 

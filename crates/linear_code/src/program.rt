@@ -52,6 +52,9 @@ pub struct IrFunction {
     /// The numbers of the locals that may stand in registers, rising: those that no filter and no
     /// `__finally` block of it names.
     pub registers: ArrayVec<u64, 7>,
+    /// How much an activation of it counts in the depth, above 1 (own). Its code begins with a
+    /// separator, and with as many more.
+    pub surplus: u64,
     /// Its code.
     pub body: IrBody,
 }

@@ -5,7 +5,7 @@ use Rattle.flat_memory.specs.Memory.{Memory}
 use Rattle.linear_code.specs.declared.slot.Slot.{Slot}
 use Rattle.linear_code.specs.declared.slot.Slot.TheVariants.{Local, Temporary}
 use Rattle.linear_code.specs.declared.program.Region.{Region}
-use Rattle.linear_code.specs.Program.{LinearProgram, LinearBody, LinearFunction, LinearFunclet}
+use Rattle.linear_code.specs.Program.{LinearProgram, LinearBody, LinearFunction, LinearFunclet, weight}
 use Rattle.source_meaning.specs.declared.ended.Ended.{Ended}
 use Rattle.source_meaning.specs.declared.ended.Ended.TheVariants.{Deep}
 use Rattle.source_meaning.specs.State.{Exception}
@@ -22,6 +22,11 @@ pub data BodyName : Type 0 where
 abbrev pub function_body : Option LinearFunction → Option LinearBody
 function_body None = None
 function_body (Some f) = Some f.body
+
+-- the weight of a function, if there is one
+abbrev pub weight_of : Option LinearFunction → ℕ
+weight_of None = 1
+weight_of (Some f) = weight f
 
 -- the body of a funclet, if there is one
 abbrev pub funclet_body : Option LinearFunclet → Option LinearBody

@@ -1,5 +1,5 @@
 -- What each instruction does.
-use Rattle.std.specs.Prelude.{ℕ, ◌-◌, Bool, true, false, nat_eq, List, [], ◌∷◌, ◌++◌, length, take, get_or, replicate, slice_get, Option, Some, None}
+use Rattle.std.specs.Prelude.{ℕ, ◌+◌, ◌-◌, Bool, true, false, nat_eq, List, [], ◌∷◌, ◌++◌, length, take, get_or, replicate, slice_get, Option, Some, None}
 use Rattle.std.specs.Prelude.{is_some}
 use Rattle.seh_num.specs.declared.width.Width.TheVariants.{W32, W64}
 use Rattle.seh_num.specs.declared.event.Event.{Event}
@@ -18,7 +18,7 @@ use Rattle.linear_code.specs.declared.instruction.Instruction.{Instruction}
 use Rattle.linear_code.specs.declared.instruction.Instruction.TheVariants as instructions
 use Rattle.linear_code.specs.declared.program.FuncletKind.{FuncletKind}
 use Rattle.linear_code.specs.declared.program.FuncletKind.TheVariants.{Filter, Finally}
-use Rattle.linear_code.specs.Program.{LinearProgram, LinearFunction}
+use Rattle.linear_code.specs.Program.{LinearProgram, LinearFunction, weight}
 use Rattle.source_meaning.specs.declared.ended.Ended.TheVariants as ends
 use Rattle.source_meaning.specs.Source.{is_reserved}
 use Rattle.source_meaning.specs.State.{walk_events}
@@ -77,7 +77,8 @@ jump_if_zero next slot label c =
 abbrev pub waiting : Configuration → ℕ → Configuration
 waiting c first = with_last (take first c.frame.temporaries) c
 
--- a function begins: its arguments are its first locals, and the others are 0
+-- a function begins: its arguments are its first locals, and the others are 0; what it weighs above
+-- 1 is held until it ends
 abbrev pub begin_function : ℕ → LinearFunction → List ℕ → ℕ → List Item → Store → List Event
     → Configuration
 begin_function f function arguments held below store es = record {
@@ -87,7 +88,7 @@ begin_function f function arguments held below store es = record {
         next = 0;
         activation = length store.activations;
         exception = no_exception;
-        held = held;
+        held = held + function.surplus;
         temporaries = [];
         landed = None;
       };
@@ -105,7 +106,7 @@ abbrev pub call : LinearProgram → Next → ℕ → ℕ → ℕ → Configurati
 call program next f first count c =
     with_some c.events (last_temporaries c.frame.temporaries first count) (λ arguments.
     with_some c.events (slice_get program.functions f) (λ function.
-    deeper 1 c.frame.held c.store c.events
+    deeper (weight function) c.frame.held c.store c.events
     (next (begin_function f function arguments c.frame.held
     (Waits (waiting c first).frame ∷ c.below) c.store c.events))))
 

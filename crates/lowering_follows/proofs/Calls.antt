@@ -5,6 +5,7 @@ use Rattle.std.proofs.lemmas.List.{length_push, take_at, drop_at}
 use Rattle.std.specs.Prelude.{Bool, take, nat_eq, get_or, slice_get, if◌then◌else◌, Some, None}
 use Rattle.std.specs.Prelude.{is_some, reverse}
 use Rattle.lowering_follows.specs.Words.{W64, W32, Arguments, Done, Program, Function, State, Value, Outcome, Gives, Exception, set_memory, emit, and_then, Context, Raise, of_test, enter, raised, each, call_built_in, within, Instruction, LinearProgram, LinearFunction, Store, Seen, Waits, deeper, with_some, AfterCall, last_temporaries, exec, Names, expression_size, arguments_size, expression_code, node_code, argument_count, arguments_code, NodeFits, ArgumentsFit, expression_weight, node_weight, arguments_weight, HasAt, signed, BuiltIn, Put, Protect, RaiseException, Walk, raise, count_of, begin_function, waiting, built_in, protected, rights_asked, Call, CallBuiltIn, Next}
+use Rattle.linear_code.specs.Program.{weight}
 use Rattle.c_checked.specs.Expression as nodes
 use Rattle.lowering_follows.proofs.Lemmas.{Part, Site, conf, price, joins, frame_of, more, then_plain, fetch, first, stepped, prefix_self}
 use Rattle.lowering_follows.proofs.Stores.{Shape}
@@ -112,14 +113,14 @@ module _ (program : Program) (linear : LinearProgram) (rate body : ℕ)
         (store : Store) (k : ℕ) → At pc (Call f (length temps) count ∷ []) → length vs ≡ count
         → slice_get linear.functions f ≡ Some lf
         → exec linear (suc k) (conf context site pc (temps ++ vs) st store)
-        ≡ deeper 1 site.held store st.events (exec linear k
+        ≡ deeper (weight lf) site.held store st.events (exec linear k
         (begin_function f lf vs site.held (Waits (frame_of context site pc temps) ∷ site.below)
         store st.events))
     unfolding with_some
     call_turn f count pc temps vs lf st store k has len there =
         let d = length temps in
         let begins : List ℕ → List ℕ → LinearFunction
-        → Seen = λ ts vs lf. deeper 1 site.held store st.events
+        → Seen = λ ts vs lf. deeper (weight lf) site.held store st.events
         (exec linear k (begin_function f lf vs site.held
         (Waits (frame_of context site pc ts) ∷ site.below) store st.events)) in
         fetch linear rate (conf context site pc (temps ++ vs) st store) (Call f d count) k has.0
@@ -137,7 +138,7 @@ module _ (program : Program) (linear : LinearProgram) (rate body : ℕ)
     called_runs f fn count pc temps vs st store x o there len same steps light le has kept held =
         let lf = functions_at f fn there in
         first linear rate (conf context site pc (temps ++ vs) st store)
-        (λ next. deeper 1 site.held store st.events
+        (λ next. deeper (weight lf.0) site.held store st.events
         (next (begin_function f lf.0 vs site.held
         (Waits (frame_of context site pc temps) ∷ site.below) store st.events))) st st
         (price 3 0 body body) (price 13 x o o)

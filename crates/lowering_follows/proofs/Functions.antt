@@ -3,7 +3,9 @@ use Rattle.std.proofs.Common.{◌≡◌, ◌<◌, ◌≤◌, ℕ, zero, suc, ◌
 use Rattle.std.proofs.lemmas.List.{length-replicate}
 use Rattle.std.proofs.lemmas.Option.{slice_get_within}
 use Rattle.std.specs.Prelude.{◌-◌, Bool, false, take, replicate, get_or, slice_get, Option, Some, None}
-use Rattle.lowering_follows.specs.Words.{Filter, Always, Funclet, Program, Function, State, Value, Normal, Returned, Target, Outcome, Gives, Context, Handler, no_exception, all, ended_call, enter, within, Temporary, LinearProgram, LinearFunction, FunctionBody, Item, Waits, Store, with_some, deeper, regions_at, handlers_in, handlers, target_past, unwind, target_of, begin_function, exec, Names, LoweringContext, Nowhere, Jumps, statements_size, statements_notes, constant, own_locals, scope_of, statements_weight, HasAt, FunctionPlaced, with_activation, with_outermost, let_go_surplus}
+use Rattle.lowering_follows.specs.Words.{Filter, Always, Funclet, Program, Function, State, Value, Normal, Returned, Target, Outcome, Gives, Context, Handler, no_exception, all, ended_call, enter, within, Temporary, LinearProgram, LinearFunction, FunctionBody, Item, Waits, Store, with_some, deeper, regions_at, handlers_in, handlers, target_past, unwind, target_of, begin_function, exec, Names, LoweringContext, Nowhere, Jumps, statements_size, statements_notes, constant, own_locals, scope_of, statements_weight, HasAt, FunctionPlaced, with_activation, with_outermost, hold_surplus, let_go_surplus, count_steps, surplus}
+use Rattle.linear_code.specs.Program.{weight}
+use Rattle.source_meaning.specs.State.{counting}
 use Rattle.linear_code.specs.declared.instruction.Instruction.TheVariants as instructions
 use Rattle.linear_machine.specs.Frames as machine
 use Rattle.lowering_follows.proofs.Lemmas.{Part, at, Site, frame_of, conf, Picked, Ways, price, found, Reaches, Claim, value_ways, more, attains_out, reaches_after, reaches_more, stepped, first, fetch, sooner, deep_claim, prefix_self, handlers_below, leaves}
@@ -15,7 +17,7 @@ use Rattle.lowering_follows.proofs.TaskClaims.{pushed, Within, Around}
 use Rattle.lowering_follows.proofs.Raises.{unwound_is}
 use Rattle.lowering_follows.proofs.BodyClaims.{statement_ways, Stays, Surroundings, BodyRuns}
 use Rattle.lowering_follows.proofs.BodySequences.{all_runs}
-use Rattle.lowering_follows.proofs.LightFunctions.{enters_light, light_activation}
+use Rattle.lowering_follows.proofs.Beginnings.{separators_claim}
 
 -- ---- the locals of an activation that begins
 
@@ -108,8 +110,9 @@ module _ (program : Program) (linear : LinearProgram) (rate body : ℕ) where
 
   module _ (k : ℕ) (lf : LinearFunction) (scope : LoweringContext) (new : Shape)
       (shapes : List Shape) (context : Context) (site : Site) (base : Store) (pc : ℕ)
-      (temps : List ℕ) (m : ℕ) (store : Store) (locals : List ℕ)
-      (same_m : m ≡ length shapes) (same : length store.activations ≡ length shapes)
+      (temps : List ℕ) (m extra : ℕ) (store : Store) (locals : List ℕ)
+      (same_extra : lf.surplus ≡ extra) (same_m : m ≡ length shapes)
+      (same : length store.activations ≡ length shapes)
       (walked : regions_at linear site.body pc ≡ site.regions)
       (kept : NotesKept everywhere shapes base store) where
     abbrev callee : Context
@@ -126,7 +129,7 @@ module _ (program : Program) (linear : LinearProgram) (rate body : ℕ) where
       regions = [];
       below = Waits (frame_of context site pc temps) ∷ site.below;
       exception = no_exception;
-      held = site.held;
+      held = site.held + lf.surplus;
     }
 
     abbrev base' : Store
@@ -136,7 +139,7 @@ module _ (program : Program) (linear : LinearProgram) (rate body : ℕ) where
     left s = record s { activations = take m s.activations }
 
     abbrev ended : State → State
-    ended st = with_outermost m (let_go_surplus 0 st)
+    ended st = with_outermost m (let_go_surplus extra st)
 
     abbrev Kc : Kept
     Kc = Stays program linear rate body scope.names (shapes ++ new ∷ []) callee base'
@@ -195,7 +198,7 @@ module _ (program : Program) (linear : LinearProgram) (rate body : ℕ) where
         }) callee csite Kc done) o
         → Claim linear rate s st (price 2 0 x x)
         (value_ways (pushed context site (pc + 1) temps)
-        (Within program linear rate body shapes base) context site) (ended_call m 0 o)
+        (Within program linear rate body shapes base) context site) (ended_call m extra o)
     unfolding ended_call
     function_ends s st x done (Gives (Value v) mid) e has l1 l2 l3 label l4 a = absurd a
     function_ends s st x done (Gives Normal mid) e has l1 l2 l3 label l4 a =
@@ -204,7 +207,7 @@ module _ (program : Program) (linear : LinearProgram) (rate body : ℕ) where
         record {
           store = left a.store;
           fits = call_fits e mid a.store a.fits;
-          same = omega (arith, a.same);
+          same = omega (arith, a.same, same_extra);
           reaches = reaches_after linear rate s (at c0)
               (pushed context site (pc + 1) temps 0 (ended mid) (left a.store)) st mid (ended mid) 0
               0
@@ -224,7 +227,7 @@ module _ (program : Program) (linear : LinearProgram) (rate body : ℕ) where
     function_ends s st x done (Gives (Returned v) mid) e has l1 l2 l3 label l4 a = record {
       store = left a.1.store;
       fits = call_fits e mid a.1.store a.1.fits;
-      same = omega (arith, a.1.same);
+      same = omega (arith, a.1.same, same_extra);
       reaches = reaches_more linear rate s (pushed context site (pc + 1) temps v (ended mid)
           (left a.1.store)) st (ended mid) 0 0 x 2 0 x (omega arith) (omega arith)
           (ended_reaches s (pushed context site (pc + 1) temps v (ended mid) (left a.1.store)) st
@@ -286,7 +289,7 @@ module _ (program : Program) (linear : LinearProgram) (rate body : ℕ) where
       → length vs ≡ length fn.parameters → regions_at linear site.body pc ≡ site.regions
       → Around program linear rate body names info z shapes context site base
       → Within program linear rate body shapes base st store → st.held ≡ site.held
-      → Claim linear rate (λ next. deeper 1 site.held store st.events
+      → Claim linear rate (λ next. deeper (weight lf) site.held store st.events
       (next (begin_function k lf vs site.held
       (Waits (frame_of context site pc temps) ∷ site.below) store st.events))) st
       (price 3 0 body body)
@@ -296,6 +299,7 @@ module _ (program : Program) (linear : LinearProgram) (rate body : ℕ) where
       walked around kept held =
       let w : Ways = value_ways (pushed context site (pc + 1) temps)
       (Within program linear rate body shapes base) context site in
+      let s = surplus fn in
       let x = statements_weight fn.body in
       let m = length st.frames in
       let scope = scope_of fn in
@@ -304,7 +308,8 @@ module _ (program : Program) (linear : LinearProgram) (rate body : ℕ) where
       let given = vs ++ replicate (length fn.locals) 0 in
       let locals = vs ++ replicate (lf.body.locals - lf.parameters) 0 in
       let store' : Store = record store { activations = store.activations ++ locals ∷ [] } in
-      let st' : State = with_activation k given st in
+      let counted : State = count_steps s st in
+      let st' : State = with_activation k given (hold_surplus s counted) in
       let inner : Context = record {
         handlers = context.handlers;
         activation = m;
@@ -317,7 +322,7 @@ module _ (program : Program) (linear : LinearProgram) (rate body : ℕ) where
         regions = [];
         below = below;
         exception = no_exception;
-        held = site.held;
+        held = site.held + lf.surplus;
       } in
       let begins = begin_function k lf vs site.held below store st.events in
       let deep : length store.activations ≡ m = kept.0.activations ∙ sym kept.0.count in
@@ -327,7 +332,7 @@ module _ (program : Program) (linear : LinearProgram) (rate body : ℕ) where
           next = 0;
           activation = a;
           exception = no_exception;
-          held = site.held;
+          held = site.held + lf.surplus;
           temporaries = [];
           landed = None;
         };
@@ -367,36 +372,50 @@ module _ (program : Program) (linear : LinearProgram) (rate body : ℕ) where
         room = omega (arith, f.locals);
         plain = λ e. absurd (cc);
       } in
-      subst (λ o. Claim linear rate (λ next. deeper 1 site.held store st.events (next begins)) st
-      (price 3 0 body body) w o)
-      (sym (enters_light (within program n) k fn vs context f.no_surplus st))
-      (deep_claim linear rate 1 site.held store (at begins) st (price 3 0 body body) w
-      (light_activation (within program n) k fn vs context) deep held
-      (subst (λ c. Claim linear rate (at c) st (price 3 0 body body) w
-      (ended_call m 0 (all (within program n) fn.body inner st'))) here
-      (let light = f.light in
+      let activation : State → Outcome = λ st. ended_call (length st.frames) s
+      (all (within program n) fn.body (record {
+        handlers = context.handlers;
+        activation = length st.frames;
+        exception = no_exception;
+        abnormal = false;
+      }) (with_activation k given (hold_surplus s st))) in
+      let light = f.light in
       let quick = f.quick in
-      more linear rate (at (conf inner csite 0 [] st' store')) st (price 3 0 x x)
-      (price 3 0 body body) w (ended_call m 0 (all (within program n) fn.body inner st'))
-      (omega arith, omega arith, omega arith)
-      (sooner linear rate (at (conf inner csite 0 [] st' store')) st st' (price 3 0 x x) w
-      (ended_call m 0 (all (within program n) fn.body inner st')) refl
-      (prefix_self st.events)
-      (first linear rate (conf inner csite 0 [] st' store')
-      (at (conf inner csite 1 [] st' store')) st' st' (price 2 0 x x) (price 3 0 x x) w
-      (ended_call m 0 (all (within program n) fn.body inner st'))
-      (omega arith, omega arith, omega arith) refl refl (prefix_self st.events)
-      (λ j. fetch linear rate (conf inner csite 0 [] st' store') instructions.Separator j
-      f.starts.0)
-      (function_ends k lf scope new shapes context site base pc temps m store locals kept.0.count
-      kept.0.activations walked kept.1 (at (conf inner csite 1 [] st' store')) st' x
-      (1 + statements_size fn.body) (all (within program n) fn.body inner st') refl
-      f.ends refl refl refl (1 + statements_size fn.body + 1) refl
-      (all_runs program linear rate body n bih scope new shapes' inner csite store' fn.body 1 st'
-      store' steps quick f.placed
+      let done = 1 + s + statements_size fn.body in
+      let body_done : Claim linear rate (at (conf inner csite (1 + s) [] st' store')) st'
+      (price 2 0 x x) w (ended_call m s (all (within program n) fn.body inner st')) =
+      function_ends k lf scope new shapes context site base pc temps m s store locals f.weighs
+      kept.0.count kept.0.activations walked kept.1 (at (conf inner csite (1 + s) [] st' store'))
+      st' x done (all (within program n) fn.body inner st') refl f.ends refl refl refl (done + 1)
+      refl
+      (all_runs program linear rate body n bih scope new shapes' inner csite store' fn.body (1 + s)
+      st' store' (omega arith) quick f.placed
       (record { around = tt; exit = (omega arith, tt, f.ends.2.0); loop_end = tt; loop_next = tt })
       standing (
         push_alike shapes st.memory st.frames store new given locals alike kept.0,
         kept_itself (below_slot m (own_locals fn)) shapes' store',
         push_functions shapes new st.functions kept.2,
-      ) held)))))))
+      ) (omega (arith, held, f.weighs))) in
+      let counts : Claim linear rate (at (conf inner csite 1 [] st store')) st
+      (price 2 0 body body) w (counting s st activation) =
+      separators_claim linear rate (omega arith) inner csite store' 2 body w s 1 st activation
+      f.starts.2 (omega arith)
+      (more linear rate (at (conf inner csite (1 + s) [] counted store')) counted (price 2 0 x x)
+      (price 2 0 body body) w (activation counted) (omega arith, omega arith, omega arith)
+      (sooner linear rate (at (conf inner csite (1 + s) [] counted store')) counted st'
+      (price 2 0 x x) w (activation counted) refl (prefix_self st.events) body_done)) in
+      let all_of_it : Claim linear rate (at (conf inner csite 0 [] st store')) st
+      (price 3 0 body body) w (counting s st activation) =
+      first linear rate (conf inner csite 0 [] st store') (at (conf inner csite 1 [] st store')) st
+      st (price 2 0 body body) (price 3 0 body body) w (counting s st activation)
+      (omega arith, omega arith, omega arith) refl refl (prefix_self st.events)
+      (λ j. fetch linear rate (conf inner csite 0 [] st store') instructions.Separator j
+      f.starts.0) counts in
+      subst (λ extra. Claim linear rate (λ next. deeper (1 + extra) site.held store st.events
+      (next begins)) st (price 3 0 body body) w
+      (enter (within program n) k (Some fn) vs context st))
+      (sym f.weighs)
+      (deep_claim linear rate (1 + s) site.held store (at begins) st (price 3 0 body body) w
+      (λ st. counting s st activation) deep held
+      (subst (λ c. Claim linear rate (at c) st (price 3 0 body body) w (counting s st activation))
+      here all_of_it))

@@ -10,7 +10,7 @@ pub mod FinallyEnds
 pub mod BodySteps
 pub mod BodyStatements
 pub mod BodyNext
-pub mod LightFunctions
+pub mod Beginnings
 pub mod Functions
 pub mod AllClaims
 pub mod WholeProgram

@@ -1,8 +1,14 @@
 -- The linear code of a sound program is linked, and follows the program.
-use Rattle.std.proofs.Common.{◌≡◌, ℕ, inl, inr, zero, suc, ◌+◌, ◌≤◌, List, [], ◌∷◌, length, refl, ap, subst, ◌∙◌, arith, length-append}
+use Rattle.std.proofs.Common.{◌≡◌, ℕ, inl, inr, zero, suc, ◌+◌, ◌≤◌, List, [], ◌∷◌, ◌++◌, length, refl, ap, subst, ◌∙◌, arith, length-append}
+use Rattle.std.proofs.lemmas.Bool.{leb-true}
+use Rattle.std.proofs.lemmas.List.{length-replicate}
 use Rattle.std.proofs.lemmas.Option.{slice_get-map}
 use Rattle.std.specs.Prelude.{true, ◌||◌, slice_get, option_map, Option, Some, None}
-use Rattle.lowering_follows.specs.Words.{Size, Int, Long, Program, Function, are_sizes, funclets, count_up, function_sound, some_sizes, functions_sound, main_sound, Temporary, FunctionBody, body_of, function_body, Owner, statements_size, constant, statements_code, statements_regions, statements_funclets, own_locals, scope_of, all_locals, lowered_function, lowered_funclets, all_funclets, lowered, FunctionPlaced, statements_weight}
+use Rattle.lowering_follows.specs.Words.{Size, Int, Long, Program, Function, are_sizes, funclets, count_up, function_sound, some_sizes, functions_sound, main_sound, Temporary, FunctionBody, body_of, function_body, Owner, statements_size, constant, statements_code, statements_regions, statements_funclets, own_locals, scope_of, all_locals, lowered_function, lowered_funclets, all_funclets, lowered, FunctionPlaced, statements_weight, Instruction, surplus}
+use Rattle.seh_num.specs.declared.limit.TheConstants.{MOST_LOCALS}
+use Rattle.c_checked.specs.Program.{weight}
+use Rattle.source_meaning.specs.declared.depth.TheConstants.{DEEPEST}
+use Rattle.seh_ir.specs.Lowered.{first_separators}
 use Rattle.c_checked.specs.Sound as sound
 use Rattle.linear_code.specs.declared.instruction.Instruction.TheVariants as instructions
 use Rattle.lowering_follows.proofs.Lemmas.{statements_length, statements_count}
@@ -14,7 +20,6 @@ use Rattle.lowering_follows.proofs.Segments.{IsSegmentAt, front, back, whole_is_
 use Rattle.lowering_follows.proofs.FuncletNumbers.{count_front, count_back}
 use Rattle.lowering_follows.proofs.Regions.{all_outside}
 use Rattle.lowering_follows.proofs.StatementPlaces.{Alike, code_is_at, place_all}
-use Rattle.lowering_follows.proofs.LightFunctions.{sound_is_light}
 use Rattle.lowering_follows.proofs.RegionCovers.{whole_cover, bare}
 use Rattle.lowering_follows.proofs.SoundStatements.{inside_function, knows_function}
 
@@ -41,7 +46,7 @@ module _ (program : Program) where
     owner : Owner
     begin : ℕ
     sound : function_sound program.functions fn ≡ true
-    light : statements_weight fn.body ≤ weight_of program.functions
+    light : surplus fn + statements_weight fn.body ≤ weight_of program.functions
     is_there : IsSegmentAt (lowered program).funclets begin
         (statements_funclets owner (scope_of fn).names fn.body)
     numbered : count_up (begin + 1) (funclets fn.body) ≡ true
@@ -100,36 +105,51 @@ module _ (program : Program) where
       let quick : most + most + 4 ≤ rate = omega arith in
       let lb = (lowered_function fn).body in
       let home : body_of linear (FunctionBody k) ≡ Some lb = ap function_body there in
-      let code = statements_code (scope_of fn) fn.body 1 in
+      let begin = weight fn in
+      let starts = first_separators fn in
+      let code = statements_code (scope_of fn) fn.body begin in
       let ends = constant 0 0 ∷ instructions.Return (Temporary 0) ∷ [] in
-      let l = statements_length (scope_of fn) fn.body 1 in
-      let wide = length-append code ends in
+      let n = length-replicate {A = Instruction} (surplus fn) instructions.Separator in
+      let l = statements_length (scope_of fn) fn.body begin in
+      let long = length-append starts code in
+      let longer = length-append (starts ++ code) ends in
       let whole = whole_is_at lb.code in
+      let before_ends = front lb.code 0 (starts ++ code) ends whole in
       let cover = whole_cover linear (FunctionBody k) lb home 0
       (length lb.code) in
       record {
         parameters = refl;
         locals = refl;
+        weighs = refl;
         starts = code_is_at program linear rate most (own_locals fn) (FunctionBody k) lb home [] 0
-            (instructions.Separator ∷ []) (whole.0, tt)
+            starts (front lb.code 0 starts code before_ends)
             (λ q lo hi. bare linear (FunctionBody k) []
-            (statements_regions fn.body 1) q (all_outside fn.body 1 q (inl (omega arith)))
+            (statements_regions fn.body begin) q (all_outside fn.body begin q (inl (omega arith)))
             (cover q lo (omega arith)));
         placed = place_all program linear rate most (own_locals fn) quick fn.body (FunctionBody k)
-            lb home (inside_function program fn) (scope_of fn) (whole_alike fn) g.owner [] 1 g.begin
-            (both_left _ _ (both_left _ _ g.sound)) light
-            (front lb.code 1 code ends whole.1) (λ q lo hi. cover q (omega arith) (omega arith))
+            lb home (inside_function program fn) (scope_of fn) (whole_alike fn) g.owner [] begin
+            g.begin (both_left _ _ (both_left _ _ g.sound)) (omega arith)
+            (back lb.code 0 begin starts code (omega arith) before_ends)
+            (λ q lo hi. cover q (omega arith) (omega arith))
             g.is_there g.numbered;
         ends = code_is_at program linear rate most (own_locals fn) (FunctionBody k) lb home []
-            (1 + statements_size fn.body) ends (back lb.code 1 (1 + statements_size fn.body) code
-            ends (omega arith) whole.1)
+            (begin + statements_size fn.body) ends (back lb.code 0
+            (begin + statements_size fn.body) (starts ++ code) ends (omega arith) whole)
             (λ q lo hi. bare linear (FunctionBody k) []
-            (statements_regions fn.body 1) q (all_outside fn.body 1 q (inr (omega arith)))
+            (statements_regions fn.body begin) q (all_outside fn.body begin q (inr (omega arith)))
             (cover q (omega arith) (omega arith)));
         light = light;
         quick = omega arith;
-        no_surplus = sound_is_light program.functions fn g.sound;
       }
+
+-- the limit of locals keeps weights small
+few_locals : (f : Function) → length f.locals ≤ MOST_LOCALS → weight f ≤ DEEPEST
+few_locals f few = omega arith
+
+sound_is_shallow : (functions : List Function) (f : Function) → function_sound functions f ≡ true
+    → weight f ≤ DEEPEST
+sound_is_shallow functions f h =
+    few_locals f (leb-true (length f.locals) MOST_LOCALS (both_right _ _ h))
 
 pub lowered_is_linked : LoweredIsLinked
 lowered_is_linked program h =
@@ -152,6 +172,9 @@ lowered_is_linked program h =
       begins = begin.0;
       is_main = begin.1;
       few = begin.2;
+      shallow = sound_is_shallow program.functions begin.0 (find program program.functions 0 0
+          (both_left _ _ starts) (omega arith) (whole_is_at (lowered program).funclets)
+          (both_right _ _ counts) program.main begin.0 begin.1).sound;
     }
 
 pub lowered_follows : LoweredFollows

@@ -1,18 +1,19 @@
 -- The whole program: its run follows the meaning, and shows nothing more.
 use Rattle.std.proofs.Common.{◌≡◌, ◌⊎◌, inl, inr, ◌<◌, ◌≤◌, ℕ, zero, suc, ◌+◌, ◌-◌, ◌*◌, List, [], ◌∷◌, ◌++◌, length, refl, ap, sym, subst, ◌∙◌, arith, append-nil}
 use native.Mathlib.Nat.{mul-add, mul_comm, mul-one}
-use Rattle.std.proofs.lemmas.Bool.{cases_lt, ne_eqb}
+use Rattle.std.proofs.lemmas.Bool.{cases_lt, lt-ltb, le-ltb, ne_eqb}
 use Rattle.std.specs.Prelude.{false, nat_eq, if◌then◌else◌, replicate, slice_get, ℤ, Some, None}
 use Rattle.seh_num.specs.declared.event.Event.{Event}
-use Rattle.lowering_follows.specs.Words.{W32, W64, signed, wrapped, Size, Program, Function, State, Value, Normal, Returned, Target, End, Outcome, Gives, choose, Context, no_exception, all, ended_call, enter, within, does, for_parameters, outside, ran, shows, meaning, Temporary, LinearProgram, LinearFunction, FunctionBody, Store, Configuration, Seen, Finished, with_some, Running, Stuck, begin_function, exec, main_arguments, start, seen, shown, statements_size, statements_notes, constant, own_locals, scope_of, statements_weight, HasAt, FunctionPlaced, first_memory, IsPrefixOf}
+use Rattle.lowering_follows.specs.Words.{W32, W64, signed, wrapped, Size, Program, Function, State, Value, Normal, Returned, Target, End, Outcome, Gives, choose, Context, no_exception, all, ended_call, enter, within, does, for_parameters, outside, ran, shows, meaning, Temporary, LinearProgram, LinearFunction, FunctionBody, Store, Configuration, Seen, Finished, with_some, Running, Stuck, begin_function, exec, main_arguments, start, seen, shown, statements_size, statements_notes, constant, own_locals, scope_of, statements_weight, HasAt, FunctionPlaced, first_memory, IsPrefixOf, surplus, hold_surplus, count_steps}
 use Rattle.source_meaning.specs.declared.ended.Ended.{Ended}
-use Rattle.source_meaning.specs.declared.ended.Ended.TheVariants.{Exit}
-use Rattle.source_meaning.specs.State.{deeper, with_activation}
-use Rattle.lowering_follows.proofs.LightFunctions.{enters_light}
+use Rattle.source_meaning.specs.declared.ended.Ended.TheVariants.{Exit, Deep}
+use Rattle.source_meaning.specs.State.{deeper, counting, with_activation}
+use Rattle.source_meaning.specs.declared.depth.TheConstants.{DEEPEST, TOO_DEEP}
+use Rattle.source_meaning.proofs.Counting as counts
 use Rattle.source_meaning.specs.Meaning as source
 use Rattle.source_meaning.proofs.RemainingSteps.{enters_within}
 use Rattle.linear_code.specs.declared.instruction.Instruction.TheVariants as instructions
-use Rattle.lowering_follows.proofs.Lemmas.{events_of, More, longer, prefix_same, prefix_then, Part, at, Site, conf, price, Claim, Stops, first, fetch, prefix_self}
+use Rattle.lowering_follows.proofs.Lemmas.{events_of, More, longer, prefix_same, prefix_then, Part, at, Site, conf, price, Claim, Stops, first, fetch, prefix_self, after, sooner, stopped, from_none}
 use Rattle.linear_machine.proofs.MoreTurns.{front}
 use Rattle.linear_machine.proofs.Stretch.{Kept}
 use Rattle.lowering_follows.specs.FollowLaws.{Follows, NoMore, LinkedFollows}
@@ -20,8 +21,10 @@ use Rattle.lowering_follows.proofs.Stores.{Shape, FrameAlike, Alike, below_slot,
 use Rattle.lowering_follows.proofs.Turns.{constant_turn}
 use Rattle.lowering_follows.proofs.BodyClaims.{statement_ways, Stays, Surroundings}
 use Rattle.lowering_follows.proofs.BodySequences.{all_runs}
+use Rattle.lowering_follows.proofs.Beginnings.{separators_reach}
 use Rattle.lowering_follows.proofs.Functions.{begins_alike}
 use Rattle.lowering_follows.proofs.AllClaims.{both}
+use Rattle.c_checked.specs.Program.{weight}
 
 mul_le : (k a b : ℕ) → a ≤ b → k * a ≤ k * b
 mul_le k a b le =
@@ -105,7 +108,8 @@ module _ (program : Program) (linear : LinearProgram) (rate body : ℕ)
     × FunctionPlaced program linear rate body k fn lf)
     (same_main : linear.main ≡ program.main) (fn : Function)
     (has : slice_get program.functions program.main ≡ Some fn) (few : length fn.parameters ≤ 1)
-    (lf : LinearFunction) (there : slice_get linear.functions program.main ≡ Some lf)
+    (shallow : weight fn ≤ DEEPEST) (lf : LinearFunction)
+    (there : slice_get linear.functions program.main ≡ Some lf)
     (f : FunctionPlaced program linear rate body program.main fn lf) where
   module _ (arg : ℤ) where
     abbrev vs : List ℕ
@@ -120,7 +124,7 @@ module _ (program : Program) (linear : LinearProgram) (rate body : ℕ)
       regions = [];
       below = [];
       exception = no_exception;
-      held = 0;
+      held = 0 + lf.surplus;
     }
 
     abbrev given : List ℕ
@@ -129,8 +133,26 @@ module _ (program : Program) (linear : LinearProgram) (rate body : ℕ)
     abbrev locals : List ℕ
     locals = vs ++ replicate (lf.body.locals - lf.parameters) 0
 
+    -- before anything, after the steps of the beginning, and where the body begins
+    abbrev origin : ℕ → State
+    origin n = source.start program n
+
+    abbrev counted : ℕ → State
+    counted n = count_steps (surplus fn) (origin n)
+
     abbrev begun : ℕ → State
-    begun n = with_activation program.main given (source.start program n)
+    begun n = with_activation program.main given (hold_surplus (surplus fn) (counted n))
+
+    abbrev activation : ℕ → State → Outcome
+    activation n st =
+        ended_call (length st.frames) (surplus fn) (all (within program n) fn.body
+        (record {
+          handlers = [];
+          activation = length st.frames;
+          exception = no_exception;
+          abnormal = false;
+        })
+        (with_activation program.main given (hold_surplus (surplus fn) st)))
 
     abbrev first_store : Store
     first_store = record { memory = first_memory linear.globals; activations = [] }
@@ -142,7 +164,7 @@ module _ (program : Program) (linear : LinearProgram) (rate body : ℕ)
     c0 = begin_function program.main lf vs 0 [] first_store []
 
     abbrev x : ℕ
-    x = statements_weight fn.body
+    x = surplus fn + statements_weight fn.body
 
     abbrev Done : Part → State → Outcome → Type 0
     Done s from (Gives (Value v) st) = (j : ℕ) × (j ≤ 16 * from.steps_left + 3)
@@ -165,7 +187,7 @@ module _ (program : Program) (linear : LinearProgram) (rate body : ℕ)
         (constant 0 0 ∷ instructions.Return (Temporary 0) ∷ [])
         → Claim linear rate s from (price 1 0 x x)
         (statement_ways program linear rate body (scope_of fn) inner csite kept done) o
-        → Done s from (ended_call 0 0 o)
+        → Done s from (ended_call 0 (surplus fn) o)
     unfolding ended_call
     main_ends s from kept done (Gives Normal st) h p =
         let y = p.reaches.by (suc (suc zero)) in
@@ -186,9 +208,10 @@ module _ (program : Program) (linear : LinearProgram) (rate body : ℕ)
     main_ends s from kept done (Gives (End None) st) h p = p
     main_ends s from kept done (Gives r st) h p = absurd p
 
-    main_runs : (n : ℕ) → Done (at c0) (begun n)
-        (ended_call 0 0 (all (within program n) fn.body inner (begun n)))
-    main_runs n =
+    main_runs : (n : ℕ) → surplus fn ≤ n → Done (at c0) (origin n) (activation n (counted n))
+    main_runs n left =
+        let s = surplus fn in
+        let w = statements_weight fn.body in
         let new : Shape = record {
           function = program.main;
           own = own_locals fn;
@@ -221,18 +244,27 @@ module _ (program : Program) (linear : LinearProgram) (rate body : ℕ)
           room = omega (arith, f.locals);
           plain = λ e. absurd (cc);
         } in
-        let end = 1 + statements_size fn.body in
-        main_ends (at c0) (begun n) (Stays program linear rate body (scope_of fn).names (new ∷ [])
-        inner store') end (all (within program n) fn.body inner (begun n)) f.ends
-        (first linear rate c0 (at (conf inner csite 1 [] (begun n) store')) (begun n) (begun n)
-        (price 0 0 x x) (price 1 0 x x) (statement_ways program linear rate body (scope_of fn)
-        inner csite
-        (Stays program linear rate body (scope_of fn).names (new ∷ []) inner store') end)
-        (all (within program n) fn.body inner (begun n)) (omega arith, omega arith, omega arith)
-        refl refl (prefix_self (begun n).events)
+        let end = 1 + s + statements_size fn.body in
+        let ways = statement_ways program linear rate body (scope_of fn) inner csite
+        (Stays program linear rate body (scope_of fn).names (new ∷ []) inner store') end in
+        let does_all = all (within program n) fn.body inner (begun n) in
+        let first_part = at (conf inner csite 1 [] (origin n) store') in
+        let body_part = at (conf inner csite (1 + s) [] (begun n) store') in
+        let quick = f.quick in
+        main_ends (at c0) (origin n)
+        (Stays program linear rate body (scope_of fn).names (new ∷ [])
+        inner store') end does_all f.ends
+        (first linear rate c0 first_part (origin n) (origin n) (price 0 0 x x) (price 1 0 x x) ways
+        does_all (omega arith, omega arith, omega arith) refl refl (prefix_self (origin n).events)
         (λ j. fetch linear rate c0 instructions.Separator j f.starts.0)
+        (after linear rate first_part body_part (origin n) (counted n) 0 0 0 (price 0 0 w w)
+        (price 0 0 x x) ways does_all (omega arith, omega arith, omega arith)
+        (separators_reach linear rate (omega arith) inner csite store' s 1 (origin n) left
+        f.starts.2)
+        (sooner linear rate body_part (counted n) (begun n) (price 0 0 w w) ways does_all refl
+        (prefix_self (origin n).events)
         (all_runs program linear rate body n bodies (scope_of fn) new (new ∷ []) inner csite store'
-        fn.body 1 (begun n) store' (omega arith) f.quick f.placed
+        fn.body (1 + s) (begun n) store' (omega arith) quick f.placed
         (record {
           around = tt;
           exit = (omega arith, tt, f.ends.2.0);
@@ -243,26 +275,37 @@ module _ (program : Program) (linear : LinearProgram) (rate body : ℕ)
               nothing,
           kept_itself (below_slot 0 (own_locals fn)) (new ∷ []) store',
           refl,
-        ) refl))
+        ) (ap (λ held. 0 + held) (sym f.weighs))))))
+
+    -- the steps of the beginning, as far as there are so many
+    begins : (n : ℕ) → (n < surplus fn) ⊎ (surplus fn ≤ n)
+        → Done (at c0) (origin n) (counting (surplus fn) (origin n) (activation n))
+    begins n (inl few) = subst (λ o. Done (at c0) (origin n) o)
+        (sym (counts.too_few (surplus fn) (origin n) (activation n) (lt-ltb n (surplus fn) few)))
+        (stopped linear rate (at c0) (origin n) 1 0 x (omega arith) (from_none linear 0 c0))
+    begins n (inr left) = subst (λ o. Done (at c0) (origin n) o)
+        (sym (counts.enough (surplus fn) (origin n) (activation n) (le-ltb n (surplus fn) left)))
+        (main_runs n left)
 
     enters : (n : ℕ)
-        → enter (within program n) program.main (Some fn) vs outside (source.start program n)
-        ≡ ended_call 0 0 (all (within program n) fn.body inner (begun n))
+        → enter (within program n) program.main (Some fn) vs outside (origin n)
+        ≡ counting (surplus fn) (origin n) (activation n)
     unfolding deeper choose
-    enters n = enters_light (within program n) program.main fn vs outside f.no_surplus
-        (source.start program n)
+    enters n =
+        let go : State → Outcome = λ st. counting (surplus fn) st (activation n) in
+        ap (λ deep. choose deep (λ st. Gives (End (Some (Deep TOO_DEEP))) st) go (origin n))
+        (le-ltb DEEPEST (0 + weight fn) (omega (arith, shallow)))
 
-    ran_is : (n : ℕ) → ran program arg n ≡ ended_call 0 0
-        (all (within program n) fn.body inner (begun n))
+    ran_is : (n : ℕ) → ran program arg n ≡ counting (surplus fn) (origin n) (activation n)
     ran_is n =
         ap (λ main. enter (does program) program.main main (source.main_arguments main arg) outside
-        (source.start program n)) has
-        ∙ enters_within program n program.main (Some fn) vs outside (source.start program n)
-        (omega arith)
+        (origin n)) has
+        ∙ enters_within program n program.main (Some fn) vs outside (origin n) (omega arith)
         ∙ enters n
 
-    done : (n : ℕ) → Done (at c0) (begun n) (ran program arg n)
-    done n = subst (λ o. Done (at c0) (begun n) o) (sym (ran_is n)) (main_runs n)
+    done : (n : ℕ) → Done (at c0) (origin n) (ran program arg n)
+    done n = subst (λ o. Done (at c0) (origin n) o) (sym (ran_is n))
+        (begins n (cases_lt n (surplus fn)))
 
     seen_is : (t : ℕ) → seen linear arg t ≡ exec linear t c0
     unfolding with_some
@@ -316,7 +359,7 @@ module _ (program : Program) (linear : LinearProgram) (rate body : ℕ)
     ends_there m j e es h = subst (λ a. More a (exec linear (j + m) c0)) h
         (later j (j + m) (omega arith))
 
-    no_more_by : (m n : ℕ) (o : Outcome) → (m + 1) * rate ≤ n → Done (at c0) (begun n) o
+    no_more_by : (m n : ℕ) (o : Outcome) → (m + 1) * rate ≤ n → Done (at c0) (origin n) o
         → NoMoreThan m o
     no_more_by m n (Gives (Value v) st) le d = against (exec linear m c0) (exec linear (d.0 + m) c0)
         (Exit (signed W32 v)) st.events (later m (d.0 + m) (omega arith))
@@ -325,7 +368,8 @@ module _ (program : Program) (linear : LinearProgram) (rate body : ℕ)
         (exec linear (d.0 + m) c0) v st.events (later m (d.0 + m) (omega arith))
         (ends_there m d.0 v st.events d.2)
     no_more_by m n (Gives (End None) st) le d =
-        let paid = d.paid in let least = d.least in let l = f.quick in
+        let paid = d.paid in let least = d.least in
+        let light = f.light in let quick = f.quick in
         let longer_than = enough rate m d.cost d.credit n x paid le (omega arith) (omega arith) in
         let b = d.prior (d.cost - 1) (omega arith) in
         against_running (exec linear m c0) (exec linear (d.cost - 1) c0) b.0 st.events
@@ -337,7 +381,7 @@ module _ (program : Program) (linear : LinearProgram) (rate body : ℕ)
       subst (λ a. IsPrefixOf (meaning program arg n).events (shown a).events
       × ((e : Ended) → (meaning program arg n).end ≡ Some e → shown a ≡ meaning program arg n))
       (sym (seen_is arg turns))
-      (follows_by arg turns (begun arg n) (ran program arg n) le (done arg n))
+      (follows_by arg turns (origin arg n) (ran program arg n) le (done arg n))
 
   pub no_more : NoMore program linear rate
   no_more arg m n le =
@@ -350,7 +394,7 @@ pub linked_follows : LinkedFollows
 linked_follows program linear rate body l =
     let p = l.functions program.main l.begins l.is_main in (
       follows program linear rate body l.globals l.least l.functions l.main l.begins l.is_main l.few
-          p.0 p.1 p.2,
+          l.shallow p.0 p.1 p.2,
       no_more program linear rate body l.globals l.least l.functions l.main l.begins l.is_main l.few
-          p.0 p.1 p.2,
+          l.shallow p.0 p.1 p.2,
     )

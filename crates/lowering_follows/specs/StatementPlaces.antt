@@ -4,7 +4,8 @@ use Rattle.std.specs.Prelude.{◌≡◌, ◌<◌, ◌≤◌, ℕ, ◌+◌, ◌-�
 use Rattle.c_checked.specs.Expression.{Expression}
 use Rattle.c_checked.specs.Statement.{Declared, Filter, Always, Funclet, Statement, Declare, Block, Evaluate, If, IfElse, For, DoWhile, Break, Continue, Leave, TryExcept, TryFinally, Statements, Empty, Then}
 use Rattle.c_checked.specs.Statement as statements
-use Rattle.c_checked.specs.Program.{Program, Function, surplus}
+use Rattle.c_checked.specs.Program.{Program, Function, surplus, weight}
+use Rattle.source_meaning.specs.declared.depth.TheConstants.{DEEPEST}
 use Rattle.linear_code.specs.declared.slot.Slot.TheVariants.{Local, Temporary}
 use Rattle.linear_code.specs.declared.instruction.Instruction.TheVariants.{Jump, JumpIfZero, CallFinally, Landing, Separator, Return}
 use Rattle.linear_code.specs.declared.instruction.Instruction.TheVariants as instructions
@@ -20,7 +21,7 @@ use Rattle.lowering_expressions.specs.declared.scope.Way.TheVariants.{Nowhere, J
 use Rattle.lowering_expressions.specs.Scope.{filter_names, finally_scope, in_loop, in_try, in_except, in_guarded}
 use Rattle.lowering_sizes.specs.Sizes.{expression_size, discarded_size, condition_size, declared_size, all_declared_size, returned_size, statement_size, statements_size}
 use Rattle.lowering_expressions.specs.Expressions.{constant, expression_code}
-use Rattle.seh_ir.specs.Lowered.{own_locals, all_locals, scope_of}
+use Rattle.seh_ir.specs.Lowered.{own_locals, all_locals, first_separators, scope_of}
 use Rattle.seh_ir.specs.Regions.{except_kind, region}
 use Rattle.seh_ir.specs.Statements.{jump_code, return_code, leave_code, discarded_code, returned_code, condition_code, declared_code}
 use Rattle.lowering_follows.specs.Fits.{ExpressionFits}
@@ -255,17 +256,17 @@ module _ (program : Program) (linear : LinearProgram) (steps_per_turn body : ℕ
   pub record FunctionPlaced (k : ℕ) (fn : Function) (lf : LinearFunction) : Type 0 where
     pub parameters : lf.parameters ≡ length fn.parameters
     pub locals : lf.body.locals ≡ all_locals fn
-    pub starts : HasAt linear (FunctionBody k) [] 0 (Separator ∷ [])
+    pub weighs : lf.surplus ≡ surplus fn
+    pub starts : HasAt linear (FunctionBody k) [] 0 (first_separators fn)
     pub placed : AllPlaced program linear steps_per_turn body (own_locals fn) (FunctionBody k)
-        (scope_of fn) fn.body [] 1
-    pub ends : HasAt linear (FunctionBody k) [] (1 + statements_size fn.body)
+        (scope_of fn) fn.body [] (weight fn)
+    pub ends : HasAt linear (FunctionBody k) [] (weight fn + statements_size fn.body)
         (constant 0 0 ∷ instructions.Return (Temporary 0) ∷ [])
-    pub light : statements_weight fn.body ≤ body
+    pub light : surplus fn + statements_weight fn.body ≤ body
     pub quick : statements_weight fn.body + body + 4 ≤ steps_per_turn
-    -- linear code counts 1 in the depth for each activation
-    pub no_surplus : surplus fn ≡ 0
 
-  -- each function is in the linear code, beside globals and a `main` that are the same
+  -- each function is in the linear code, beside globals and a `main` that are the same; an
+  -- activation of `main` is not too deep
   pub record IsLinked : Type 0 where
     pub globals : linear.globals ≡ program.globals
     pub main : linear.main ≡ program.main
@@ -275,3 +276,4 @@ module _ (program : Program) (linear : LinearProgram) (steps_per_turn body : ℕ
     pub begins : Function
     pub is_main : slice_get program.functions program.main ≡ Some begins
     pub few : length begins.parameters ≤ 1
+    pub shallow : weight begins ≤ DEEPEST

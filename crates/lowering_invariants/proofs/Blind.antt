@@ -1,12 +1,13 @@
 -- Only filters read their exception.
-use Rattle.std.proofs.Common.{◌≡◌, ℕ, ◌+◌, ◌<◌, true, false, List, [], ◌∷◌, map, refl, subst, arith}
+use Rattle.std.proofs.Common.{◌≡◌, ℕ, ◌+◌, ◌<◌, true, false, List, [], ◌∷◌, ◌++◌, map, refl, subst, arith}
 use Rattle.std.specs.List.{AllByRecursion}
 use Rattle.std.specs.Prelude.{slice_get, Option, Some, None}
-use Rattle.lowering_invariants.specs.Words.{Field, Program, Function, funclets, functions_sound, Statements, Slot, Local, Temporary, Instruction, FuncletKind, LinearBody, LinearFunction, LinearFunclet, BodyName, FunctionBody, FuncletBody, function_body, funclet_body, body_of, Names, LoweringContext, finally_scope, constant, statements_code, own_locals, all_locals, scope_of, lowered_function, lowered_funclets, all_funclets, lowered, IsBlind, IsFilterBody, statements_notes, ExpressionFits, LoweredInformsFilters}
+use Rattle.lowering_invariants.specs.Words.{Field, Program, Function, weight, funclets, functions_sound, Statements, Slot, Local, Instruction, FuncletKind, LinearBody, LinearFunction, LinearFunclet, BodyName, FunctionBody, FuncletBody, function_body, funclet_body, body_of, Names, LoweringContext, finally_scope, statements_code, own_locals, all_locals, first_separators, scope_of, lowered_function, lowered_funclets, all_funclets, lowered, IsBlind, IsFilterBody, statements_notes, ExpressionFits, LoweredInformsFilters}
 use Rattle.linear_code.specs.declared.instruction.Instruction.TheVariants as instructions
 use Rattle.linear_code.specs.declared.program.FuncletKind.TheVariants as kinds
 use Rattle.lowering_invariants.proofs.Lemmas.{both_left, both_right, all_append, HoldsOfInstructions, statements_all, any_numbers, HoldsOfFunclets, all_funclets_every, StatementsFit, function_fits}
 use Rattle.lowering_invariants.proofs.BlindExpressions.{AllBlind, IsOutside, expression_blind}
+use Rattle.lowering_invariants.proofs.FirstSeparators.{first_every, function_end}
 use Rattle.lowering_invariants.proofs.StackTargets.{all_at, same_it}
 
 -- the code of a funclet is such, unless it is a filter's
@@ -71,13 +72,11 @@ module _ (program : Program) where
       → AllByRecursion (λ (f : LinearFunction). AllBlind f.body.code) (map lowered_function fs)
   functions_blind [] ok = tt
   functions_blind (f ∷ fs) ok = (
-    (
-      tt,
-      all_append IsBlind (statements_code (scope_of f) f.body 1)
-          (constant 0 0 ∷ instructions.Return (Temporary 0) ∷ [])
-          (statements_blind program (own_locals f) f.body (scope_of f) 1 tt
-          (function_fits program f (both_left _ _ ok))) (tt, (tt, tt)),
-    ),
+    (let code = statements_code (scope_of f) f.body (weight f) in
+        all_append IsBlind (first_separators f ++ code) function_end
+        (all_append IsBlind (first_separators f) code (first_every IsBlind tt f)
+        (statements_blind program (own_locals f) f.body (scope_of f) (weight f) tt
+        (function_fits program f (both_left _ _ ok)))) (tt, (tt, tt))),
     functions_blind fs (both_right _ _ ok),
   )
 

@@ -1,12 +1,13 @@
 -- In lowered code an instruction that does nothing is after each that runs `__finally` blocks.
 use Rattle.std.proofs.Common.{◌≡◌, ℕ, zero, suc, ◌+◌, List, [], ◌∷◌, ◌++◌, refl, sym, ap, ◌∙◌, arith}
 use Rattle.std.specs.Prelude.{true, false, slice_get, Option, Some, None}
-use Rattle.lowering_invariants.specs.Words.{Expression, Function, Statements, Local, Temporary, Instruction, JumpIfZero, Separator, Owner, Names, Way, Nowhere, Jumps, LoweringContext, finally_scope, constant, copy, expression_code, return_code, returned_code, repeated, statements_code, finally_funclet, scope_of, lowered_function, runs_blocks, IsFollowed, LoweredIsFollowed, filter_funclet}
+use Rattle.lowering_invariants.specs.Words.{Expression, Function, weight, Statements, Local, Temporary, Instruction, JumpIfZero, Separator, Owner, Names, Way, Nowhere, Jumps, LoweringContext, finally_scope, copy, expression_code, return_code, returned_code, repeated, statements_code, finally_funclet, first_separators, scope_of, lowered_function, runs_blocks, IsFollowed, LoweredIsFollowed, filter_funclet}
 use Rattle.linear_code.specs.declared.instruction.Instruction.TheVariants as instructions
 use Rattle.lowering_expressions.specs.declared.scope.Way.TheVariants.{Unwinds}
 use Rattle.lowering_invariants.proofs.EveryBody.{every_body}
 use Rattle.lowering_invariants.proofs.StackTargets.{same_it}
-use Rattle.lowering_invariants.proofs.NoBlocks.{RunNoBlocks, expression_no_blocks}
+use Rattle.lowering_invariants.proofs.FirstSeparators.{first_every, function_end}
+use Rattle.lowering_invariants.proofs.NoBlocks.{RunsNoBlock, RunNoBlocks, expression_no_blocks}
 use Rattle.lowering_invariants.proofs.Lemmas.{HoldsOfAnyPieces, statements_any}
 
 no : {X : Type 0} → false ≡ true → X
@@ -107,12 +108,12 @@ block_followed owner names last label i =
 
 function_followed : (f : Function) → IsFollowed (lowered_function f).body
 function_followed f label i =
-    next_there (lowered_function f).body.code label i (
-      (λ x. no x),
-      append (statements_code (scope_of f) f.body 1)
-          (constant 0 0 ∷ instructions.Return (Temporary 0) ∷ [])
-          (statements_follow f.body (scope_of f) 1) ((λ x. no x), ((λ x. no x), tt)),
-    )
+    let code = statements_code (scope_of f) f.body (weight f) in
+    next_there (lowered_function f).body.code label i
+    (append (first_separators f ++ code) function_end
+    (append (first_separators f) code
+    (no_blocks_follow (first_separators f) (first_every RunsNoBlock refl f))
+    (statements_follow f.body (scope_of f) (weight f))) ((λ x. no x), ((λ x. no x), tt)))
 
 pub lowered_is_followed : LoweredIsFollowed
 lowered_is_followed = every_body IsFollowed filter_followed block_followed function_followed

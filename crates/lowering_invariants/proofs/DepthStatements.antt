@@ -1,12 +1,13 @@
 -- No temporary is held between statements, and their jumps lead to places that hold as many as they
 -- leave.
-use Rattle.std.proofs.Common.{◌≡◌, ℕ, ◌+◌, List, [], ◌∷◌, ◌++◌, refl, arith}
+use Rattle.std.proofs.Common.{◌≡◌, ℕ, zero, suc, ◌+◌, List, [], ◌∷◌, ◌++◌, replicate, refl, arith, length-append}
 use Rattle.std.specs.Prelude.{Option, Some, None}
-use Rattle.lowering_invariants.specs.Words.{Expression, Program, Function, Statements, Local, Temporary, Instruction, JumpIfZero, Separator, LinearBody, BodyName, body_of, statements_size, statements_notes, Owner, Names, Way, Nowhere, Jumps, LoweringContext, finally_scope, constant, copy, expression_code, return_code, returned_code, repeated, statements_code, finally_funclet, scope_of, lowered_function, lowered, depth_at, filter_funclet}
+use Rattle.lowering_invariants.specs.Words.{Expression, Program, Function, surplus, weight, Statements, Local, Temporary, Instruction, JumpIfZero, Separator, LinearBody, BodyName, body_of, statements_size, statements_notes, Owner, Names, Way, Nowhere, Jumps, LoweringContext, finally_scope, copy, expression_code, return_code, returned_code, repeated, statements_code, finally_funclet, first_separators, scope_of, lowered_function, lowered, depth_at, filter_funclet}
 use Rattle.linear_code.specs.declared.instruction.Instruction.TheVariants as instructions
 use Rattle.lowering_expressions.specs.declared.scope.Way.TheVariants.{Unwinds}
-use Rattle.lowering_invariants.proofs.Lemmas.{statements_length, statements_have, WayHas, WaysHave, IsPlaced, HoldsOfPieces, statements_every, HoldsOfAnyPieces, statements_any, neutral_of}
+use Rattle.lowering_invariants.proofs.Lemmas.{length_first, statements_length, statements_have, WayHas, WaysHave, IsPlaced, HoldsOfPieces, statements_every, HoldsOfAnyPieces, statements_any, neutral_of}
 use Rattle.lowering_invariants.proofs.Scans.{past, past_to, past_both, Scans, scan_start, scan_front, scan_back, scan_end, scanned, AllLead, lead_both}
+use Rattle.lowering_invariants.proofs.FirstSeparators.{function_end}
 use Rattle.lowering_invariants.proofs.EveryBody.{every_body}
 use Rattle.lowering_invariants.proofs.DepthExpressions.{expression_past, expression_leads}
 
@@ -153,23 +154,36 @@ block_leads owner names last =
     { exit = tt; loop_end = tt; loop_next = tt; leave = tt })
     (scan_front depth 0 0 code ends (scanned all))) (tt, tt)
 
+-- nothing is held after a separator
+separators_past : (n : ℕ) → past (replicate n Separator) 0 ≡ 0
+separators_past zero = refl
+separators_past (suc n) = separators_past n
+
+separators_lead : (depth : ℕ → ℕ) (n : ℕ) → AllLead depth 0 (replicate n Separator)
+separators_lead depth zero = tt
+separators_lead depth (suc n) = (tt, separators_lead depth n)
+
 function_leads : (f : Function) → BodyLeads (lowered_function f).body
 function_leads f =
     let scope = scope_of f in
-    let code = statements_code scope f.body 1 in
-    let ends = constant 0 0 ∷ instructions.Return (Temporary 0) ∷ [] in
-    let all = Separator ∷ (code ++ ends) in
+    let at = weight f in
+    let first = first_separators f in
+    let code = statements_code scope f.body at in
+    let all = (first ++ code) ++ function_end in
     let depth = depth_at all in
-    let l = statements_length scope f.body 1 in
-    let whole = scanned all in
-    let h1 = scan_back depth 1 (1 + statements_size f.body) 0 0 code ends (omega arith)
-    (statements_past f.body scope 1) whole.1 in (
-      tt,
-      lead_both depth code ends 0 0 (statements_past f.body scope 1)
-          (statements_lead depth f.body scope 1 (record
-          { exit = h1.1.0; loop_end = tt; loop_next = tt; leave = tt })
-          (scan_front depth 1 0 code ends whole.1)) (tt, (tt, tt)),
-    )
+    let k = length_first f in
+    let l = statements_length scope f.body at in
+    let m = length-append first code in
+    let none = separators_past (surplus f) in
+    let past = past_both first code 0 0 0 none (statements_past f.body scope at) in
+    let ends = scan_back depth 0 (at + statements_size f.body) 0 0 (first ++ code) function_end
+    (omega arith) past (scanned all) in
+    let begins = scan_back depth 0 at 0 0 first code (omega arith) none
+    (scan_front depth 0 0 (first ++ code) function_end (scanned all)) in
+    lead_both depth (first ++ code) function_end 0 0 past
+    (lead_both depth first code 0 0 none (tt, separators_lead depth (surplus f))
+    (statements_lead depth f.body scope at (record
+    { exit = ends.1.0; loop_end = tt; loop_next = tt; leave = tt }) begins)) (tt, (tt, tt))
 
 pub bodies_lead : (program : Program) (name : BodyName) (b : LinearBody)
     → body_of (lowered program) name ≡ Some b → BodyLeads b

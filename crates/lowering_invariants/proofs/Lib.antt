@@ -13,6 +13,7 @@ pub mod TurnNumbers
 pub mod EveryExpression
 pub mod Calls
 pub mod Wholes
+pub mod FirstSeparators
 pub mod Lowered
 pub mod EveryBody
 pub mod Room

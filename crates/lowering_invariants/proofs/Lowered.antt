@@ -1,14 +1,13 @@
 -- What the bodies of a lowered program name is there.
-use Rattle.std.proofs.Common.{◌≡◌, ℕ, ◌+◌, ◌<◌, ◌≤◌, List, [], ◌∷◌, length, map, refl, sym, ap, subst, ◌∙◌, arith, length-append}
+use Rattle.std.proofs.Common.{◌≡◌, ℕ, ◌+◌, ◌<◌, ◌≤◌, List, [], ◌∷◌, ◌++◌, length, map, refl, sym, ap, subst, ◌∙◌, arith, length-append}
 use Rattle.std.proofs.lemmas.List.{length-map}
 use Rattle.std.proofs.lemmas.Option.{slice_get-map, slice_get_within}
 use Rattle.std.specs.List.{AllByRecursion}
 use Rattle.std.specs.Prelude.{true, slice_get, option_map, Option, Some, None}
-use Rattle.lowering_invariants.specs.Words.{Program, Function, IsSound, funclets, count_up, function_sound, functions_sound, Temporary, LinearBody, LinearFunction, LinearFunclet, FunctionBody, FuncletBody, function_body, funclet_body, body_of, Owner, constant, statements_code, own_locals, all_locals, scope_of, lowered_function, lowered_funclets, all_funclets, lowered, IsCalled, IsCallee, IsBodyOf, AreBodies, LoweredIsWhole}
+use Rattle.lowering_invariants.specs.Words.{Program, Function, weight, IsSound, funclets, count_up, function_sound, functions_sound, LinearBody, LinearFunction, LinearFunclet, FunctionBody, FuncletBody, function_body, funclet_body, body_of, Owner, statements_code, own_locals, all_locals, first_separators, scope_of, lowered_function, lowered_funclets, all_funclets, lowered, IsCalled, IsCallee, IsInstructionOf, IsBodyOf, AreBodies, LoweredIsWhole}
 use Rattle.c_checked.specs.Sound as sound
-use Rattle.linear_code.specs.declared.instruction.Instruction.TheVariants as instructions
-use Rattle.lowering_invariants.proofs.Lemmas.{Range, part_of, both_parts, no_part, one_part, statements_count, count_front, count_back, IsSegmentAt, front, back, whole_is_at, both_left, both_right, lowered_is_linked}
-use Rattle.lowering_invariants.proofs.Calls.{append}
+use Rattle.lowering_invariants.proofs.Lemmas.{Range, part_of, both_parts, no_part, one_part, all_append, statements_count, count_front, count_back, IsSegmentAt, front, back, whole_is_at, both_left, both_right, lowered_is_linked}
+use Rattle.lowering_invariants.proofs.FirstSeparators.{first_every, function_end, body_at}
 use Rattle.lowering_invariants.proofs.StackTargets.{same_it, all_at}
 use Rattle.lowering_invariants.proofs.Wholes.{Fine}
 use Rattle.lowering_invariants.proofs.Wholes.{statements_have, typed}
@@ -40,21 +39,21 @@ module _ (program : Program) where
       let linear = lowered program in
       let body = (lowered_function fn).body in
       let owner : Owner = record { function = number; locals = all_locals fn; parent = None } in
-      let code = statements_code (scope_of fn) fn.body 1 in
-      let ends = constant 0 0 ∷ instructions.Return (Temporary 0) ∷ [] in
+      let at = weight fn in
+      let code = statements_code (scope_of fn) fn.body at in
+      let Calls = IsInstructionOf linear (FunctionBody number) in
       let there' = ap function_body there in
       let fits = function_fits program fn ok in
       let x = statements_have program linear callee (own_locals fn) fn.body (FunctionBody number)
-      owner (record { parent = refl; function = refl }) (scope_of fn).names 1 fits j f c in
+      owner (record { parent = refl; function = refl }) (scope_of fn).names at fits j f c in
       let y = typed program linear callee (own_locals fn) (FunctionBody number) body there' fn.body
-      (scope_of fn) 1 fits x.named (front body.code 1 code ends (whole_is_at body.code).1) in
+      (scope_of fn) at fits x.named (front body.code at code function_end (body_at fn)) in
       let whole : IsBodyOf linear (FunctionBody number)
       body = record {
         regions = y.1;
-        code = (
-          tt,
-          append program linear callee (FunctionBody number) code ends y.0 (tt, (tt, tt)),
-        );
+        code = all_append Calls (first_separators fn ++ code) function_end
+            (all_append Calls (first_separators fn) code (first_every Calls tt fn) y.0)
+            (tt, (tt, tt));
       } in (
         (λ b e. subst (IsBodyOf linear (FunctionBody number))
             (same_it body b (sym (ap function_body there) ∙ e)) whole),

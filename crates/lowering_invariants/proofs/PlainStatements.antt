@@ -127,7 +127,7 @@ finally_named n names m k le h = let room = h.1 in
 
 -- ---- bodies
 
-module _ (most n : ℕ) (few_temporaries : most ≤ 456) (few_locals : n ≤ 540) where
+module _ (most n : ℕ) (few_temporaries : most ≤ 456) (few_locals : n ≤ 66000) where
   pub small_body : (code : List Instruction) (regions : _) → AllGood most n code
       → IsSmallBody (body_with n code regions)
   small_body code regions h =
@@ -185,7 +185,7 @@ module _ (program : Program) (most n own : ℕ) (wide : own ≤ n) (least : 8 �
 
   -- ---- filters and `__finally` blocks
 
-  module _ (linear : LinearProgram) (few_temporaries : most ≤ 456) (few_locals : n ≤ 540) where
+  module _ (linear : LinearProgram) (few_temporaries : most ≤ 456) (few_locals : n ≤ 66000) where
     owned_body : (owner : Owner) → Fitting linear n owner → (code : List Instruction) (regions : _)
         → AllGood most n code → IsSmallBody (body_with owner.locals code regions)
     owned_body owner fitting code regions h =

@@ -1,13 +1,14 @@
 -- In lowered code a call and the instruction after it are inside the same regions: what is before
 -- the places where regions begin and end is no call.
-use Rattle.std.proofs.Common.{◌≡◌, ℕ, zero, suc, ◌+◌, ◌<◌, List, [], ◌∷◌, ◌++◌, length, filter, refl, sym, ap, subst, ◌∙◌, arith, append-nil}
+use Rattle.std.proofs.Common.{◌≡◌, ℕ, zero, suc, ◌+◌, ◌<◌, List, [], ◌∷◌, ◌++◌, length, replicate, filter, refl, sym, ap, subst, ◌∙◌, arith, append-nil}
 use Rattle.std.specs.List.{AllByRecursion}
 use Rattle.std.specs.Prelude.{Bool, true, false, cond, ◌&&◌, nat_le, nat_lt, slice_get, Some}
-use Rattle.lowering_invariants.specs.Words.{Expression, Program, Function, Statements, Local, Temporary, Instruction, Jump, JumpIfZero, Separator, LocalUnwind, Region, LinearBody, BodyName, body_of, holds, statements_notes, Owner, Names, Way, Nowhere, Jumps, LoweringContext, finally_scope, constant, copy, expression_code, return_code, returned_code, statements_code, statements_regions, finally_funclet, scope_of, lowered_function, lowered, LoweredIsApart, filter_funclet}
+use Rattle.lowering_invariants.specs.Words.{Expression, Program, Function, surplus, weight, Statements, Local, Temporary, Instruction, Jump, JumpIfZero, Separator, LocalUnwind, Region, LinearBody, BodyName, body_of, holds, statements_notes, Owner, Names, Way, Nowhere, Jumps, LoweringContext, finally_scope, constant, copy, expression_code, return_code, returned_code, statements_code, statements_regions, finally_funclet, first_separators, scope_of, lowered_function, lowered, LoweredIsApart, filter_funclet}
 use Rattle.linear_code.specs.declared.instruction.Instruction.TheVariants.{Return}
 use Rattle.lowering_expressions.specs.declared.scope.Way.TheVariants.{Unwinds}
-use Rattle.lowering_invariants.proofs.Lemmas.{statements_have, WaysHave, IsPlaced, HoldsOfPieces, statements_every, HoldsOfAnyPieces, neutral_of, all_append, IsSegmentAt, front, back, whole_is_at}
+use Rattle.lowering_invariants.proofs.Lemmas.{length_first, statements_have, WaysHave, IsPlaced, HoldsOfPieces, statements_every, HoldsOfAnyPieces, neutral_of, all_append, IsSegmentAt, front, back, whole_is_at}
 use Rattle.lowering_invariants.specs.ReturnRegions.{is_call}
+use Rattle.lowering_invariants.proofs.FirstSeparators.{function_end, body_at}
 use Rattle.lowering_invariants.proofs.EveryBody.{every_body}
 use Rattle.lowering_invariants.proofs.StackTargets.{same_it}
 
@@ -194,15 +195,23 @@ block_stays owner names last =
     (λ q j n g. absurd (omega arith)) (whole_is_at b.code) refl
     (record { exit = tt; loop_end = tt; loop_next = tt; leave = tt })
 
+separators_end : (n : ℕ) → EndsPlain (Separator ∷ replicate n Separator)
+separators_end zero = refl
+separators_end (suc n) = separators_end n
+
 function_stays : (f : Function) → CallsStay (lowered_function f).body
 function_stays f =
     let b = (lowered_function f).body in
-    let code = statements_code (scope_of f) f.body 1 in
+    let at = weight f in
+    let first = first_separators f in
+    let code = statements_code (scope_of f) f.body at in
     let returns = Return (Temporary 0) ∷ [] in
-    let whole = whole_is_at b.code in
-    statements_stay f.body (scope_of f) b 1 (constant 0 0) returns
-    (ends_after (Separator ∷ code) (constant 0 0) returns refl)
-    (cut_last b.code 0 1 Separator [] refl refl (whole.0, tt)) whole.1 refl
+    let l = length_first f in
+    statements_stay f.body (scope_of f) b at (constant 0 0) returns
+    (ends_after (first ++ code) (constant 0 0) returns refl)
+    (cut_last b.code 0 at Separator (replicate (surplus f) Separator) (omega arith)
+    (separators_end (surplus f)) (front b.code 0 first code
+    (front b.code 0 (first ++ code) function_end (whole_is_at b.code)))) (body_at f) refl
     (record { exit = tt; loop_end = tt; loop_next = tt; leave = tt })
 
 pub calls_stay : (program : Program) (name : BodyName) (b : LinearBody)

@@ -1,16 +1,17 @@
 -- Every lowered body has its separators.
-use Rattle.std.proofs.Common.{◌≡◌, inl, inr, ℕ, ◌+◌, ◌<◌, ◌≤◌, List, [], ◌∷◌, length, refl, sym, ap, subst, ◌∙◌, arith, length-append}
+use Rattle.std.proofs.Common.{◌≡◌, inl, inr, ℕ, ◌+◌, ◌<◌, ◌≤◌, List, [], ◌∷◌, ◌++◌, length, refl, sym, ap, subst, ◌∙◌, arith, length-append}
 use Rattle.std.proofs.lemmas.Bool.{and_parts, leb-true, ltb-true}
 use Rattle.std.specs.List.{AllByRecursion}
 use Rattle.std.specs.Prelude.{Bool, true, false, nat_le, nat_lt, slice_get, Some}
-use Rattle.lowering_invariants.specs.Words.{Expression, Filter, Always, Funclet, Function, Program, Statements, Local, Temporary, Instruction, CallFinally, LocalUnwind, Region, RegionKind, LinearBody, BodyName, FunctionBody, FuncletBody, body_of, holds, statements_size, Owner, Names, LoweringContext, finally_scope, constant, expression_code, statements_code, except_kind, statements_regions, finally_funclet, filter_funclet, scope_of, lowered_function, lowered, IsInside, BeginsApart, HasBlock, LandsInside, HasLanding, is_target, HoldsStrictly, LeadsForth, LoweredHasSeparators}
+use Rattle.lowering_invariants.specs.Words.{Expression, Filter, Always, Funclet, Function, Program, weight, Statements, Local, Temporary, Instruction, CallFinally, LocalUnwind, Region, RegionKind, LinearBody, BodyName, FunctionBody, FuncletBody, body_of, holds, statements_size, Owner, Names, LoweringContext, finally_scope, expression_code, statements_code, except_kind, statements_regions, finally_funclet, filter_funclet, first_separators, scope_of, lowered_function, lowered, IsInside, BeginsApart, HasBlock, LandsInside, HasLanding, is_target, HoldsStrictly, LeadsForth, LoweredHasSeparators}
 use Rattle.linear_code.specs.declared.instruction.Instruction.TheVariants.{Landing, Return}
 use Rattle.linear_code.specs.declared.program.RegionKind.TheVariants as kinds
 use Rattle.linear_machine.proofs.Walks.{holds_yes}
-use Rattle.lowering_invariants.proofs.Lemmas.{statements_length, HoldsOfAnyPieces, statements_any, all_append, IsSegmentAt, front, back, whole_is_at}
+use Rattle.lowering_invariants.proofs.Lemmas.{length_first, statements_length, HoldsOfAnyPieces, statements_any, all_append, IsSegmentAt, front, back, whole_is_at}
 use Rattle.lowering_invariants.proofs.BlockSeparators.{lowered_is_followed}
 use Rattle.lowering_invariants.proofs.EveryBody.{every_body, every_function}
-use Rattle.lowering_invariants.proofs.NoBlocks.{expression_no_blocks}
+use Rattle.lowering_invariants.proofs.FirstSeparators.{first_every, function_end, body_at}
+use Rattle.lowering_invariants.proofs.NoBlocks.{RunsNoBlock, expression_no_blocks}
 use Rattle.lowering_invariants.proofs.ReturnRegions.{calls_stay}
 use Rattle.lowering_invariants.proofs.RegionRanges.{IsWithin, AreWithin, statements_within, NoneBegin, NoneMeet, statements_none_meet}
 use Rattle.lowering_invariants.proofs.StackTargets.{all_map, same_it}
@@ -178,26 +179,30 @@ function_separate : (f : Function) → IsSeparate (lowered_function f).body
 function_separate f =
     let b = (lowered_function f).body in
     let scope = scope_of f in
-    let code = statements_code scope f.body 1 in
-    let ends = constant 0 0 ∷ Return (Temporary 0) ∷ [] in
-    let n = length-append code ends in
-    let l = statements_length scope f.body 1 in
-    let to = 1 + statements_size f.body in
-    let exit = within_clear 1 to 1 (to + 1) b.regions (omega arith) (statements_within f.body 1) in
-    let whole = (whole_is_at b.code).1 in
-    let s = front b.code 1 code ends whole in
-    let own = (back b.code 1 to code ends (omega arith) whole).1.0 in
-    separate f.body scope b 1 refl (omega arith) s (
-      tt,
-      lead_append b.regions b.code 1 to code ends (omega arith)
-          (statements_lead b.regions b.code f.body scope 1 to refl s
-          (record {
-            exit = (omega arith, exit, (Return (Temporary 0), own, refl));
-            loop_end = tt;
-            loop_next = tt;
-          })
-          (λ low high p q h. h)) (tt, (tt, tt)),
-    )
+    let at = weight f in
+    let first = first_separators f in
+    let code = statements_code scope f.body at in
+    let m = length-append first code in
+    let n = length-append (first ++ code) function_end in
+    let k = length_first f in
+    let l = statements_length scope f.body at in
+    let to = at + statements_size f.body in
+    let exit = within_clear at to at (to + 1) b.regions (omega arith)
+    (statements_within f.body at) in
+    let whole = body_at f in
+    let s = front b.code at code function_end whole in
+    let own = (back b.code at to code function_end (omega arith) whole).1.0 in
+    separate f.body scope b at refl (omega arith) s
+    (lead_append b.regions b.code 0 to (first ++ code) function_end (omega arith)
+    (lead_append b.regions b.code 0 at first code (omega arith)
+    (plain_lead b.regions b.code 0 first (first_every RunsNoBlock refl f))
+    (statements_lead b.regions b.code f.body scope at to refl s
+    (record {
+      exit = (omega arith, exit, (Return (Temporary 0), own, refl));
+      loop_end = tt;
+      loop_next = tt;
+    })
+    (λ low high p q h. h))) (tt, (tt, tt)))
 
 -- ---- where bodies begin
 
@@ -207,9 +212,9 @@ StartsApart b = BeginsApart (FunctionBody 0) b
 function_starts : (f : Function) → StartsApart (lowered_function f).body
 function_starts f = (
   refl,
-  all_map (IsWithin 1 (1 + statements_size f.body)) (λ (r : Region). 0 < r.begin)
-      (statements_regions f.body 1) (λ r w. (let b = w.begins in omega arith))
-      (statements_within f.body 1),
+  all_map (IsWithin (weight f) (weight f + statements_size f.body)) (λ (r : Region). 0 < r.begin)
+      (statements_regions f.body (weight f)) (λ r w. (let b = w.begins in omega arith))
+      (statements_within f.body (weight f)),
 )
 
 begins_apart : (program : Program) (name : BodyName) (b : LinearBody)

@@ -1,16 +1,16 @@
 -- The linear code of a sound program that is nested within the limits is small.
-use Rattle.std.proofs.Common.{◌≡◌, ℕ, zero, suc, ◌+◌, ◌-◌, ◌≤◌, ◌<◌, List, [], ◌∷◌, ◌++◌, length, map, refl, ap, subst, arith}
+use Rattle.std.proofs.Common.{◌≡◌, ℕ, zero, suc, ◌+◌, ◌-◌, ◌*◌, ◌≤◌, ◌<◌, List, [], ◌∷◌, ◌++◌, length, map, refl, ap, subst, arith}
 use Rattle.std.proofs.lemmas.Bool.{leb-true}
 use Rattle.std.proofs.lemmas.List.{length-map}
 use Rattle.std.proofs.lemmas.Option.{slice_get_within}
 use Rattle.std.specs.List.{AllByRecursion}
 use Rattle.std.specs.Prelude.{true, false, slice_get, Option, Some, None}
-use Rattle.lowering_invariants.specs.Words.{Program, Function, funclets, function_sound, functions_sound, main_sound, Temporary, constant, statements_code, statements_regions, own_locals, all_locals, scope_of, lowered_function, lowered_funclets, all_funclets, lowered, expression_nesting, expression_reads, AreShallow, IsShallow, IsSmallFunction, IsSmallFunclet, statements_notes}
+use Rattle.lowering_invariants.specs.Words.{Program, Function, surplus, weight, funclets, function_sound, functions_sound, main_sound, statements_code, statements_regions, own_locals, all_locals, first_separators, scope_of, lowered_function, lowered_funclets, all_funclets, lowered, expression_nesting, expression_reads, AreShallow, IsShallow, IsSmallFunction, IsSmallFunclet, statements_notes}
 use Rattle.c_checked.specs.Sound as sound
-use Rattle.linear_code.specs.declared.instruction.Instruction.TheVariants as instructions
 use Rattle.lowering_invariants.proofs.Lemmas.{both_left, both_right, all_append, StatementsHave, all_front, all_back, all_funclets_every, functions_count, inside_function, knows_function, statements_sound_have}
 use Rattle.lowering_invariants.specs.BoundLaws.{LoweredIsSmall}
-use Rattle.lowering_invariants.proofs.PlainExpressions.{NamesAmong, append, constant_good}
+use Rattle.lowering_invariants.proofs.FirstSeparators.{first_every, function_end}
+use Rattle.lowering_invariants.proofs.PlainExpressions.{NamesAmong, Good, AllGood, append, constant_good}
 use Rattle.lowering_invariants.proofs.PlainStatements.{small_body, statements_good, statements_within, numbers_within, Value, Named, Fitting, funclets_small, Within}
 use Rattle.seh_num.specs.declared.limit.TheConstants.{MOST_GLOBALS}
 
@@ -48,11 +48,13 @@ module _ (program : Program) (h : functions_sound program.functions program.func
       (statements_within expression_nesting expression_reads 64 15 fn.body shallow.expressions
       shallow.parameters)
 
-  -- a function has few parameters and locals, and few of both with its codes and flags
+  -- a function has few parameters, and few locals, codes and flags for what it weighs
   record IsNarrow (fn : Function) : Type 0 where
     parameters : length fn.parameters ≤ 8
     wide : own_locals fn ≤ all_locals fn
-    room : all_locals fn ≤ 540
+    light : surplus fn ≤ 64
+    locals : all_locals fn ≤ 540 + 1024 * surplus fn
+    room : all_locals fn ≤ 66000
     named : NamesAmong (all_locals fn) (scope_of fn).names
     free : (scope_of fn).names.free + statements_notes fn.body ≤ all_locals fn
 
@@ -61,10 +63,12 @@ module _ (program : Program) (h : functions_sound program.functions program.func
       let noted = shallow.blocks in
       let ps : length fn.parameters ≤ 8 = leb-true (length fn.parameters) 8
       (both_right _ _ (both_left _ _ ok)) in
-      let ls : length fn.locals ≤ 256 = leb-true (length fn.locals) 256 (both_right _ _ ok) in
+      let ls : length fn.locals ≤ 65536 = leb-true (length fn.locals) 65536 (both_right _ _ ok) in
       record {
         parameters = ps;
         wide = omega arith;
+        light = omega arith;
+        locals = omega arith;
         room = omega arith;
         named = record { source = tt; flag = tt };
         free = omega arith;
@@ -76,16 +80,21 @@ module _ (program : Program) (h : functions_sound program.functions program.func
       let n = all_locals fn in
       let own = own_locals fn in
       let w = narrow fn ok shallow in
-      let code = statements_code (scope_of fn) fn.body 1 in
-      let ends = constant 0 0 ∷ instructions.Return (Temporary 0) ∷ [] in
-      let good = append 456 n code ends (statements_good program 456 n own w.wide (omega arith) few
-      fn.body (scope_of fn) 1 (statements_notes fn.body) (omega arith) (w.named, w.free)
-      (values_fit fn ok shallow))
+      let at = weight fn in
+      let code = statements_code (scope_of fn) fn.body at in
+      let first = first_separators fn in
+      let good = append 456 n first code (first_every (Good 456 n) (omega arith, omega arith, tt) fn)
+      (statements_good program 456 n own w.wide (omega arith) few fn.body (scope_of fn) at
+      (statements_notes fn.body) (omega arith) (w.named, w.free) (values_fit fn ok shallow)) in
+      let ends : AllGood 456 n function_end =
       (constant_good 456 n 0 0 (omega arith), ((omega arith, omega arith, tt), tt)) in
       record {
         parameters = w.parameters;
-        body = small_body 456 n (omega arith) w.room (instructions.Separator ∷ (code ++ ends))
-            (statements_regions fn.body 1) ((omega arith, omega arith, tt), good);
+        surplus = w.light;
+        locals = w.locals;
+        body = small_body 456 n (omega arith) w.room
+            ((first ++ code) ++ function_end) (statements_regions fn.body at)
+            (append 456 n (first ++ code) function_end good ends);
       }
 
   functions_small : (fs : List Function) → functions_sound program.functions fs ≡ true

@@ -4,6 +4,7 @@ use Rattle.std.specs.Prelude.{Bool, true, false, nat_eq, nat_lt, slice_get, take
 use Rattle.lowering_invariants.specs.Words.{Event, W32, W64, low, signed, wrapped, BuiltIn, Put, Protect, RaiseException, Walk, OperationResult, Gives, Raises, Undefined, performed, Exception, is_reserved, of_test, field_of, raised, noncontinuable, raise_event, Slot, Local, Temporary, Instruction, Region, RegionKind, FuncletKind, LinearProgram, LinearFunction, BodyName, FunctionBody, FuncletBody, Frame, Handler, Target, Resumption, AfterCall, SameOperation, Item, Waits, Searches, Unwinds, Store, Configuration, Seen, Finished, Stuck, Next, pick, read, write, with_temporary, with_temporaries, last_temporaries, set_local, at_label, forth, with_last, regions_at, regions_left, handlers, stops, flag_of, run_finally, arrive, target_past, left_store, leave_region, unwind_body, unwind, target_of, accept, consult, search, raise, resumed, answer, is_constant, operand, written, computed, tested, waiting, count_of, built_in, return, end_finally, end_funclet, end_body, not_landed, act, start, main_arguments, IsTurn, IsReached, AreSmall, IsSmallCode, IsSmallException, IsSmallFrame, AreSmallItems, HasSmallNumbers}
 use Rattle.seh_num.specs.declared.event.Event.TheVariants as events
 use Rattle.source_meaning.specs.declared.ended.Ended.TheVariants as ends
+use Rattle.linear_code.specs.Program.{weight}
 use Rattle.linear_code.specs.declared.instruction.Instruction.TheVariants as instructions
 use Rattle.linear_code.specs.declared.program.RegionKind.TheVariants as kinds
 use Rattle.linear_code.specs.declared.program.FuncletKind.TheVariants as funclets
@@ -354,7 +355,7 @@ module _ (program : LinearProgram) where
         some_turn HasSmallNumbers c.events (last_temporaries c.frame.temporaries first count) _
         (λ vs e.
         some_turn HasSmallNumbers c.events (slice_get program.functions f) _ (λ function g.
-        deeper_turn HasSmallNumbers 1 c.frame.held c.store c.events _ (goes _ (
+        deeper_turn HasSmallNumbers (weight function) c.frame.held c.store c.events _ (goes _ (
           (
             record { temporaries = tt; exception = none_small; landed = tt },
             (with_fewer (take first c.frame.temporaries) c

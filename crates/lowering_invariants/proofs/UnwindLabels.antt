@@ -3,12 +3,13 @@
 use Rattle.std.proofs.Common.{◌≡◌, ℕ, ◌+◌, ◌<◌, List, [], ◌∷◌, ◌++◌, length, arith, length-append}
 use Rattle.std.specs.List.{AllByRecursion}
 use Rattle.std.specs.Prelude.{false, slice_get, Some}
-use Rattle.lowering_invariants.specs.Words.{Expression, Function, Statements, Local, Temporary, Instruction, statements_size, statements_notes, Owner, Names, LoweringContext, finally_scope, constant, expression_code, statements_code, finally_funclet, scope_of, lowered_function, runs_blocks, LoweredStaysInside, filter_funclet}
+use Rattle.lowering_invariants.specs.Words.{Expression, Function, weight, Statements, Local, Temporary, Instruction, statements_size, statements_notes, Owner, Names, LoweringContext, finally_scope, expression_code, statements_code, finally_funclet, first_separators, scope_of, lowered_function, runs_blocks, LoweredStaysInside, filter_funclet}
 use Rattle.linear_code.specs.declared.instruction.Instruction.TheVariants as instructions
-use Rattle.lowering_invariants.proofs.Lemmas.{statements_length, statements_have, WaysHave, IsPlaced, any_neutral, statements_every, all_append, HoldsOfInstructions, all_pieces}
+use Rattle.lowering_invariants.proofs.Lemmas.{length_first, statements_length, statements_have, WaysHave, IsPlaced, any_neutral, statements_every, all_append, HoldsOfInstructions, all_pieces}
 use Rattle.lowering_invariants.proofs.EveryBody.{every_body}
 use Rattle.lowering_invariants.proofs.StackTargets.{all_at}
 use Rattle.lowering_invariants.specs.UnwindLabels.{StaysInside}
+use Rattle.lowering_invariants.proofs.FirstSeparators.{first_every, function_end}
 use Rattle.lowering_invariants.proofs.NoBlocks.{RunNoBlocks, expression_no_blocks}
 
 -- ---- so many instructions
@@ -112,20 +113,22 @@ function_stays : (f : Function) → StaysInside (lowered_function f).body
 function_stays f =
     let code = (lowered_function f).body.code in
     let scope = scope_of f in
-    let ends = constant 0 0 ∷ instructions.Return (Temporary 0) ∷ [] in
-    let n = length-append (statements_code scope f.body 1) ends in
-    let l = statements_length scope f.body 1 in
-    stays code (
-      tt,
-      append (length code) (statements_code scope f.body 1) ends
-          (statements_go_in (length code) f.body scope 1
-          (record {
-            exit = (let z : 1 + statements_size f.body + 1 < length code = omega arith in z);
-            loop_end = tt;
-            loop_next = tt;
-            leave = tt;
-          }) (omega arith)) (tt, (tt, tt)),
-    )
+    let at = weight f in
+    let first = first_separators f in
+    let body = statements_code scope f.body at in
+    let m = length-append first body in
+    let n = length-append (first ++ body) function_end in
+    let k = length_first f in
+    let l = statements_length scope f.body at in
+    stays code (append (length code) (first ++ body) function_end
+    (append (length code) first body (first_every (GoesIn (length code)) tt f)
+    (statements_go_in (length code) f.body scope at
+    (record {
+      exit = (let z : at + statements_size f.body + 1 < length code = omega arith in z);
+      loop_end = tt;
+      loop_next = tt;
+      leave = tt;
+    }) (omega arith))) (tt, (tt, tt)))
 
 pub lowered_stays_inside : LoweredStaysInside
 lowered_stays_inside = every_body StaysInside filter_stays block_stays function_stays

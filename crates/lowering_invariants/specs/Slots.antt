@@ -1,5 +1,5 @@
 -- Linear code whose slots and arguments are within bounds.
-use Rattle.std.specs.Prelude.{ℕ, ◌<◌, ◌≤◌, length, Option, Some, None}
+use Rattle.std.specs.Prelude.{ℕ, ◌+◌, ◌*◌, ◌<◌, ◌≤◌, length, Option, Some, None}
 use Rattle.std.specs.List.{AllByRecursion}
 use Rattle.seh_num.specs.declared.limit.TheConstants.{MOST_PARAMETERS, MOST_GLOBALS}
 use Rattle.seh_num.specs.declared.size.TheConstants.{EXCEPTION_MAXIMUM_PARAMETERS}
@@ -35,12 +35,11 @@ IsPlain n (instructions.Call function first count) = count ≤ MOST_PARAMETERS
 IsPlain n (instructions.Return from) = IsAmong n from
 IsPlain n other = Unit {0}
 
--- a body uses at most 1,000 words, and beside the locals, which lie in the frame of a function
--- alone, at most 460
+-- a body uses at most 460 words beside the locals, which lie in the frame of a function alone
 pub record IsSmallBody (b : LinearBody) : Type 0 where
   pub passed : b.passed ≤ 4
   pub temporaries : b.temporaries ≤ 456
-  pub locals : b.locals ≤ 540
+  pub locals : b.locals ≤ 66000
   pub code : AllByRecursion (IsPlain b.locals) b.code
 
 -- ---- programs
@@ -59,8 +58,11 @@ pub record IsSmallFunclet (p : LinearProgram) (f : LinearFunclet) : Type 0 where
   pub parent : HasParent p f.parent
   pub body : IsSmallBody f.body
 
+-- a function uses at most 1,000 words, and 1,024 more for each 1 that it weighs above 1
 pub record IsSmallFunction (f : LinearFunction) : Type 0 where
   pub parameters : f.parameters ≤ MOST_PARAMETERS
+  pub surplus : f.surplus ≤ 64
+  pub locals : f.body.locals ≤ 540 + 1024 * f.surplus
   pub body : IsSmallBody f.body
 
 -- within the limits of frames

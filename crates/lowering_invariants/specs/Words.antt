@@ -14,7 +14,7 @@ pub use Rattle.c_operations.specs.declared.operation.Pure.{Pure}
 pub use Rattle.c_operations.specs.declared.operation.Signedness.TheVariants.{Signed, Unsigned}
 pub use Rattle.c_operations.specs.declared.operation.Size.TheVariants.{Long}
 pub use Rattle.c_checked.specs.Expression.{Expression, On, Node, Lvalue, Global, Indirection, Element, Arguments, Done}
-pub use Rattle.c_checked.specs.Program.{Program, Function}
+pub use Rattle.c_checked.specs.Program.{Program, Function, surplus, weight}
 pub use Rattle.c_checked.specs.Sound.{funclets, functions_sound, IsSound, count_up, function_sound, main_sound, Inside, funclets_in, optional_sound, test_sound, value_fits, declared_sound, all_declared_sound, result_sound, filter_sound, expression_sound, statement_sound, statements_sound}
 pub use Rattle.c_checked.specs.Statement.{Statements, Declared, Filter, Always, Funclet, Statement, Declare, Block, Evaluate, If, IfElse, For, DoWhile, Return, Break, Continue, Leave, TryExcept, TryFinally, Empty, Then}
 pub use Rattle.c_checked.specs.declared.expression.Access.{Access}
@@ -51,7 +51,7 @@ pub use Rattle.lowering_expressions.specs.declared.scope.Names.{Names}
 pub use Rattle.lowering_expressions.specs.declared.scope.Way.{Way}
 pub use Rattle.lowering_expressions.specs.declared.scope.Way.TheVariants.{Nowhere, Jumps}
 pub use Rattle.seh_ir.specs.Funclets.{finally_funclet, filter_funclet, filter_funclets, in_funclet, statement_funclets, statements_funclets}
-pub use Rattle.seh_ir.specs.Lowered.{own_locals, all_locals, scope_of, lowered_function, lowered_funclets, all_funclets, lowered}
+pub use Rattle.seh_ir.specs.Lowered.{own_locals, all_locals, first_separators, scope_of, lowered_function, lowered_funclets, all_funclets, lowered}
 pub use Rattle.seh_ir.specs.Regions.{statements_regions, except_kind, region, statement_regions}
 pub use Rattle.seh_ir.specs.Slots.{instruction_temporaries, instruction_passes, temporaries_in, passed_in, body_with, slot_temporaries}
 pub use Rattle.seh_ir.specs.Statements.{statements_code, return_code, returned_code, repeated, jump_code, leave_code, discarded_code, condition_code, initialiser_code, declared_code, all_declared_code, landed, statement_code}

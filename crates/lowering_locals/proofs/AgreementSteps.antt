@@ -2,6 +2,7 @@
 use Rattle.std.proofs.Common.{◌≡◌, ℕ, zero, ◌+◌, ◌-◌, List, [], ◌∷◌, ◌++◌, length, refl, sym, ap, subst, ◌∙◌}
 use Rattle.std.specs.List.{AllByRecursion}
 use Rattle.std.specs.Prelude.{false, nat_lt, slice_get, replicate, Option, Some}
+use Rattle.linear_code.specs.Program.{weight}
 use Rattle.lowering_locals.specs.Words.{Deep, LinearProgram, LinearFunction, Frame, Waits, Configuration, Seen, Finished, Next, pick, with_some, deeper, last_temporaries, body_of, begin_function, waiting, act, instruction_at, instruction_in, start, main_arguments, Marks, next_marks, AreAlike, GoAlike, start_marks, called, IsReached}
 use Rattle.linear_code.specs.declared.instruction.Instruction.TheVariants as instructions
 use Rattle.lowering_invariants.specs.SmallNumbers.{AreSmall, HasSmallNumbers}
@@ -82,7 +83,8 @@ call_goes : (program : LinearProgram) (c : Configuration) (f first count : ℕ)
     (function : LinearFunction) (arguments values : List ℕ)
     → last_temporaries c.frame.temporaries first count ≡ Some arguments
     → slice_get program.functions f ≡ Some function
-    → nat_lt 1000 (length c.store.activations + c.frame.held + 1) ≡ false → (next : Next)
+    → nat_lt 1000 (length c.store.activations + c.frame.held + weight function) ≡ false
+    → (next : Next)
     → act program (instructions.Call f first count) next c
     ≡ next (called c c f first function arguments values)
 unfolding pick with_some
@@ -92,9 +94,10 @@ call_goes program c f first count function arguments values e g n next =
     c.events) in
     ap (λ (o : Option (List ℕ)). with_some c.events o
     (λ vs. with_some c.events (slice_get program.functions f)
-    (λ function. deeper 1 c.frame.held c.store c.events (begun vs function)))) e
+    (λ function. deeper (weight function) c.frame.held c.store c.events (begun vs function)))) e
     ∙ ap (λ (o : Option LinearFunction). with_some c.events o
-    (λ function. deeper 1 c.frame.held c.store c.events (begun arguments function))) g
+    (λ function. deeper (weight function) c.frame.held c.store c.events
+    (begun arguments function))) g
     ∙ ap (λ b. pick b (Finished (Deep 1001) c.events) (begun arguments function)) n
 
 pub agreement_at_call : AgreementAtCall
@@ -105,9 +108,10 @@ agreement_at_call program c d f first count function arguments values t at e g n
     let own : last_temporaries c.frame.temporaries first count
     ≡ Some arguments = ap (λ (k : Frame). last_temporaries k.temporaries first count)
     (sym t.alike.frame) ∙ e in
-    let held : nat_lt 1000 (length c.store.activations + c.frame.held + 1) ≡ false =
-    ap (λ (k : Frame). nat_lt 1000 (length c.store.activations + k.held + 1)) (sym t.alike.frame)
-    ∙ ap (λ m. nat_lt 1000 (m + d.frame.held + 1))
+    let held : nat_lt 1000 (length c.store.activations + c.frame.held + weight function)
+    ≡ false =
+    ap (λ (k : Frame). nat_lt 1000 (length c.store.activations + k.held + weight function))
+    (sym t.alike.frame) ∙ ap (λ m. nat_lt 1000 (m + d.frame.held + weight function))
     (sym (as_long t.marks c.store.activations d.store.activations t.alike.activations)) ∙ n in
     let goes = call_goes program c f first count function arguments values own g held in
     let on = called c d f first function arguments values in

@@ -1,18 +1,17 @@
 -- The sets of a whole program tell what has been set.
 use Rattle.std.proofs.Common.{◌≡◌, ℕ, zero, suc, ◌+◌, ◌<◌, ◌≤◌, List, [], ◌∷◌, ◌++◌, length, map, refl, sym, ap, subst, ◌∙◌, arith, length-append}
-use Rattle.std.proofs.lemmas.List.{length-map}
+use Rattle.std.proofs.lemmas.List.{length-map, length-replicate}
 use Rattle.std.proofs.lemmas.Option.{slice_get_within}
 use Rattle.std.specs.Prelude.{true, slice_get, replicate, get_or, Option, Some, None}
-use Rattle.lowering_locals.specs.Words.{funclets, IsSound, function_sound, functions_sound, Temporary, LinearProgram, LinearBody, LinearFunction, LinearFunclet, BodyName, FunctionBody, FuncletBody, funclet_body, body_of, function_body, flag_of, statements_size, Owner, statements_code, SeenNames, IsPart, first_seen, function_within, functions_within, IsScoped, function_locals, IsSetBody, IsSetMap, statements_sets, statements_funclet_sets, parameters_seen, function_sets, all_funclet_sets, list_of, sets_of, constant}
-use Rattle.c_checked.specs.Program.{Program, Function}
+use Rattle.lowering_locals.specs.Words.{funclets, IsSound, function_sound, functions_sound, LinearProgram, LinearBody, LinearFunction, LinearFunclet, BodyName, FunctionBody, FuncletBody, funclet_body, body_of, function_body, flag_of, statements_size, Owner, statements_code, SeenNames, IsPart, first_seen, function_within, functions_within, IsScoped, function_locals, IsSetBody, IsSetMap, statements_sets, statements_funclet_sets, parameters_seen, function_sets, all_funclet_sets, list_of, sets_of}
+use Rattle.c_checked.specs.Program.{Program, Function, weight}
 use Rattle.c_checked.specs.Sound as sound
-use Rattle.linear_code.specs.declared.instruction.Instruction.TheVariants as instructions
-use Rattle.lowering_locals.proofs.Lemmas.{Range, part_of, both_parts, no_part, one_part, statements_length, statements_count, IsSegmentAt, front, back, whole_is_at, same_it, both_left, both_right, itself, is_parameter, within}
-use Rattle.seh_ir.specs.Lowered.{own_locals, all_locals, scope_of, lowered_function, lowered_funclets, all_funclets, lowered}
+use Rattle.lowering_locals.proofs.Lemmas.{length_first, first_every, function_end, Range, part_of, both_parts, no_part, one_part, statements_length, statements_count, IsSegmentAt, front, back, whole_is_at, same_it, both_left, both_right, itself, is_parameter, within}
+use Rattle.seh_ir.specs.Lowered.{own_locals, all_locals, first_separators, scope_of, lowered_function, lowered_funclets, all_funclets, lowered}
 use Rattle.lowering_invariants.proofs.Lowered.{lowered_is_whole}
 use Rattle.lowering_locals.proofs.RunSets.{set_map_reads_no_unset}
 use Rattle.lowering_locals.specs.ScopedLaws.{ScopedHasSetMap, ScopedReadsNoUnset}
-use Rattle.lowering_locals.proofs.StraightCode.{is_same, is_same_back, head_recorded, both_lead}
+use Rattle.lowering_locals.proofs.StraightCode.{is_same, is_same_back, head_recorded, even_list, Fine as FineIn, straight, both_lead}
 use Rattle.lowering_locals.proofs.SetLists.{statements_long, statements_many, statements_first, begins}
 use Rattle.lowering_locals.proofs.SetPlaces.{WithSets, IsFine, IsPlace, HasFunclets, has_front, has_back, whole_body}
 use Rattle.lowering_locals.proofs.SetParts.{statements_are_set}
@@ -80,19 +79,26 @@ module _ (program : Program) where
       let body = (lowered_function fn).body in
       let ll = statements_sets own seen fn.body in
       let list = function_sets fn in
+      let at = weight fn in
+      let first = replicate at seen in
+      let code = statements_code scope fn.body at in
       let long = statements_long fn.body own seen in
-      let lc = statements_length scope fn.body 1 in
+      let many = length-replicate at seen in
+      let both = length-append first ll in
+      let lf = length_first fn in
+      let lc = statements_length scope fn.body at in
+      let lb = length-append (first_separators fn) code in
       let ls = length-append fn.parameters fn.locals in
-      let end = 1 + size in
+      let end = at + size in
       let whole : IsSegmentAt (lists name) 0 list = subst
       (λ (l : List SeenNames). IsSegmentAt l 0 list) (sym recorded) (whole_is_at list) in
-      let here_first = head_recorded (lists name) 0 seen (ll ++ replicate 2 seen) whole in
-      let tail = back (lists name) 1 end ll (replicate 2 seen) (omega arith) whole.1 in
+      let tail = back (lists name) 0 end (first ++ ll) (replicate 2 seen) (omega arith) whole in
       let here = head_recorded (lists name) end seen (seen ∷ []) tail in
       let here_exit = head_recorded (lists name) (end + 1) seen [] tail.1 in
-      let front_part = front (lists name) 1 ll (replicate 2 seen) whole.1 in
+      let begins_part = front (lists name) 0 (first ++ ll) (replicate 2 seen) whole in
+      let front_part = back (lists name) 0 at first ll (omega arith) begins_part in
       let recorded_end = is_same (sets name end) seen here in
-      let start = begins (lists name) 1 end ll seen seen front_part
+      let start = begins (lists name) at end ll seen seen front_part
       (statements_first fn.body own seen seen (itself seen)) (omega arith) recorded_end in
       let few : length fn.parameters ≤ all_locals fn = omega arith in
       let place : IsPlace with_sets name (owner number fn) scope seen
@@ -111,23 +117,26 @@ module _ (program : Program) where
         leave = tt;
       } in
       let x = statements_are_set with_sets fn.body name (owner number fn)
-      (inside_function program fn) scope seen seen 1 j place (omega arith) (omega arith)
+      (inside_function program fn) scope seen seen at j place (omega arith) (omega arith)
       (both_left _ _ (both_left _ _ ok)) w front_part recorded_end f in
-      let begun = within (sets name 1) seen (sets name 0) start
-      (is_same_back (sets name 0) seen here_first) in
+      let even = even_list (lists name) seen at 0 at (omega arith)
+      (front (lists name) 0 first ll begins_part) start in
+      let begun = straight linear sets name (all_locals fn) (ap function_locals there) seen 0 at
+      even 0 (first_separators fn) (omega arith) (omega arith)
+      (first_every (FineIn (all_locals fn) 0 at seen) tt fn) in
       let next = within (sets name (end + 1)) seen (sets name end)
       (is_same (sets name (end + 1)) seen here_exit) (is_same_back (sets name end) seen here) in
-      let leads = both_lead linear sets name 1 end (statements_code scope fn.body 1)
-      (constant 0 0 ∷ instructions.Return (Temporary 0) ∷ []) (omega arith) x.leads
-      ((tt, tt, next), (tt, tt)) in
+      let leads = both_lead linear sets name 0 end (first_separators fn ++ code) function_end
+      (omega arith) (both_lead linear sets name 0 at (first_separators fn) code (omega arith) begun
+      x.leads) ((tt, tt, next), (tt, tt)) in
       let set : IsSetBody linear sets name body = whole_body with_sets name
-      body (begun, leads) x.regions in (
+      body leads x.regions in (
         record {
           body = λ b e. subst (IsSetBody linear sets name)
               (same_it body b (sym (ap function_body there) ∙ e)) set;
           begun = λ g e. subst (λ (h : LinearFunction). IsPart (sets name 0)
               (first_seen h.parameters)) (same_it (lowered_function fn) g (sym there ∙ e))
-              (is_same (sets name 0) seen here_first);
+              (is_same (sets name 0) seen (even.inside 0 (omega arith) (omega arith)));
         },
         x.funclets,
       )

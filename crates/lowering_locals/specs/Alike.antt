@@ -1,5 +1,5 @@
 -- Configurations that differ in locals alone that haven't been set.
-use Rattle.std.specs.Prelude.{◌≡◌, ℕ, Bool, true, false, List, [], ◌∷◌, ◌++◌, length, None}
+use Rattle.std.specs.Prelude.{◌≡◌, ℕ, ◌+◌, Bool, true, false, List, [], ◌∷◌, ◌++◌, length, None}
 use Rattle.seh_num.specs.declared.event.Event.{Event}
 use Rattle.linear_code.specs.Program.{LinearProgram, LinearFunction}
 use Rattle.linear_code.specs.declared.instruction.Instruction.{Instruction}
@@ -35,7 +35,8 @@ pub record AreAlike (marks : Marks) (c d : Configuration) : Type 0 where
   pub events : d.events ≡ c.events
   pub activations : AreActivationsAlike marks c.store.activations d.store.activations
 
--- a function begins: its arguments are its first locals, and the others are these numbers
+-- a function begins: its arguments are its first locals, and the others are these numbers; what it
+-- weighs above 1 is held until it ends
 abbrev pub freshly : ℕ → LinearFunction → List ℕ → List ℕ → ℕ → List Item → Store → List Event
     → Configuration
 freshly f function arguments values held below store es = record {
@@ -45,7 +46,7 @@ freshly f function arguments values held below store es = record {
         next = 0;
         activation = length store.activations;
         exception = no_exception;
-        held = held;
+        held = held + function.surplus;
         temporaries = [];
         landed = None;
       };

@@ -4,7 +4,7 @@
 use Rattle.std.specs.Prelude.{ℕ, suc, ◌+◌, false, List, [], ◌∷◌, ◌++◌, length, map, replicate, get_or, Option, Some, None}
 use Rattle.c_checked.specs.Expression.{Expression}
 use Rattle.c_checked.specs.Statement.{Declared, Filter, Always, Funclet, Statement, Declare, Block, Evaluate, If, IfElse, For, DoWhile, Return, Break, Continue, Leave, TryExcept, TryFinally, Statements, Empty, Then}
-use Rattle.c_checked.specs.Program.{Program, Function}
+use Rattle.c_checked.specs.Program.{Program, Function, weight}
 use Rattle.linear_machine.specs.Frames.{BodyName, FunctionBody, FuncletBody}
 use Rattle.lowering_sizes.specs.Sizes.{expression_size, discarded_size, condition_size, returned_size}
 use Rattle.seh_ir.specs.Lowered.{own_locals}
@@ -102,10 +102,11 @@ abbrev mutual
 abbrev pub parameters_seen : Function → SeenNames
 parameters_seen f = first_seen (length f.parameters)
 
--- where a function begins and at its end its parameters are seen
+-- at the separators that a function begins with, and at its end, its parameters are seen
 abbrev pub function_sets : Function → List SeenNames
 function_sets f =
-    parameters_seen f ∷ statements_sets (own_locals f) (parameters_seen f) f.body
+    replicate (weight f) (parameters_seen f)
+    ++ statements_sets (own_locals f) (parameters_seen f) f.body
     ++ replicate 2 (parameters_seen f)
 
 abbrev pub all_funclet_sets : List Function → List (List SeenNames)

@@ -1,7 +1,8 @@
 -- The home space and the places of further arguments at the bottom of a caller's frame are its
 -- callee's (Microsoft x64 ABI, "Stack allocation"): a change of them leaves the list as it is.
 use Rattle.std.proofs.Common.{◌≡◌, ℕ, ◌+◌, ◌*◌, ◌≤◌, true, false, Option, Some, None, List, [], ◌∷◌, refl, sym, subst, ◌∙◌, arith, inr}
-use Rattle.match_bodies.specs.Words.{STACK_START, STACK_END, Memory, Context, get, rsp, Functions, Funclet, Layout, LinearProgram, LinearBody, BodyName, FunctionBody, FuncletBody, body_of, Frame, Item, Waits, Searches, Unwinds, StackFrame, StackItem, Framed, Leaf, Searching, Unwinding, IsStack, after_frame, ImagePlan, Activation, activations_below, temporaries_end, HasActivation, HasPointers, IsAbove, Linked, IsLinkedStack, IsFunctionLayout, IsLayoutIf, IsLaidOut, AreLaidOut, KeepsStackBut}
+use Rattle.std.specs.Prelude.{slice_get}
+use Rattle.match_bodies.specs.Words.{weight_of, STACK_START, STACK_END, Memory, Context, get, rsp, Functions, Funclet, Layout, LinearProgram, LinearBody, BodyName, FunctionBody, FuncletBody, body_of, Frame, Item, Waits, Searches, Unwinds, StackFrame, StackItem, Framed, Leaf, Searching, Unwinding, IsStack, after_frame, ImagePlan, Activation, activations_below, temporaries_end, HasActivation, HasPointers, IsAbove, Linked, IsLinkedStack, IsFunctionLayout, IsLayoutIf, IsLaidOut, AreLaidOut, KeepsStackBut}
 use Rattle.match_bodies.proofs.Lemmas.{places_fit, end_within, in_stack, ReadsSame, higher, frame_above, words_kept, places_kept, list_kept, reads_other}
 
 module _ (m m' : Memory) (t : Functions) (fs : List Funclet) (program : LinearProgram)
@@ -34,7 +35,9 @@ module _ (m m' : Memory) (t : Functions) (fs : List Funclet) (program : LinearPr
     above_home now register b size k [] (FunctionBody f) few framed l h = absurd h
     above_home now register b size k (a ∷ outer) (FunctionBody f) few framed l h =
         let y = p.layout (FunctionBody f) in
-        let g : IsFunctionLayout y b = subst (λ x. IsLayoutIf program p y b x) framed l in
+        let weight = weight_of (slice_get program.functions f) in
+        let g : IsFunctionLayout weight y b = subst (λ x. IsLayoutIf program p weight y b x) framed
+        l in
         let q = g.passed in
         let r = g.temporaries in
         let w = places_fit m now register 0 (rsp c + y.locals) (rsp c + size) a.values h.values in

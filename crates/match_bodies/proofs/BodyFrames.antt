@@ -1,8 +1,8 @@
 -- The frames of bodies, as their codes tell: what of them is to be undone, and what keeps them.
 use Rattle.std.proofs.Common.{◌≡◌, ℕ, suc, ◌+◌, ◌^◌, ◌<◌, ◌≤◌, Bool, true, false, Some, Ok, List, length, drop, refl, sym, ap, subst, ◌∙◌, arith}
-use Rattle.std.specs.Prelude.{slice_index}
+use Rattle.std.specs.Prelude.{slice_get, slice_index}
 use Rattle.std.proofs.lemmas.Bool.{eqb-false, not-true}
-use Rattle.match_bodies.specs.Words.{Memory, Rsp, Context, context_of, kept_of, State, register, rsp, word, LinearBody, BodyName, FunctionBody, FuncletBody, body_of, Configuration, StackFrame, frame_of, HasFrame, IsFramed, Setting, Layout, IsWellFormed, AllSmall, IsAsTold, IsOwed, nothing_owed, owed_of, owed_by, caller_owed, get, Reg, KeepsRegisters, InRegister, place_of}
+use Rattle.match_bodies.specs.Words.{weight_of, Memory, Rsp, Context, context_of, kept_of, State, register, rsp, word, LinearBody, BodyName, FunctionBody, FuncletBody, body_of, Configuration, StackFrame, frame_of, HasFrame, IsFramed, Setting, Layout, IsWellFormed, AllSmall, IsAsTold, IsOwed, nothing_owed, owed_of, owed_by, caller_owed, get, Reg, KeepsRegisters, InRegister, place_of}
 use Rattle.virtual_unwind.specs.CallerOf.{has_frame, sets_frame}
 use Rattle.virtual_unwind.specs.Undone.{operations}
 use Rattle.frame_rules.specs.Bytes.{spell}
@@ -69,8 +69,8 @@ module _ (setting : Setting) where
         some : (n : BodyName) → IsLaidOut program p n b → p.leaf n ≡ false
             → 0 < (p.layout n).slots
         some (FunctionBody f) h e =
-            let l = subst (λ (leaf : Bool). IsLayoutIf program p (p.layout (FunctionBody f)) b leaf)
-            e h in
+            let l = subst (λ (leaf : Bool). IsLayoutIf program p
+            (weight_of (slice_get program.functions f)) (p.layout (FunctionBody f)) b leaf) e h in
             let passed = l.passed in
             let temporaries = l.temporaries in
             let locals = l.locals in
@@ -88,8 +88,8 @@ module _ (setting : Setting) where
         by : (n : BodyName) → IsLaidOut program p n b → p.leaf n ≡ false
             → IsFramePlan (p.layout n) (plan_of_layout (p.layout n) 0)
         by (FunctionBody f) h e =
-            let l = subst (λ (leaf : Bool). IsLayoutIf program p (p.layout (FunctionBody f)) b leaf)
-            e h in
+            let l = subst (λ (leaf : Bool). IsLayoutIf program p
+            (weight_of (slice_get program.functions f)) (p.layout (FunctionBody f)) b leaf) e h in
             l.plan
         by (FuncletBody k) h e = h.layout.plan
 
@@ -97,14 +97,15 @@ module _ (setting : Setting) where
     pub saved_few : saved_count (plan_of_layout (p.layout name) 0) ≤ 8
     saved_few = by name (image.laid_out name b is)
       where
-        by_leaf : (y : Layout) (leaf : Bool) → IsLayoutIf program p y b leaf
+        by_leaf : (weight : ℕ) (y : Layout) (leaf : Bool) → IsLayoutIf program p weight y b leaf
             → saved_count (plan_of_layout y 0) ≤ 8
-        by_leaf y true l = let e = ap saved_count l.plan in omega arith
-        by_leaf y false l = l.few
+        by_leaf weight y true l = let e = ap saved_count l.plan in omega arith
+        by_leaf weight y false l = l.few
 
         by : (n : BodyName) → IsLaidOut program p n b
             → saved_count (plan_of_layout (p.layout n) 0) ≤ 8
-        by (FunctionBody f) h = by_leaf (p.layout (FunctionBody f)) (p.leaf (FunctionBody f)) h
+        by (FunctionBody f) h = by_leaf (weight_of (slice_get program.functions f))
+            (p.layout (FunctionBody f)) (p.leaf (FunctionBody f)) h
         by (FuncletBody k) h = let bare = h.layout.bare in omega arith
 
     -- so its epilogue has so many instructions
@@ -130,12 +131,14 @@ module _ (setting : Setting) where
     pub slots_within : (p.layout name).slots ≤ (p.layout name).frame
     slots_within = by name (image.laid_out name b is)
       where
-        by_leaf : (y : Layout) (leaf : Bool) → IsLayoutIf program p y b leaf → y.slots ≤ y.frame
-        by_leaf y true l = let none = l.slots in omega arith
-        by_leaf y false l = l.within
+        by_leaf : (weight : ℕ) (y : Layout) (leaf : Bool) → IsLayoutIf program p weight y b leaf
+            → y.slots ≤ y.frame
+        by_leaf weight y true l = let none = l.slots in omega arith
+        by_leaf weight y false l = l.within
 
         by : (n : BodyName) → IsLaidOut program p n b → (p.layout n).slots ≤ (p.layout n).frame
-        by (FunctionBody f) h = by_leaf (p.layout (FunctionBody f)) (p.leaf (FunctionBody f)) h
+        by (FunctionBody f) h = by_leaf (weight_of (slice_get program.functions f))
+            (p.layout (FunctionBody f)) (p.leaf (FunctionBody f)) h
         by (FuncletBody k) h = h.layout.within
 
     abbrev framing : FramePlan
@@ -143,20 +146,20 @@ module _ (setting : Setting) where
 
     -- its codes are those of its plan
     pub codes_are : p.leaf name ≡ false
-        → operations (p.entry name).info.codes ≡ operations_of framing
+        → operations (p.entry name 0).info.codes ≡ operations_of framing
     codes_are e = ap operations (image.plans name b is e).codes ∙ codes_plan spell framing
 
     -- and save the registers of its locals
     locals_saved : p.leaf name ≡ false
-        → SavesLocals (p.layout name) (operations (p.entry name).info.codes)
+        → SavesLocals (p.layout name) (operations (p.entry name 0).info.codes)
     locals_saved e x r at = subst (λ ops. is_saved (number r) ops ≡ true) (sym (codes_are e))
         (by name (image.laid_out name b is) e x r at)
       where
         by : (n : BodyName) → IsLaidOut program p n b → p.leaf n ≡ false
             → SavesLocals (p.layout n) (operations_of (plan_of_layout (p.layout n) 0))
         by (FunctionBody f) h e =
-            let l = subst (λ (leaf : Bool). IsLayoutIf program p (p.layout (FunctionBody f)) b leaf)
-            e h in
+            let l = subst (λ (leaf : Bool). IsLayoutIf program p
+            (weight_of (slice_get program.functions f)) (p.layout (FunctionBody f)) b leaf) e h in
             l.saves
         by (FuncletBody k) h e =
             λ x r at. absurd (not_in_register r (sym (h.layout.in_frame x) ∙ at))
@@ -169,7 +172,7 @@ module _ (setting : Setting) where
         local : is_of_local r ≡ true
         local = place_is_local (p.layout name) x r at
 
-        by : (leaf : Bool) → p.leaf name ≡ leaf → IsOwn (owed_by (p.entry name).info leaf) r
+        by : (leaf : Bool) → p.leaf name ≡ leaf → IsOwn (owed_by (p.entry name 0).info leaf) r
         by false e = record {
           local = local;
           saved = locals_saved e x r at;
@@ -181,20 +184,20 @@ module _ (setting : Setting) where
             absurd (leaf_in_none (p.layout name) leaf.in_frame x r at)
 
     -- where it has a frame register, its codes set it
-    sets : p.leaf name ≡ false → has_frame (p.entry name).info ≡ true
-        → sets_frame (operations (p.entry name).info.codes) ≡ true
+    sets : p.leaf name ≡ false → has_frame (p.entry name 0).info ≡ true
+        → sets_frame (operations (p.entry name 0).info.codes) ≡ true
     sets e h =
         let same = (image.plans name b is e).frame_register in
         ap sets_frame (codes_are e) ∙ framed_plan framing
-        (λ z. eqb-false (p.entry name).info.frame_register 0 (not-true _ h) (same ∙ z))
+        (λ z. eqb-false (p.entry name 0).info.frame_register 0 (not-true _ h) (same ∙ z))
 
     -- what its codes tell of is owed
     pub framed_owed : (m : Memory) (c : Context) (back : ℕ) (others : List ℕ) → p.leaf name ≡ false
         → IsFramed p m name c back others
         → IsOwed m c (owed_of p name) (p.layout name).frame back others
     framed_owed m c back others e h =
-        subst (λ (leaf : Bool). IsOwed m c (owed_by (p.entry name).info leaf) (p.layout name).frame
-        back others) (sym e)
+        subst (λ (leaf : Bool). IsOwed m c (owed_by (p.entry name 0).info leaf)
+        (p.layout name).frame back others) (sym e)
         (record {
           kept = h.kept;
           eight = h.eight;
@@ -219,7 +222,7 @@ module _ (setting : Setting) where
         codes_depth = by (p.leaf name) refl
           where
             by : (leaf : Bool) → p.leaf name ≡ leaf
-                → depth (owed_by (p.entry name).info leaf).codes ≡ (p.layout name).frame
+                → depth (owed_by (p.entry name 0).info leaf).codes ≡ (p.layout name).frame
             by false e = ap depth (codes_are e)
                 ∙ plan_depth framing (p.layout name).frame (frame_plan_is e).whole
             by true e = sym (leaf_layout t fs program p q name b e
@@ -227,7 +230,7 @@ module _ (setting : Setting) where
 
     -- nothing that they tell of is below its slots
     above_slots : p.leaf name ≡ false → (at : ℕ)
-        → AreAbove (at + (p.layout name).slots) at at (operations (p.entry name).info.codes)
+        → AreAbove (at + (p.layout name).slots) at at (operations (p.entry name 0).info.codes)
     above_slots e at =
         let plan = frame_plan_is e in
         subst (AreAbove (at + (p.layout name).slots) at at) (sym (codes_are e))
@@ -238,7 +241,7 @@ module _ (setting : Setting) where
         → p.leaf name ≡ false → IsOwed m c (owed_of p name) size back others
         → IsFramed p m name c back others
     owed_framed m c size back others e o =
-        let i = (p.entry name).info in
+        let i = (p.entry name 0).info in
         let h = subst (λ (leaf : Bool). IsOwed m c (owed_by i leaf) size back others) e o in
         let whole = owed_frame m c size back others o in
         let k = subst (λ n. IsOwed m c (owed_by i false) n back others) whole h in
@@ -266,7 +269,7 @@ module _ (setting : Setting) where
     codes_above at = by (p.leaf name) refl
       where
         by : (leaf : Bool) → p.leaf name ≡ leaf → AreAbove (at + (p.layout name).slots) at at
-            (owed_by (p.entry name).info leaf).codes
+            (owed_by (p.entry name 0).info leaf).codes
         by false e = above_slots e at
         by true e =
             let none = (leaf_layout t fs program p q name b e (image.laid_out name b is)).slots in
@@ -281,7 +284,7 @@ module _ (setting : Setting) where
         by : (leaf : Bool) → p.leaf name ≡ leaf → HasFrame s leaf (frame_of p name back others)
         by false e = (owed_framed s.memory (context_of s.cpu) size back others e o).is_told
         by true e =
-            let i = (p.entry name).info in
+            let i = (p.entry name 0).info in
             let n = at_return s.memory (context_of s.cpu) size back others (subst (λ (leaf : Bool).
             IsOwed s.memory (context_of s.cpu) (owed_by i leaf) size back others) e o) in
             record { returns = n.returns; others = n.others_are }
@@ -335,7 +338,7 @@ module _ (setting : Setting) where
             (record { kept = refl; eight = eight; room = room; is_told = h })
         by true e h =
             let none = (leaf_layout t fs program p q name b e (image.laid_out name b is)).frame in
-            subst (λ (leaf : Bool). IsOwed s.memory c (owed_by (p.entry name).info leaf)
+            subst (λ (leaf : Bool). IsOwed s.memory c (owed_by (p.entry name 0).info leaf)
             (p.layout name).frame back others) (sym e)
             (subst (λ n. IsOwed s.memory c nothing_owed n back others) (sym none)
             (subst (IsOwed s.memory c nothing_owed 0 back) h.others

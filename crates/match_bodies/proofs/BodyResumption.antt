@@ -69,12 +69,18 @@ module _ (t : Functions) (fs : List Funclet) (program : LinearProgram) (p : Imag
         by_funclet f below h = absurd h
 
     module _ (image : IsProgramImage t fs program p q) where
+      -- the entry of a body's instruction is the one that the body begins in
+      same_entry : (f : StackFrame) (name : BodyName) (b : LinearBody) (label : ℕ)
+          → body_of program name ≡ Some b → f.entry ≡ p.entry name label → f.entry ≡ p.entry name 0
+      same_entry f name b label there entry = entry ∙ (image.pieces name b there).entries label 0
+
       pub frame_size : (m : Memory) (c : Context) (f : StackFrame) (name : BodyName)
-          (b : LinearBody)
-          → body_of program name ≡ Some b → p.leaf name ≡ false → f.entry ≡ p.entry name
+          (b : LinearBody) (label : ℕ)
+          → body_of program name ≡ Some b → p.leaf name ≡ false → f.entry ≡ p.entry name label
           → FrameIsAt t m c f → f.size ≡ (p.layout name).frame
-      frame_size m c f name b there leaf entry s =
-          let codes = ap (λ (e : Entry). operations e.info.codes) entry
+      frame_size m c f name b label there leaf entry s =
+          let codes = ap (λ (e : Entry). operations e.info.codes)
+          (same_entry f name b label there entry)
           ∙ codes_are (setting_of t fs program p q image) name b there leaf in
           let plan = frame_plan_is (setting_of t fs program p q image) name b there leaf in
           let d =
@@ -84,13 +90,14 @@ module _ (t : Functions) (fs : List Funclet) (program : LinearProgram) (p : Imag
 
       -- it is the body's
       pub frame_is : (m : Memory) (c : Context) (f : StackFrame) (name : BodyName) (b : LinearBody)
-          → body_of program name ≡ Some b → p.leaf name ≡ false → f.entry ≡ p.entry name
+          (label : ℕ)
+          → body_of program name ≡ Some b → p.leaf name ≡ false → f.entry ≡ p.entry name label
           → f.slots ≡ (p.layout name).slots → FrameIsAt t m c f
           → f ≡ frame_of p name f.return_address f.others
-      frame_is m c f name b there leaf entry slots s = λ i. record {
-        entry = entry i;
+      frame_is m c f name b label there leaf entry slots s = λ i. record {
+        entry = same_entry f name b label there entry i;
         slots = slots i;
-        size = frame_size m c f name b there leaf entry s i;
+        size = frame_size m c f name b label there leaf entry s i;
         return_address = f.return_address;
         others = f.others;
       }
@@ -112,7 +119,7 @@ module _ (t : Functions) (fs : List Funclet) (program : LinearProgram) (p : Imag
           let l = on.is_there.linked in
           let w = l.0.waits in
           let b' = again b label ts landed in
-          let size = frame_size m c f name w.code w.body l.0.framed l.0.entry s.0 in
+          let size = frame_size m c f name w.code w.label w.body l.0.framed l.0.entry s.0 in
           let sp : register u.cpu Rsp ≡ rsp c = ap (λ (ks : List ℕ). slice_index ks 0) same in
           let up : rsp c + f.size + 8 ≡ register u.cpu Rsp + y.frame + 8 =
           omega (arith, sp, size) in
@@ -154,7 +161,7 @@ module _ (t : Functions) (fs : List Funclet) (program : LinearProgram) (p : Imag
                 f.others)) (sym l.0.framed)
                 (told_with m c (context_of u.cpu) (frame_of p name f.return_address f.others) same
                 (subst (IsAsTold m c)
-                (frame_is m c f name w.code w.body l.0.framed l.0.entry l.0.slots s.0)
+                (frame_is m c f name w.code w.label w.body l.0.framed l.0.entry l.0.slots s.0)
                 s.0.is_told));
             is = is;
             below = subst (λ x. On t fs program p m (context_below f.return_address x f.others) is

@@ -1,7 +1,7 @@
 -- The running body has a view: its slots as templates see them hold linear code's numbers.
 use Rattle.std.proofs.Common.{◌≡◌, ℕ, ◌+◌, ◌*◌, ◌^◌, ◌<◌, ◌≤◌, Bool, true, false, cond, Some, None, List, [], length, refl, sym, ap, subst, ◌∙◌, arith, inl, inr}
 use Rattle.std.specs.Prelude.{◌⊎◌, ◌==◌, slice_get, slice_index}
-use Rattle.match_bodies.specs.Words.{STACK_START, STACK_END, Rsp, State, register, LinearBody, BodyName, FunctionBody, FuncletBody, body_of, Configuration, machine, context_below, locals_of, activations_below, temporaries_end, HasActivation, IsLinkedStack, IsFunctionLayout, IsLeafLayout, IsFuncletLayout, IsLayoutIf, IsLaidOut, IsFuncletPlan, slots_end, last_temporary, FrameHolds, seen_by_templates, counts_of, frame_at, state_of, Setting, RepresentsAt, Roomy, HasSlotsOf, AllSmall, local_in, local_of, local_registers, IsReached, now_of, arrived_in}
+use Rattle.match_bodies.specs.Words.{weight_of, STACK_START, STACK_END, Rsp, State, register, LinearBody, BodyName, FunctionBody, FuncletBody, body_of, Configuration, machine, context_below, locals_of, activations_below, temporaries_end, HasActivation, IsLinkedStack, IsFunctionLayout, IsLeafLayout, IsFuncletLayout, IsLayoutIf, IsLaidOut, IsFuncletPlan, slots_end, last_temporary, FrameHolds, seen_by_templates, counts_of, frame_at, state_of, Setting, RepresentsAt, Roomy, HasSlotsOf, AllSmall, local_in, local_of, local_registers, IsReached, now_of, arrived_in}
 use Rattle.x64_instr.specs.Registers.{number}
 use Rattle.x64_machine.specs.declared.cpu.Cpu.{Cpu}
 use Rattle.x64_instr.specs.declared.register.Reg.{Reg}
@@ -102,6 +102,16 @@ module _ (setting : Setting) where
           (IsReached p c.frame.body) (p.layout c.frame.body) code.temporaries sp
           c.frame.activation b.body.acts
 
+      -- a function's layout, of its kind
+      layout_if : (f : ℕ) (leaf : Bool) → c.frame.body ≡ FunctionBody f
+          → p.leaf c.frame.body ≡ leaf → IsLaidOut program p (FunctionBody f) code
+          → IsLayoutIf program p (weight_of (slice_get program.functions f))
+          (p.layout c.frame.body) code leaf
+      layout_if f leaf name is layouts =
+          let weight = weight_of (slice_get program.functions f) in
+          subst (λ l. IsLayoutIf program p weight (p.layout c.frame.body) code l) is
+          (subst (λ n. IsLayoutIf program p weight (p.layout n) code (p.leaf n)) (sym name) layouts)
+
       by_leaf : (f : ℕ) (leaf : Bool) → c.frame.body ≡ FunctionBody f → p.leaf c.frame.body ≡ leaf
           → IsLaidOut program p (FunctionBody f) code
           → HasActivation s.memory now (p.register c.frame.body)
@@ -113,19 +123,14 @@ module _ (setting : Setting) where
           let low = sp_low in
           leaf_placed s.memory now (p.register c.frame.body)
           (IsReached p c.frame.body) (p.layout c.frame.body) code sp c.frame.activation f
-          b.body.acts
-          (subst (λ l. IsLayoutIf program p (p.layout c.frame.body) code l) is
-          (subst (λ n. IsLayoutIf program p (p.layout n) code (p.leaf n)) (sym name) layouts))
-          (omega arith) (b.body.home is) h
+          b.body.acts (layout_if f true name is layouts) (omega arith) (b.body.home is) h
       by_leaf f false name is layouts h =
           let low = sp_low in
           let top = frame_top in
           function_placed s.memory now (p.register c.frame.body)
           (IsReached p c.frame.body) (p.layout c.frame.body) code sp c.frame.activation f
-          b.body.acts
-          (subst (λ l. IsLayoutIf program p (p.layout c.frame.body) code l) is
-          (subst (λ n. IsLayoutIf program p (p.layout n) code (p.leaf n)) (sym name) layouts))
-          (omega arith) (omega arith) h
+          b.body.acts (weight_of (slice_get program.functions f))
+          (layout_if f false name is layouts) (omega arith) (omega arith) h
 
       by_funclet : (k : ℕ) → c.frame.body ≡ FuncletBody k → IsFuncletPlan program p k code
           → HasActivation s.memory now (p.register c.frame.body)
@@ -139,11 +144,13 @@ module _ (setting : Setting) where
           let function_plan : IsLaidOut program p (FunctionBody plan.funclet.function)
           plan.function = image.laid_out (FunctionBody plan.funclet.function) plan.function
           plan.function_there in
-          let function_layout = subst (λ l. IsLayoutIf program p
+          let weight = weight_of (slice_get program.functions plan.funclet.function) in
+          let function_layout = subst (λ l. IsLayoutIf program p weight
           (p.layout (FunctionBody plan.funclet.function)) plan.function l) plan.function_framed
           function_plan in
           let wide = function_layout.locals in
           let small = function_layout.small in
+          let light = function_layout.light in
           let same = plan.same_locals in
           let spared : (i : ℕ) → IsReached p c.frame.body i → p.register c.frame.body i ≡ None =
           subst (λ n. (i : ℕ) → IsReached p n i → p.register n i ≡ None) (sym name)
@@ -221,7 +228,8 @@ module _ (setting : Setting) where
         pub number : ℕ
         pub name : c.frame.body ≡ FunctionBody number
         pub framed : p.leaf c.frame.body ≡ false
-        pub layout : IsFunctionLayout (p.layout c.frame.body) code
+        pub layout : IsFunctionLayout (weight_of (slice_get program.functions number))
+            (p.layout c.frame.body) code
         pub activation : HasActivation s.memory now (p.register c.frame.body)
             (p.layout c.frame.body) sp
             (p.layout c.frame.body).slots c.frame.activation b.body.acts (FunctionBody number)
@@ -257,16 +265,14 @@ module _ (setting : Setting) where
         number = f;
         name = name;
         leaf = is;
-        layout = subst (λ l. IsLayoutIf program p (p.layout c.frame.body) code l) is
-            (subst (λ n. IsLayoutIf program p (p.layout n) code (p.leaf n)) (sym name) layouts);
+        layout = layout_if f true name is layouts;
         activation = h;
       }))
       kind_by_leaf f false name is layouts h = inl (record {
         number = f;
         name = name;
         framed = is;
-        layout = subst (λ l. IsLayoutIf program p (p.layout c.frame.body) code l) is
-            (subst (λ n. IsLayoutIf program p (p.layout n) code (p.leaf n)) (sym name) layouts);
+        layout = layout_if f false name is layouts;
         activation = h;
       })
 

@@ -3,7 +3,7 @@
 use Rattle.std.proofs.Common.{◌≡◌, ℕ, ◌+◌, ◌-◌, ◌≤◌, Bool, true, false, Some, None, List, [], ◌∷◌, ◌++◌, length, refl, sym, ap, subst, ◌∙◌, arith, append_assoc}
 use Rattle.std.specs.Prelude.{slice_get, slice_index}
 use Rattle.std.proofs.lemmas.List.{append-nil}
-use Rattle.match_bodies.specs.Words.{Memory, Rsp, Instr, Context, State, register, with_rip, Instruction, LinearBody, BodyName, body_of, size, sizes, thunk, IsNear, call, template, IsReturn, Steps, HasCode, HasThunk, StackItem, Framed, Leaf, ItemIsAt, OwnedBy, context_after, context_below, is_call, KeepsShadow, AllKeep, links_of, frame_of, FindsReturn, FindsOwed, Owed, IsOwed, nothing_owed, owed_of, owed_by, Setting, IsResumed, Indirect}
+use Rattle.match_bodies.specs.Words.{Memory, Rsp, Instr, Context, State, register, with_rip, Instruction, LinearBody, BodyName, body_of, size, sizes, thunk, IsNear, call, template, IsReturn, Steps, HasCode, HasThunk, StackItem, Framed, Leaf, ItemIsAt, OwnedBy, context_after, context_below, is_call, KeepsShadow, AllKeep, links_of, frame_at_label, FindsReturn, FindsOwed, Owed, IsOwed, nothing_owed, owed_of, owed_by, Setting, IsResumed, Indirect}
 use Rattle.x64_instr.specs.declared.operand.Base.TheVariants as bases
 use Rattle.x64_instr.specs.declared.operand.RegisterOrMemory.TheVariants as places
 use Rattle.match_bodies.proofs.Lemmas.{thunk_encodable, code_split, straight, keep_first, frame_low}
@@ -174,15 +174,15 @@ module _ (setting : Setting) where
               resumed there_is_room in
               let z : sp - 8 + 8 + frame + 8 ≡ top + 8 = omega arith in
               record {
-                item = Framed (frame_of p name back others);
+                item = Framed (frame_at_label p name there back others);
                 is_there = f;
                 same = ap (λ n. context_below back n others) z;
-                owned = λ a o. (let l = frame_low v.memory from_here (frame_of p name back others) a
-                    f.is_told o in omega arith);
+                owned = λ a o. (let l = frame_low v.memory from_here
+                    (frame_at_label p name there back others) a f.is_told o in omega arith);
               }
           by true e =
               let high = beneath.above.high in
-              let i = (p.entry name).info in
+              let i = (p.entry name 0).info in
               let n = at_return v.memory from_here first.beneath.size back others
               (subst (λ (leaf : Bool). IsOwed v.memory from_here (owed_by i leaf)
               first.beneath.size back others) e owes) in

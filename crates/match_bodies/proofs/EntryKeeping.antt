@@ -2,7 +2,7 @@
 -- stored.
 use Rattle.std.proofs.Common.{◌≡◌, ℕ, zero, suc, ◌+◌, ◌*◌, ◌^◌, ◌<◌, ◌≤◌, Bool, true, false, Option, Some, None, List, [], ◌∷◌, ◌++◌, length, refl, sym, ap, subst, ◌∙◌, arith, inl, inr, append_assoc}
 use Rattle.std.specs.Prelude.{◌⊎◌, nat_lt, if◌then◌else◌}
-use Rattle.match_bodies.specs.Words.{Reg, Rax, Rsp, Instr, State, register, AllSmall, Functions, Funclet, LinearProgram, LinearBody, BodyName, body_of, Layout, sizes, fetched, local_at, keep_register, HasCode, StackItem, ImagePlan, AllKeep, Sites, begin_of, making_size, HasProgram, IsProgramImage, FindsOwed, nothing_owed, owed_of, LARGEST_FRAME, setting_of, Rdx, temporary_at, parameter_register, stack_parameter, parameter_code, parameters_code, passing_code, place_of, Place, InRegister, InFrame, Arriving, parameter_placed, W64, Owed}
+use Rattle.match_bodies.specs.Words.{Reg, Rax, Rsp, Instr, State, register, AllSmall, Functions, Funclet, LinearProgram, LinearBody, BodyName, body_of, Layout, sizes, fetched, local_at, keep_register, HasCode, StackItem, ImagePlan, AllKeep, Sites, begin_of, making_size, HasProgram, IsProgramImage, FindsOwed, nothing_owed, owed_of, setting_of, Rdx, temporary_at, parameter_register, stack_parameter, parameter_code, parameters_code, passing_code, place_of, Place, InRegister, InFrame, Arriving, parameter_placed, W64, Owed}
 use Rattle.template_code.specs.Calls.{arguments_code}
 use Rattle.template_code.specs.Operations.{move}
 use Rattle.x64_instr.specs.declared.operand.Operand.TheVariants as operands
@@ -175,15 +175,14 @@ module _ (t : Functions) (fs : List Funclet) (program : LinearProgram) (p : Imag
         → n ≡ making_steps (p.leaf name) (sites.body_plan p q name) + length a → StepsTo n e w
         → e.cpu.rip ≡ begin_of p q name → register e.cpu Rsp ≡ top
         → Beneath t e nothing_owed top from back others list → AllSmall others
-        → HasProgram t fs program p q e.memory → frame + 8 ≤ LARGEST_FRAME → LARGEST_FRAME ≤ top
-        → from ≡ top + extra
+        → HasProgram t fs program p q e.memory → frame ≤ top → from ≡ top + extra
         → AllSteady (owed_of p name) slots frame extra a → EntryRan n e w a
-    entry_ran n e w a c extra parts count run here at_top beneath small has most low up steady =
+    entry_ran n e w a c extra parts count run here at_top beneath small has low up steady =
         let making = making_steps (p.leaf name) (sites.body_plan p q name) in
         let h = steps_split making (length a) e w (subst (λ k. StepsTo k e w) count run) in
         let u = h.0 in
         let m = made_by (setting_of t fs program p q image) name b is some top from back others list
-        small e u here at_top beneath has (omega arith) most (p.leaf name) refl h.1 in
+        small e u here at_top beneath has low (p.leaf name) refl h.1 in
         let code = code_split u.memory (begin_of p q name + making_size p q name) a c
         (subst (HasCode u.memory (begin_of p q name + making_size p q name)) parts
         (frame_there (setting_of t fs program p q image) name b is some u.memory m.has).1) in

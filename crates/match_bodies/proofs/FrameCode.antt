@@ -1,5 +1,5 @@
 -- The code that makes a frame: by its size, and as the prologue of its plan.
-use Rattle.std.proofs.Common.{◌≡◌, ℕ, zero, suc, ◌++◌, ◌+◌, ◌<◌, ◌≤◌, ◌==◌, Bool, true, false, not, List, [], ◌∷◌, length, refl, ap, ◌∙◌, arith}
+use Rattle.std.proofs.Common.{◌≡◌, ℕ, zero, suc, ◌++◌, ◌+◌, ◌*◌, ◌/◌, ◌<◌, ◌≤◌, ◌==◌, Bool, true, false, not, List, [], ◌∷◌, length, refl, ap, ◌∙◌, arith}
 use Rattle.std.specs.Prelude.{◌&&◌, nat_le, if◌then◌else◌}
 use Rattle.std.specs.List.{flat_map}
 use Rattle.std.proofs.lemmas.Bool.{eqb-true, ne_eqb, le-leb}
@@ -93,7 +93,8 @@ plan_turns : (n probe : ℕ) → 0 < n → n ≤ 4096 → prologue_turns (frame_
 plan_turns n probe some small =
     ap (λ none. codes_turns (turned [] (allocation_then (not none) n [])))
     (ne_eqb n 0 (λ z. (let e : n ≡ 0 = z in absurd (omega arith))))
-    ∙ ap (λ few. let k : ℕ = (if few then 1 else 8) + 0 in k) (le-leb n 4096 small)
+    ∙ ap (λ few. let k : ℕ = (if few then 1 else 8 + 4 * (n / 4096)) + 0 in k)
+    (le-leb n 4096 small)
 
 pub bare_turns : (y : Layout) (probe : ℕ) → IsBare y → prologue_turns (plan_of_layout y probe) ≡ 1
 bare_turns y probe h =
@@ -126,11 +127,11 @@ pushed_turns [] = refl
 pushed_turns (r ∷ rs) = let e = pushed_turns rs in omega arith
 
 allocation_turns : (n : ℕ) (some few : Bool) (xs : List UnwindOperation) → nat_le n 4096 ≡ few
-    → codes_turns (allocation_then some n xs) ≤ 8 + codes_turns xs
+    → codes_turns (allocation_then some n xs) ≤ 8 + 4 * (n / 4096) + codes_turns xs
 allocation_turns n true true xs e =
-    omega (arith, ap (λ x. let k : ℕ = if x then 1 else 8 in k) e)
+    omega (arith, ap (λ x. let k : ℕ = if x then 1 else 8 + 4 * (n / 4096) in k) e)
 allocation_turns n true false xs e =
-    omega (arith, ap (λ x. let k : ℕ = if x then 1 else 8 in k) e)
+    omega (arith, ap (λ x. let k : ℕ = if x then 1 else 8 + 4 * (n / 4096) in k) e)
 allocation_turns n false few xs e = omega arith
 
 setting_turns : (framed : Bool) (xs : List UnwindOperation)
@@ -143,8 +144,9 @@ saves_turns : (ss : List Saved) (xs : List UnwindOperation)
 saves_turns [] xs = let z : codes_turns xs ≡ 0 + codes_turns xs = omega arith in z
 saves_turns (s ∷ ss) xs = let e = saves_turns ss xs in omega arith
 
--- one for each register that is saved and for the frame register, and eight at most
-pub few_turns : (f : FramePlan) → prologue_turns f ≤ saved_count f + 9
+-- one for each register that is saved and for the frame register, and eight at most, with four for
+-- each page
+pub few_turns : (f : FramePlan) → prologue_turns f ≤ saved_count f + 9 + 4 * (f.size / 4096)
 few_turns f =
     let xs = allocation_then (not (f.size == 0)) f.size (pushed f.pushes) in
     let a = pushed_turns f.pushes in

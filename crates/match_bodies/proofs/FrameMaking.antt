@@ -1,6 +1,6 @@
 -- From a routine's first byte its frame is made, and the shadow is kept.
 use Rattle.std.proofs.Common.{◌≡◌, ℕ, ◌+◌, ◌^◌, ◌<◌, ◌≤◌, Bool, true, false, List, length, Some, sym, ap, subst, arith}
-use Rattle.match_bodies.specs.Words.{Rsp, context_of, State, register, AllSmall, LinearBody, BodyName, body_of, sizes, StackItem, AllKeep, begin_of, making_size, frame_code, Owed, nothing_owed, owed_of, owed_by, LARGEST_FRAME, Setting}
+use Rattle.match_bodies.specs.Words.{Rsp, context_of, State, register, AllSmall, LinearBody, BodyName, body_of, sizes, StackItem, AllKeep, begin_of, making_size, frame_code, Owed, nothing_owed, owed_of, owed_by, Setting}
 use Rattle.frame_rules.specs.Plan.{FramePlan}
 use Rattle.x64_templates.specs.Prologues.{prologue_turns}
 use Rattle.match_bodies.specs.CodeSites.{body_plan}
@@ -52,7 +52,7 @@ module _ (setting : Setting) where
           (λ l. sizes (frame_code framing l)) leaf in
           subst (FrameMade 0 e) r (record {
             keeps = tt;
-            beneath = subst (λ l. Beneath t e (owed_by (p.entry name).info l) top from back others
+            beneath = subst (λ l. Beneath t e (owed_by (p.entry name 0).info l) top from back others
                 list) (sym leaf) beneath;
             has = has;
             rip = omega arith;
@@ -63,12 +63,12 @@ module _ (setting : Setting) where
 
       framed_made : (small : AllSmall others) (e u : State) → e.cpu.rip ≡ begin
           → Beneath t e nothing_owed top from back others list → HasProgram setting e.memory
-          → frame ≤ top → frame + 8 ≤ LARGEST_FRAME → p.leaf name ≡ false
+          → frame ≤ top → p.leaf name ≡ false
           → StepsTo (prologue_turns framing) e u → FrameMade (prologue_turns framing) e u
-      framed_made small e u at_begin beneath has room most framed r =
+      framed_made small e u at_begin beneath has room framed r =
           let high = beneath.above.high in
           let low : top < 2 ^ 63 = omega arith in
-          let m = prologue_made setting name b is some top from back others list framed most small
+          let m = prologue_made setting name b is some top from back others list framed small
           low e u at_begin beneath has room r in
           let below = m.beneath in
           let whole = owed_frame setting name b is u.memory (context_of u.cpu) below.size back
@@ -86,9 +86,9 @@ module _ (setting : Setting) where
 
       pub made_by : AllSmall others → (e u : State) → e.cpu.rip ≡ begin → register e.cpu Rsp ≡ top
           → Beneath t e nothing_owed top from back others list → HasProgram setting e.memory
-          → frame ≤ top → frame + 8 ≤ LARGEST_FRAME → (leaf : Bool) → p.leaf name ≡ leaf
+          → frame ≤ top → (leaf : Bool) → p.leaf name ≡ leaf
           → StepsTo (making_steps leaf framing) e u → FrameMade (making_steps leaf framing) e u
-      made_by small e u at_begin at_top beneath has room most true leaf r =
+      made_by small e u at_begin at_top beneath has room true leaf r =
           leaf_made e u at_begin at_top beneath has leaf r
-      made_by small e u at_begin at_top beneath has room most false framed r =
-          framed_made small e u at_begin beneath has room most framed r
+      made_by small e u at_begin at_top beneath has room false framed r =
+          framed_made small e u at_begin beneath has room framed r

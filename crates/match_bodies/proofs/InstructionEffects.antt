@@ -15,7 +15,9 @@ use Rattle.x64_instr.specs.declared.instruction.Target.{Target}
 use Rattle.x64_instr.specs.declared.instruction.Instr.TheVariants as instrs
 use Rattle.x64_instr.specs.Registers.{number}
 use Rattle.seh_num.specs.Answers.{◌>>=◌}
-use Rattle.x64_machine.specs.Effect.{read, operand, computed}
+use Rattle.x64_machine.specs.Effect.{address_of, read, operand, computed}
+use Rattle.x64_machine.specs.Words.{subtracted}
+use Rattle.seh_num.specs.Widths.{low}
 use Rattle.match_runs.specs.Shadow.{calls as is_a_call}
 
 -- ---- registers
@@ -87,7 +89,7 @@ pub bound : {A B : Type 0} (a : Answer A) (f : A → Answer B) (y : B) → (a >>
 bound (Ok x) f y e = record { value = x; is = refl; then = e }
 bound (Err x) f y e = absurd cc
 
-the_same : {A : Type 0} → {x y : A} → ◌≡◌ {A = Answer A} (Ok x) (Ok y) → x ≡ y
+pub the_same : {A : Type 0} → {x y : A} → ◌≡◌ {A = Answer A} (Ok x) (Ok y) → x ≡ y
 the_same e = cc
 
 -- ---- instructions that write no memory, and no register but volatile ones
@@ -119,6 +121,7 @@ is_idle (instrs.Move w to from) = is_volatile_place to
 is_idle (instrs.LoadAddress w to m) = is_volatile to
 is_idle (instrs.Test w first second) = true
 is_idle (instrs.Arithmetic operations.Sub w to from) = is_volatile_place to
+is_idle (instrs.Arithmetic operations.Compare w first second) = true
 is_idle i = false
 
 pub idle_leaves : (s t : State) (i : Instr) → is_idle i ≡ true → effect s i ≡ Ok t → Leaves s t
@@ -144,6 +147,14 @@ idle_leaves s t (instrs.Arithmetic operations.Sub w to from) q e =
     let r = write_leaves (with_flags s (computed o w d.value b.value).1) t w to
     (computed o w d.value b.value).0 q d.then in
     record { memory = r.memory; rip = r.rip; stack = r.stack; others = r.others }
+idle_leaves s t (instrs.Arithmetic operations.Compare w first second) q e =
+    let o = operations.Compare in
+    let b = bound (operand s w second) (λ b. read s w first
+    >>= λ a. Ok (with_flags s (computed o w a b).1)) t e in
+    let c = bound (read s w first) (λ a. Ok (with_flags s (computed o w a b.value).1))
+    t b.then in
+    subst (Leaves s) (the_same c.then) (record
+    { memory = refl; rip = refl; stack = refl; others = refl })
 idle_leaves s t i q e = absurd cc
 
 -- ---- a move to a register
@@ -306,38 +317,63 @@ puts_rax s t v n lt e =
     subst (λ (u : State). register u.cpu Rax ≡ v) (the_same e)
     (get_or-set_same s.cpu.registers 0 (v % 2 ^ 32 % 2 ^ 32) 0 (omega arith) ∙ z)
 
--- these leave it
-abbrev pub is_probing : Instr → Bool
-is_probing (instrs.LoadAddress W64 regs.R11 m) = true
-is_probing (instrs.Test w first second) = true
-is_probing (instrs.Arithmetic operations.Sub W64 (places.Register regs.R11) from) = true
-is_probing i = false
+-- ---- what `__chkstk` does
 
-pub probing_is_idle : (i : Instr) → is_probing i ≡ true → is_idle i ≡ true
-probing_is_idle (instrs.LoadAddress W64 regs.R11 m) q = refl
-probing_is_idle (instrs.Test w first second) q = refl
-probing_is_idle (instrs.Arithmetic operations.Sub W64 (places.Register regs.R11) from) q = refl
-probing_is_idle i q = absurd cc
+-- a volatile register takes a number, and the others stay
+pub record Takes (s t : State) (r : Reg) (v : ℕ) : Type 0 where
+  pub is : register t.cpu r ≡ v
+  pub beside : (k : ℕ) → k ≢ number r
+      → slice_index t.cpu.registers k ≡ slice_index s.cpu.registers k
 
-pub rax_stays : (s t : State) (i : Instr) → is_probing i ≡ true → effect s i ≡ Ok t
-    → register t.cpu Rax ≡ register s.cpu Rax
-rax_stays s t (instrs.LoadAddress W64 regs.R11 m) q e = subst
-    (λ (u : State). register u.cpu Rax ≡ register s.cpu Rax) (the_same e)
-    (get_or-set_other s.cpu.registers 11 0 _ 0 (λ z. absurd (omega arith)))
-rax_stays s t (instrs.Test w first second) q e =
+pub loads_address : (s t : State) (r : Reg) (m : MemRef) → length s.cpu.registers ≡ 16
+    → number r < 16 → effect s (instrs.LoadAddress W64 r m) ≡ Ok t
+    → Takes s t r (address_of s.cpu m % 2 ^ 64)
+loads_address s t r m n lt e =
+    let v = address_of s.cpu m % 2 ^ 64 in
+    subst (λ (u : State). Takes s u r v) (the_same e)
+    (record {
+      is = get_or-set_same s.cpu.registers (number r) v 0 (omega arith);
+      beside = λ k ne. get_or-set_other s.cpu.registers (number r) k v 0 ne;
+    })
+
+-- a number that is no larger is subtracted
+pub subtracts : (s t : State) (r q : Reg) (a b : ℕ) → length s.cpu.registers ≡ 16
+    → number r < 16 → register s.cpu r ≡ a → register s.cpu q ≡ b → b ≤ a → a < 2 ^ 64
+    → effect s (instrs.Arithmetic operations.Sub W64 (places.Register r) (operands.Register q))
+    ≡ Ok t → Takes s t r (a - b)
+unfolding subtracted
+subtracts s t r q a b n lt is by le small e =
+    let old = s.cpu.registers in
+    let v = low W64 (low W64 (low W64 (register s.cpu r)
+    + (2 ^ 64 - low W64 (register s.cpu q)))) in
+    let z : v ≡ a - b = omega arith in
+    subst (λ (u : State). Takes s u r (a - b)) (the_same e)
+    (record {
+      is = get_or-set_same old (number r) v 0 (omega arith) ∙ z;
+      beside = λ k ne. get_or-set_other old (number r) k v 0 ne;
+    })
+
+-- two registers are compared
+pub record Compares (s t : State) (r q : Reg) : Type 0 where
+  pub registers : t.cpu.registers ≡ s.cpu.registers
+  pub flags : t.cpu.flags
+      ≡ (subtracted W64 (low W64 (register s.cpu r)) (low W64 (register s.cpu q))).1
+
+pub compares : (s t : State) (r q : Reg)
+    → effect s (instrs.Arithmetic operations.Compare W64 (places.Register r) (operands.Register q))
+    ≡ Ok t → Compares s t r q
+compares s t r q e =
+    subst (λ (u : State). Compares s u r q) (the_same e) (record { registers = refl; flags = refl })
+
+-- a byte is touched
+pub touches : (s t : State) (w : Width) (first : RegisterOrMemory) (second : Operand)
+    → effect s (instrs.Test w first second) ≡ Ok t → t.cpu.registers ≡ s.cpu.registers
+touches s t w first second e =
     let b = bound (operand s w second) (λ b. read s w first
     >>= λ a. Ok (with_flags s (computed operations.And w a b).1)) t e in
     let c = bound (read s w first) (λ a. Ok (with_flags s (computed operations.And w a b.value).1))
     t b.then in
-    subst (λ (u : State). register u.cpu Rax ≡ register s.cpu Rax) (the_same c.then) refl
-rax_stays s t (instrs.Arithmetic operations.Sub W64 (places.Register regs.R11) from) q e =
-    let o = operations.Sub in
-    let to = places.Register regs.R11 in
-    let b = bound (operand s W64 from) (λ b. may_change s W64 to >>= λ _. read s W64 to
-    >>= λ a. write (with_flags s (computed o W64 a b).1) W64 to (computed o W64 a b).0) t e in
-    subst (λ (u : State). register u.cpu Rax ≡ register s.cpu Rax) (the_same b.then)
-    (get_or-set_other s.cpu.registers 11 0 _ 0 (λ z. absurd (omega arith)))
-rax_stays s t i q e = absurd cc
+    subst (λ (u : State). u.cpu.registers ≡ s.cpu.registers) (the_same c.then) refl
 
 -- none of these is a call
 pub idle_calls_nothing : (i : Instr) → is_idle i ≡ true → is_a_call i ≡ false

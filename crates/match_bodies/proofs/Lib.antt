@@ -16,6 +16,7 @@ pub mod TemplateSizes
 pub mod ReturnAddresses
 pub mod PrologueInstructions
 pub mod PrologueSteps
+pub mod StackCheck
 pub mod ProbedAllocation
 pub mod PlannedPrologues
 pub mod FrameMaking

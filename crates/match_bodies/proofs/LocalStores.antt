@@ -79,7 +79,7 @@ module _ (m m' : Memory) (t : Functions) (fs : List Funclet) (program : LinearPr
       (later_changes a outer k values (is_lower outer k base distance register i))
   below_passed acts (FuncletBody j) i = refl
 
-  body_passed : (c : Context) (now : ℕ → ℕ) (size end : ℕ) (b : Frame) (acts : List Activation)
+  abbrev body_passed : (c : Context) (now : ℕ → ℕ) (size end : ℕ) (b : Frame) (acts : List Activation)
       → passes acts b.body → BodyWaits t fs program p m' c now size end b acts
       → BodyWaits t fs program p m' c now size end b (with_values acts k values)
   body_passed c now size end b acts i h = record {
@@ -163,7 +163,7 @@ module _ (m m' : Memory) (t : Functions) (fs : List Funclet) (program : LinearPr
             (subst (λ (r : ℕ → Option ℕ). LeavesRegisters r 0 a.values values) same left) le;
       }
 
-  own_body : (c : Context) (size end f : ℕ) (b : Frame) (a : Activation) (outer : List Activation)
+  abbrev own_body : (c : Context) (size end f : ℕ) (b : Frame) (a : Activation) (outer : List Activation)
       → b.body ≡ FunctionBody f → ActivationHasBase k base distance register a outer
       → to ≤ rsp c + size
       → FrameWords m' register 0 from to values → LeavesRegisters register 0 a.values values

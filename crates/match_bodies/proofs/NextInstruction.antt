@@ -1,6 +1,7 @@
 -- The next instruction of a body begins, in the memory that a template leaves.
 use Rattle.std.proofs.Common.{◌≡◌, ℕ, ◌+◌, ◌*◌, ◌<◌, ◌≤◌, true, Option, Some, Ok, List, [], ◌∷◌, length, refl, sym, ap, subst, ◌∙◌, arith, inl, inr}
-use Rattle.match_bodies.specs.Words.{STACK_START, STACK_END, Event, Memory, Rax, Rsp, State, register, BodyState, LinearBody, BodyName, FunctionBody, FuncletBody, body_of, Configuration, Context, Layout, context_of, regions_of, InCode, context_below, Activation, locals_of, activations_below, HoldsWords, IsActivation, HasActivation, HasPointers, BodyWaits, HasSpace, below_end, home_end, IsLinkedStack, IsData, On, IsWellFormed, IsFunctionLayout, IsLayoutIf, slots_end, counts_of, with_values, KeepsStackBut, OwnerHasFrame, last_temporary, Setting, RepresentsAt, now_of}
+use Rattle.std.specs.Prelude.{slice_get}
+use Rattle.match_bodies.specs.Words.{weight_of, STACK_START, STACK_END, Event, Memory, Rax, Rsp, State, register, BodyState, LinearBody, BodyName, FunctionBody, FuncletBody, body_of, Configuration, Context, Layout, context_of, regions_of, InCode, context_below, Activation, locals_of, activations_below, HoldsWords, IsActivation, HasActivation, HasPointers, BodyWaits, HasSpace, below_end, home_end, IsLinkedStack, IsData, On, IsWellFormed, IsFunctionLayout, IsLayoutIf, slots_end, counts_of, with_values, KeepsStackBut, OwnerHasFrame, last_temporary, Setting, RepresentsAt, now_of}
 use Rattle.virtual_unwind.specs.Undone.{Answer}
 use Rattle.match_bodies.proofs.Lemmas.{kept_by_other_memories}
 use Rattle.match_bodies.proofs.BodyResumption.{above_same}
@@ -152,9 +153,10 @@ module _ (setting : Setting) where
             f.activation in
             let base : f.activation.base ≡ here.base =
             same_word f.activation.base here.base (sym f.activation.kept ∙ kept.word_is) in
-            let function_layout : IsFunctionLayout
+            let weight = weight_of (slice_get program.functions f.plan.funclet.function) in
+            let function_layout : IsFunctionLayout weight
             (p.layout (FunctionBody f.plan.funclet.function)) f.plan.function =
-            subst (λ l. IsLayoutIf program p (p.layout (FunctionBody f.plan.funclet.function))
+            subst (λ l. IsLayoutIf program p weight (p.layout (FunctionBody f.plan.funclet.function))
             f.plan.function l) f.plan.function_framed
             (image.laid_out (FunctionBody f.plan.funclet.function) f.plan.function
             f.plan.function_there) in

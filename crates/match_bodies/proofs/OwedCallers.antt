@@ -169,11 +169,11 @@ module _ (m : Memory) (c : Context) (o : Owed) (size back : ℕ) (others : List 
 
 -- of a body that waits the codes of its frame are owed
 pub frame_is_owed : (p : ImagePlan) (name : BodyName) (m : Memory) (c : Context) (f : StackFrame)
-    → p.leaf name ≡ false → f.entry ≡ p.entry name → length c.kept ≡ 9 → length f.others ≡ 8
+    → p.leaf name ≡ false → f.entry ≡ p.entry name 0 → length c.kept ≡ 9 → length f.others ≡ 8
     → rsp c + f.size + 8 < 2 ^ 64 → IsAsTold m c f
     → IsOwed m c (owed_of p name) f.size f.return_address f.others
 frame_is_owed p name m c f framed entry kept eight room h =
-    subst (λ (leaf : Bool). IsOwed m c (owed_by (p.entry name).info leaf) f.size f.return_address
+    subst (λ (leaf : Bool). IsOwed m c (owed_by (p.entry name 0).info leaf) f.size f.return_address
     f.others) (sym framed)
     (subst (λ (e : Entry). IsOwed m c (owed_by e.info false) f.size f.return_address f.others) entry
     (record {

@@ -170,7 +170,6 @@ module _ (setting : Setting) (roomy : HaveRoom setting.program) where
     label_small label lt =
         let a = image.addresses c.frame.body body b.body.slots.body in
         let high = a.inside.high in
-        let r = a.rises label lt in
         let most = offset_most (p.layout c.frame.body) body.code label in
         let e = a.labels label in
         omega arith

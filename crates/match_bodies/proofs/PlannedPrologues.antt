@@ -3,7 +3,7 @@ use Rattle.std.proofs.Common.{◌≡◌, ℕ, ◌+◌, ◌^◌, ◌<◌, ◌≤�
 use Rattle.std.specs.Prelude.{nat_le, if◌then◌else◌}
 use Rattle.std.specs.List.{flat_map}
 use Rattle.std.proofs.lemmas.Bool.{and_parts, leb-false}
-use Rattle.match_bodies.specs.Words.{Memory, W32, W64, Rax, Rsp, Instr, State, size, AllSmall, LinearBody, BodyName, body_of, sizes, IsNear, call, code_from, HasCode, StackItem, AllKeep, links_of, begin_of, making_size, frame_code, arguments_code, entry_code, FindsOwed, Owed, nothing_owed, owed_of, owed_by, LARGEST_FRAME, Setting, is_encodable}
+use Rattle.match_bodies.specs.Words.{Memory, W32, W64, Rax, Rsp, Instr, State, size, AllSmall, LinearBody, BodyName, body_of, sizes, IsNear, call, code_from, HasCode, StackItem, AllKeep, links_of, begin_of, making_size, frame_code, arguments_code, entry_code, FindsOwed, Owed, nothing_owed, owed_of, owed_by, Setting, is_encodable}
 use Rattle.eh_tables.specs.Infos.{Info}
 use Rattle.eh_tables.specs.declared.code.UnwindCode.{UnwindCode}
 use Rattle.eh_tables.specs.declared.code.UnwindOperation.{UnwindOperation}
@@ -38,7 +38,7 @@ use Rattle.match_bodies.proofs.SilentTurns.{program_kept}
 use Rattle.match_bodies.proofs.RoutineWalks.{StepsTo, steps_split, keeps_split, Beneath}
 use Rattle.match_bodies.proofs.ReturnAddresses.{argument_found}
 use Rattle.match_bodies.proofs.PrologueSteps.{of_codes, falling, made}
-use Rattle.match_bodies.proofs.ProbedAllocation.{IsLargeAt, falling_size, large_taken, move_size}
+use Rattle.match_bodies.proofs.ProbedAllocation.{IsLargeAt, falling_size, large_taken, large_turns, move_size}
 
 -- codes that have been run end at this address or before it, so also before another
 later : (at d : ℕ) (done : List UnwindCode) → at ≤ d → AtMost at done → AtMost d done
@@ -108,14 +108,13 @@ module _ (setting : Setting) where
     body_probed = plan_probed (p.layout name) begin q.check_stack near_probe
 
     module _ (top from back : ℕ) (others : List ℕ) (list : List StackItem)
-        (framed : p.leaf name ≡ false) (most : frame + 8 ≤ LARGEST_FRAME)
-        (small : AllSmall others) (high : top < 2 ^ 63) where
+        (framed : p.leaf name ≡ false) (small : AllSmall others) (high : top < 2 ^ 63) where
       -- the plan of its frame
       abbrev framing : FramePlan
       framing = body_plan p q name
 
       abbrev info : Info
-      info = (p.entry name).info
+      info = (p.entry name 0).info
 
       abbrev f : ℕ
       f = framing.frame
@@ -309,8 +308,8 @@ module _ (setting : Setting) where
       -- a large allocation
       large_run : (k : ℕ) (xs : List UnwindOperation) (done : List UnwindCode) (at : ℕ)
           → nat_le k 4096 ≡ false → Left (Allocate k ∷ xs) done at → (s u : State)
-          → StepsTo 8 s u → Comes (operations done) at s
-          → Runs 8 (at + spelled (Allocate k)) (Allocate k ∷ operations done) s u
+          → StepsTo (large_turns k) s u → Comes (operations done) at s
+          → Runs (large_turns k) (at + spelled (Allocate k)) (Allocate k ∷ operations done) s u
       large_run k xs done at large l s u r c =
           let x = Allocate k in
           let ops = operations done in
@@ -366,8 +365,9 @@ module _ (setting : Setting) where
           (instrs.Push (numbers.register r)) refl l s u st c
       code_run (Allocate k) xs done at l s u st c = by (nat_le k 4096) refl st
         where
-          by : (few : Bool) → nat_le k 4096 ≡ few → StepsTo (if few then 1 else 8) s u
-              → Runs (if few then 1 else 8) (at + spelled (Allocate k))
+          by : (few : Bool) → nat_le k 4096 ≡ few
+              → StepsTo (if few then 1 else large_turns k) s u
+              → Runs (if few then 1 else large_turns k) (at + spelled (Allocate k))
               (Allocate k ∷ operations done) s u
           by true e st' = one_run (Allocate k) xs done at
               (instrs.Arithmetic arithmetic.Sub W64 (places.Register Rsp) (operands.Immediate k))

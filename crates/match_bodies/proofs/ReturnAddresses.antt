@@ -3,7 +3,7 @@ use Rattle.std.proofs.Common.{◌≡◌, ℕ, ◌+◌, ◌<◌, ◌≤◌, Bool,
 use Rattle.std.specs.Prelude.{slice_get, slice_set}
 use Rattle.std.proofs.lemmas.Option.{slice_get_cases, slice_get_within, get_or_from_slice_get}
 use Rattle.std.proofs.lemmas.List.{append-nil}
-use Rattle.match_bodies.specs.Words.{Memory, Rax, Instr, Context, rsp, Instruction, LinearBody, BodyName, body_of, sizes, fetch, template, offset_of, code_from, IsReturn, HasCode, after_frame, after_leaf, links_of, begin_of, making_size, frame_code, arguments_code, entry_code, frame_of, caller_left, HasCaller, FindsOwed, IsOwed, owed_of, owed_by, Setting, IsResumed}
+use Rattle.match_bodies.specs.Words.{Memory, Rax, Instr, Context, rsp, Instruction, LinearBody, BodyName, body_of, sizes, fetch, template, offset_of, code_from, IsReturn, HasCode, after_frame, after_leaf, links_of, begin_of, making_size, frame_code, arguments_code, entry_code, frame_at_label, caller_left, HasCaller, FindsOwed, IsOwed, owed_of, owed_by, Setting, IsResumed}
 use Rattle.linear_code.specs.declared.instruction.Instruction.TheVariants as instructions
 use Rattle.match_bodies.proofs.Lemmas.{sizes_append, template_sizes, code_split, template_placed, frame_is_visited, leaf_is_visited}
 use Rattle.match_bodies.specs.CodeSites.{body_plan}
@@ -48,14 +48,15 @@ module _ (setting : Setting) where
             let framed = owed_framed setting name b is m c size back others e o in
             let deep = owed_frame setting name b is m c size back others o in
             let f = image.frames m name b label c back others is e has here_at framed in
-            let k : HasCaller t m c (after_frame c (frame_of p name back others)) = record {
+            let k : HasCaller t m c (after_frame c (frame_at_label p name label back others)) =
+            record {
               frame = _;
-              visits = frame_is_visited t m c 0 (frame_of p name back others) f;
+              visits = frame_is_visited t m c 0 (frame_at_label p name label back others) f;
               context = refl;
             } in
             subst (λ n. HasCaller t m c (caller_left c n back others)) (sym deep) k
         by true e =
-            let i = (p.entry name).info in
+            let i = (p.entry name 0).info in
             let n = at_return m c size back others (subst (λ (leaf : Bool).
             IsOwed m c (owed_by i leaf) size back others) e o) in
             let room = o.room in

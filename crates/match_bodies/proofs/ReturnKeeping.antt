@@ -128,14 +128,14 @@ module _ (setting : Setting) where
     owed_is framed =
         let h = image.plans name b is framed in
         let codes' = ap operations h.codes ∙ codes_plan spell framing in
-        ap (owed_by (p.entry name).info) framed ∙ (λ j. record {
+        ap (owed_by (p.entry name 0).info) framed ∙ (λ j. record {
           register = h.frame_register j;
           offset = h.frame_offset j;
           codes = codes' j;
         })
 
     owed_none : p.leaf name ≡ true → owed ≡ nothing_owed
-    owed_none leaf = ap (owed_by (p.entry name).info) leaf
+    owed_none leaf = ap (owed_by (p.entry name 0).info) leaf
 
     -- where nothing is saved, the codes but for the saves are all
     bare_is : framing.saves ≡ [] → owed_opening framing ≡ of_codes f offset (operations_of framing)

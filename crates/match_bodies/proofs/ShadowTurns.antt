@@ -1,12 +1,13 @@
 -- Calls, returns, and what probes the stack keep the shadow.
-use Rattle.std.proofs.Common.{◌≡◌, ℕ, ◌+◌, ◌^◌, ◌<◌, ◌≤◌, true, List, ◌∷◌, length, Ok, refl, sym, ap, subst, ◌∙◌, arith, inl, inr}
+use Rattle.std.proofs.Common.{◌≡◌, ℕ, ◌+◌, ◌^◌, ◌<◌, ◌≤◌, true, false, List, ◌∷◌, length, Ok, refl, sym, ap, subst, ◌∙◌, arith, inl, inr}
 use Rattle.match_bodies.specs.Words.{Memory, number_at, Rax, Rsp, Instr, is_encodable, Context, context_of, State, register, with_rip, effect, Functions, word, Funclet, size, IsNear, call, Steps, HasCode, StackItem, ItemIsAt, IsStack, OwnedBy, Owned, context_after, context_below, state, is_call, GivesCallers, WalkGives, KeepsShadow, caller_above, HasCaller, FindsReturn, FindsOwed, Owed, IsOwed, nothing_owed, caller_at}
 use Rattle.x64_instr.specs.declared.instruction.Instr.TheVariants as instrs
 use Rattle.template_code.specs.Jumps.{distance}
+use Rattle.match_runs.specs.Shadow.{calls as calls_on}
 use Rattle.match_bodies.proofs.OwedCallers.{finds_return, owed_with, owed_in, owed_low, returns_alone, AtReturn, at_return}
 use Rattle.match_bodies.proofs.Lemmas.{call_size, arrives, short, past_frame, HeadAbove, straight, call_keeps, return_keeps}
 use Rattle.match_bodies.proofs.StackWalks.{callers, on_stack, stack_rises}
-use Rattle.match_bodies.proofs.InstructionEffects.{others_of, is_probing, probing_is_idle, idle_leaves, idle_calls_nothing, rax_stays, Calls, calls, Returns, returns, word_loads}
+use Rattle.match_bodies.proofs.InstructionEffects.{others_of, is_idle, idle_leaves, idle_calls_nothing, Calls, calls, Returns, returns, word_loads}
 use Rattle.match_bodies.proofs.RoutineWalks.{read_here, effect_here, word_number, context_is, ListAbove, Beneath, above_stays, callers_above, gives_owed, gives_above}
 
 module _ (t : Functions) (fs : List Funclet) where
@@ -168,41 +169,50 @@ module _ (t : Functions) (fs : List Funclet) where
           pub probing : Probing u next n
           pub rip : u.cpu.rip ≡ to
 
-        pub probes : (i : Instr) (more : List Instr) → is_probing i ≡ true → is_encodable i ≡ true
-            → HasCode s.memory s.cpu.rip (i ∷ more) → FindsReturn t u.memory (s.cpu.rip + size i)
-            → Probed (s.cpu.rip + size i)
-        probes i more probing enc code after =
-            let idle = probing_is_idle i probing in
-            let to = with_rip s (s.cpu.rip + size i) in
-            let ef = effect_here s u i more enc code st.steps in
-            let l = idle_leaves to u i idle ef in
+        -- an instruction that leaves memory, RSP, RAX and what a called function keeps
+        pub probed : (i : Instr) (more : List Instr) (to : ℕ) → is_encodable i ≡ true
+            → HasCode s.memory s.cpu.rip (i ∷ more) → calls_on i ≡ false → u.memory ≡ s.memory
+            → register u.cpu Rsp ≡ register s.cpu Rsp
+            → others_of u.cpu.registers ≡ others_of s.cpu.registers
+            → register u.cpu Rax ≡ register s.cpu Rax → u.cpu.rip ≡ to → FindsReturn t u.memory to
+            → Probed to
+        probed i more to enc code calm memory stack kept rax rip after =
             let same : in_prologue u next ≡ in_prologue s next =
-            λ k. context_below next (l.stack k + 8) (l.others k) in
+            λ k. context_below next (stack k + 8) (kept k) in
             let then : Probing u next n = record {
               above = above_stays t s u top from back others is st
-                  (λ x le. ap (λ (m : Memory). m.byte x) l.memory) h.above;
+                  (λ x le. ap (λ (m : Memory). m.byte x) memory) h.above;
               count = st.count ∙ h.count;
               size = h.size;
-              at = ap (λ x. x + 8 + h.size) l.stack ∙ h.at;
+              at = ap (λ x. x + 8 + h.size) stack ∙ h.at;
               owed = subst (λ (c : Context). IsOwed u.memory c o h.size back others) (sym same)
                   (subst (λ (m : Memory). IsOwed m (in_prologue s next) o h.size back others)
-                  (sym l.memory) h.owed);
-              pushed = ap (λ (m : Memory). word m (register u.cpu Rsp)) l.memory
-                  ∙ ap (word s.memory) l.stack ∙ h.pushed;
-              rax = rax_stays to u i probing ef ∙ h.rax;
+                  (sym memory) h.owed);
+              pushed = ap (λ (m : Memory). word m (register u.cpu Rsp)) memory
+                  ∙ ap (word s.memory) stack ∙ h.pushed;
+              rax = rax ∙ h.rax;
             } in
-            let quiet = ap is_call (read_here s u i more enc code) ∙ idle_calls_nothing i idle in
             record {
-              keeps = straight t fs s u (in_prologue s next ∷ mine) st.steps quiet
+              keeps = straight t fs s u (in_prologue s next ∷ mine) st.steps
+                  (ap is_call (read_here s u i more enc code) ∙ calm)
                   (gives_probing s next n h here (finds s.memory))
                   (subst (λ c. WalkGives t u (c ∷ mine)) same
-                  (gives_probing u next n then (subst (λ a. FindsReturn t u.memory a) (sym l.rip)
+                  (gives_probing u next n then (subst (λ a. FindsReturn t u.memory a) (sym rip)
                   after) (finds u.memory)))
                   (let k : register u.cpu Rsp + 8 ≤ register s.cpu Rsp + 8 =
-                  omega (arith, l.stack) in k);
+                  omega (arith, stack) in k);
               probing = then;
-              rip = l.rip;
+              rip = rip;
             }
+
+        pub probes : (i : Instr) (more : List Instr) → is_idle i ≡ true → is_encodable i ≡ true
+            → HasCode s.memory s.cpu.rip (i ∷ more) → register u.cpu Rax ≡ register s.cpu Rax
+            → FindsReturn t u.memory (s.cpu.rip + size i) → Probed (s.cpu.rip + size i)
+        probes i more idle enc code rax after =
+            let to = with_rip s (s.cpu.rip + size i) in
+            let l = idle_leaves to u i idle (effect_here s u i more enc code st.steps) in
+            probed i more (s.cpu.rip + size i) enc code (idle_calls_nothing i idle) l.memory l.stack
+            l.others rax l.rip after
 
         pub record ProbeReturned : Type 0 where
           pub keeps : KeepsShadow t fs s u

@@ -88,14 +88,15 @@ own_placed m now register Reached y temporaries sp size k f room a outer none h 
 
 pub function_placed : (m : Memory) (now : ℕ → ℕ) (register : ℕ → Option ℕ) (Reached : ℕ → Type 0)
     (y : Layout) (b : LinearBody) (sp k f : ℕ)
-    (acts : List Activation) → IsFunctionLayout y b → STACK_START ≤ sp → sp + y.frame ≤ STACK_END
+    (acts : List Activation) (weight : ℕ) → IsFunctionLayout weight y b → STACK_START ≤ sp → sp + y.frame ≤ STACK_END
     → HasActivation m now register y sp y.slots k acts (FunctionBody f)
     → LocalsPlaced m now register Reached y b.temporaries sp k acts
-function_placed m now register Reached y b sp k f [] l low high h = absurd h
-function_placed m now register Reached y b sp k f (a ∷ outer) l low high h =
+function_placed m now register Reached y b sp k f [] weight l low high h = absurd h
+function_placed m now register Reached y b sp k f (a ∷ outer) weight l low high h =
     let w = places_fit m now register 0 (sp + y.locals) (sp + y.slots) a.values h.values in
     let t = l.temporaries in
     let small = l.small in
+    let light = l.light in
     let more = l.locals in
     let within = l.within in
     own_placed m now register Reached y b.temporaries sp y.slots k f y.frame a outer l.none h low

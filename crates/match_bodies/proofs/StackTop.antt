@@ -1,6 +1,7 @@
 -- A body that runs is on top of what waits below it, as one that waits.
 use Rattle.std.proofs.Common.{◌≡◌, ℕ, ◌+◌, ◌<◌, Some, Bool, true, false, List, [], ◌∷◌, drop, refl, sym, ap, subst, ◌∙◌, arith}
-use Rattle.match_bodies.specs.Words.{Rsp, context_of, State, register, Functions, Funclet, LinearProgram, LinearBody, BodyName, FunctionBody, FuncletBody, Waits, Configuration, regions_of, StackItem, Framed, Leaf, FrameIsAt, LeafIsAt, context_below, ImagePlan, Activation, activations_below, BodyWaits, On, Sites, IsLayoutIf, IsLeafLayout, IsLaidOut, HasProgram, IsProgramImage, frame_of, slots_end, last_temporary, HasFrame, InBody, IsGiven, IsFramed, now_of, body_of}
+use Rattle.std.specs.Prelude.{slice_get}
+use Rattle.match_bodies.specs.Words.{weight_of, Rsp, context_of, State, register, Functions, Funclet, LinearProgram, LinearBody, BodyName, FunctionBody, FuncletBody, Waits, Configuration, regions_of, StackItem, Framed, Leaf, FrameIsAt, LeafIsAt, context_below, ImagePlan, Activation, activations_below, BodyWaits, On, Sites, IsLayoutIf, IsLeafLayout, IsLaidOut, HasProgram, IsProgramImage, frame_of, frame_at_label, slots_end, last_temporary, HasFrame, InBody, IsGiven, IsFramed, now_of, body_of}
 use Rattle.match_bodies.proofs.Lemmas.{in_stack}
 use Rattle.match_bodies.specs.ProgramImages.{IsResumed}
 use Rattle.match_bodies.specs.Bodies.{IsLeafFrame}
@@ -12,15 +13,15 @@ module _ (t : Functions) (fs : List Funclet) (program : LinearProgram) (p : Imag
     pub leaf_layout : (name : BodyName) (b : LinearBody) → p.leaf name ≡ true
         → IsLaidOut program p name b → IsLeafLayout (p.layout name) b
     leaf_layout (FunctionBody f) b e h = subst (λ (leaf : Bool). IsLayoutIf program p
-        (p.layout (FunctionBody f)) b leaf) e h
+        (weight_of (slice_get program.functions f)) (p.layout (FunctionBody f)) b leaf) e h
     leaf_layout (FuncletBody k) b e h = let z : true ≡ false = sym e ∙ h.framed in absurd cc
 
     -- no parameter stays in its register where a body has a frame
     pub none_arrive : (name : BodyName) (b : LinearBody) → p.leaf name ≡ false
         → IsLaidOut program p name b → (p.layout name).arrivals ≡ 0
     none_arrive (FunctionBody f) b e h =
-        let l = subst (λ (leaf : Bool). IsLayoutIf program p (p.layout (FunctionBody f)) b leaf) e h
-        in
+        let l = subst (λ (leaf : Bool). IsLayoutIf program p
+        (weight_of (slice_get program.functions f)) (p.layout (FunctionBody f)) b leaf) e h in
         l.none_arrive
     none_arrive (FuncletBody k) b e h = h.layout.none_arrive
 
@@ -45,27 +46,28 @@ module _ (t : Functions) (fs : List Funclet) (program : LinearProgram) (p : Imag
       pub is : List StackItem
       pub on : On t fs program p u.memory (context_of u.cpu) is (Waits c.frame ∷ c.below) acts
 
-    -- a body whose frame is there
-    pub framed_top : (u : State) (c : Configuration) (at : InBody t fs program p q u c)
+    -- a body whose frame is there, with the one entry of all its instructions
+    pub framed_top : (u : State) (c : Configuration) (label : ℕ) (at : InBody t fs program p q u c)
+        → ((other : ℕ) → p.entry c.frame.body label ≡ p.entry c.frame.body other)
         → p.leaf c.frame.body ≡ false → FrameIsAt t u.memory (context_of u.cpu)
-        (frame_of p c.frame.body at.back at.others) → OnTop u c at.acts
-    framed_top u c at e f =
+        (frame_at_label p c.frame.body label at.back at.others) → OnTop u c at.acts
+    framed_top u c label at one e f =
         let name = c.frame.body in
         let y = p.layout name in
         record {
-          is = Framed (frame_of p name at.back at.others) ∷ at.is;
+          is = Framed (frame_at_label p name label at.back at.others) ∷ at.is;
           on = record {
             is_there = record {
               stack = (f, at.below.is_there.stack);
               linked = (
                 record {
                   framed = e;
-                  entry = refl;
                   slots = refl;
                   small = at.small;
                   waits = subst (λ (leaf : Bool). BodyWaits t fs program p u.memory
                       (context_of u.cpu) (now_of leaf u.cpu)
                       (slots_end y leaf) (last_temporary y name leaf) c.frame at.acts) e at.slots;
+                  entry = one _;
                   pointers = at.pointers;
                   returns = at.returns_to;
                 },
@@ -148,7 +150,8 @@ module _ (t : Functions) (fs : List Funclet) (program : LinearProgram) (p : Imag
           → IsResumed t fs program p q c.frame.body at.slots.code label u.cpu.rip
           → HasProgram t fs program p q u.memory → p.leaf c.frame.body ≡ false → OnTop u c at.acts
       framed_on_top u c label at resumed has e =
-          framed_top u c at e (image.frames u.memory c.frame.body at.slots.code label
+          framed_top u c label at ((image.pieces c.frame.body at.slots.code at.slots.body).entries
+          label) e (image.frames u.memory c.frame.body at.slots.code label
           (context_of u.cpu) at.back at.others at.slots.body e has resumed (framed_here u c at e))
 
       leaf_on_top : (u : State) (c : Configuration) (label : ℕ) (at : InBody t fs program p q u c)

@@ -106,6 +106,13 @@ module _ (setting : Setting) (roomy : HaveRoom setting.program) where
         ap (offset_of y code.code) k) in
         omega (arith, a.labels (c.frame.next + 1), a.labels c.frame.next, b.rip, n, o, z)
 
+    -- where the instruction's code ends
+    pub code_end : (i : Instruction) → slice_get code.code c.frame.next ≡ Some i
+        → p.after name c.frame.next ≡ s.cpu.rip + template_size y i
+    code_end i e =
+        let g = get_or_is code.code c.frame.next i instructions.Separator e in
+        (image.pieces name code b.body.slots.body).ends c.frame.next g.1 ∙ next_address i e
+
     -- the parameters that stay in registers are there
     pub are_here : AreArrived frame v
     are_here = λ i lt. arriving_is s i

@@ -110,9 +110,15 @@ module _ (t : Functions) (fs : List Funclet) (program : LinearProgram) (p : Imag
       let z = ap (p.address name) n ∙ a (suc label) in
       omega arith
 
+  -- this one's code ends after its template
+  pub code_ends : (name : BodyName) (b : LinearBody) (label : ℕ) → body_of program name ≡ Some b
+      → label < length b.code → p.after name label
+      ≡ p.address name label + template_size (p.layout name)
+      (get_or b.code label instructions.Separator)
+  code_ends name b label e lt = (image.pieces name b e).ends label lt
+      ∙ address_next name b label e lt
+
   pub first_in_code : (name : BodyName) (b : LinearBody) (label : ℕ) → body_of program name ≡ Some b
       → label < length b.code → InCode p name label (p.address name label)
   first_in_code name b label e lt =
-      let x = address_next name b label e lt in
-      let s = template_some (p.layout name) (get_or b.code label instructions.Separator) in
-      record { low = omega arith; high = omega arith }
+      record { low = omega arith; high = (image.addresses name b e).rises label lt }

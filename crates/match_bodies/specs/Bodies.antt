@@ -1,5 +1,5 @@
 -- The body that runs, where an instruction of linear code begins.
-use Rattle.std.specs.Prelude.{◌≡◌, ℕ, zero, suc, ◌+◌, ◌*◌, ◌≤◌, Bool, true, false, List, [], ◌∷◌, length, drop, Some, Ok}
+use Rattle.std.specs.Prelude.{◌≡◌, ℕ, ◌+◌, ◌*◌, ◌≤◌, Bool, true, false, List, [], ◌∷◌, length, drop, Some, Ok}
 use Rattle.host_layout.specs.declared.range.TheConstants.{STACK_END}
 use Rattle.x64_instr.specs.declared.register.Reg.TheVariants.{Rax, Rsp}
 use Rattle.x64_machine.specs.Contexts.{context_of}
@@ -8,7 +8,7 @@ use Rattle.virtual_unwind.specs.CallerOf.{Functions}
 use Rattle.virtual_unwind.specs.Undone.{word}
 use Rattle.host_model.specs.declared.funclet.Funclet.{Funclet}
 use Rattle.linear_code.specs.Program.{LinearProgram}
-use Rattle.linear_machine.specs.Frames.{BodyName, FunctionBody, FuncletBody, Item, Waits, Searches, Unwinds, Configuration}
+use Rattle.linear_machine.specs.Frames.{BodyName, Item, Waits, Searches, Unwinds, Configuration}
 use Rattle.template_code.specs.declared.layout.Layout.{Layout}
 use Rattle.seh_records.specs.Laws.{AllSmall}
 use Rattle.match_stack.specs.Stack.{StackItem, StackFrame, IsAsTold}
@@ -53,16 +53,6 @@ held_below (Unwinds rest target ∷ below) = held_below below
 -- it has
 abbrev pub turns_left : Configuration → ℕ
 turns_left c = 3 * (length c.frame.temporaries + held_below c.below)
-
--- turns that a body has in hand for a call: none where a function has just begun, six once it is
--- past the separator there
-abbrev pub in_hand : BodyName → ℕ → ℕ
-in_hand (FunctionBody f) zero = 0
-in_hand (FunctionBody f) (suc label) = 6
-in_hand (FuncletBody k) label = 6
-
-abbrev pub turns_in_hand : Configuration → ℕ
-turns_in_hand c = in_hand c.frame.body c.frame.next + turns_left c
 
 module _ (t : Functions) (fs : List Funclet) (program : LinearProgram) (p : ImagePlan)
     (q : Sites) where

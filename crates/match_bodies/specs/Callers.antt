@@ -110,4 +110,4 @@ abbrev pub owed_pops : FramePlan → List ℕ → Owed
 owed_pops f left = record { register = f.frame; offset = f.distance; codes = pushed left }
 
 abbrev pub owed_of : ImagePlan → BodyName → Owed
-owed_of p name = owed_by (p.entry name).info (p.leaf name)
+owed_of p name = owed_by (p.entry name 0).info (p.leaf name)

@@ -3,7 +3,7 @@ use Rattle.std.specs.Prelude.{◌≡◌, ℕ, ◌+◌, ◌*◌, ◌≤◌, true,
 use Rattle.std.specs.List.{AllByRecursion}
 use Rattle.host_layout.specs.declared.range.TheConstants.{PAGE}
 use Rattle.linear_code.specs.Program.{LinearProgram, LinearBody, LinearFunclet}
-use Rattle.linear_machine.specs.Frames.{BodyName, FunctionBody, FuncletBody, body_of}
+use Rattle.linear_machine.specs.Frames.{BodyName, FunctionBody, FuncletBody, body_of, weight_of}
 use Rattle.template_code.specs.declared.layout.Layout.{Layout}
 use Rattle.x64_instr.specs.declared.register.Reg.{Reg}
 use Rattle.x64_instr.specs.Registers.{number}
@@ -14,7 +14,7 @@ use Rattle.x64_templates.specs.InstructionRuns.{KeepsArrivals, IsSpare}
 use Rattle.frame_rules.specs.Codes.{is_saved}
 use Rattle.frame_rules.specs.Plan.{FramePlan, IsPlan, Saved, operations_of, frame_size}
 use Rattle.match_stack.specs.ImagePlan.{ImagePlan}
-use Rattle.template_code.specs.declared.layout.TheConstants.{LARGEST_FRAME}
+use Rattle.template_code.specs.declared.layout.TheConstants.{FRAME_BY_WEIGHT, MOST_WEIGHT}
 
 -- the saves by mov are so far above RSP at least
 abbrev pub AreSavedAbove : ℕ → List Saved → Type 0
@@ -33,15 +33,16 @@ pub record IsFramePlan (y : Layout) (f : FramePlan) : Type 0 where
   pub saved : AreSavedAbove y.slots f.saves
   pub whole : frame_size f ≡ y.frame + 8
 
--- a function's frame, from RSP up: home space and further arguments of its calls, temporaries,
--- locals, and what it saves
-pub record IsFunctionLayout (y : Layout) (b : LinearBody) : Type 0 where
+-- the frame of a function of this weight, from RSP up: home space and further arguments of its
+-- calls, temporaries, locals, and what it saves
+pub record IsFunctionLayout (weight : ℕ) (y : Layout) (b : LinearBody) : Type 0 where
   pub none : y.base ≡ None
   pub passed : 32 + 8 * b.passed ≤ y.temporaries
   pub temporaries : y.temporaries + 8 * b.temporaries ≤ y.locals
   pub locals : y.locals + 8 * b.locals ≤ y.slots
   pub within : y.slots ≤ y.frame
-  pub small : y.frame + 8 ≤ LARGEST_FRAME
+  pub light : weight ≤ MOST_WEIGHT
+  pub small : y.frame + 8 ≤ FRAME_BY_WEIGHT * weight
   pub plan : IsFramePlan y (plan_of_layout y 0)
   -- RBX, RSI, RDI, R12 to R15 and the frame register
   pub few : saved_count (plan_of_layout y 0) ≤ 8
@@ -86,9 +87,9 @@ pub record IsFuncletLayout (y function : Layout) (b : LinearBody) : Type 0 where
 
 module _ (program : LinearProgram) (p : ImagePlan) where
   -- the layout of a leaf function, or of one with a frame
-  abbrev pub IsLayoutIf : Layout → LinearBody → Bool → Type 0
-  IsLayoutIf y b true = IsLeafLayout y b
-  IsLayoutIf y b false = IsFunctionLayout y b
+  abbrev pub IsLayoutIf : (weight : ℕ) → Layout → LinearBody → Bool → Type 0
+  IsLayoutIf weight y b true = IsLeafLayout y b
+  IsLayoutIf weight y b false = IsFunctionLayout weight y b
 
   -- the function of a funclet is no leaf, and has as many locals
   pub record IsFuncletPlan (k : ℕ) (b : LinearBody) : Type 0 where
@@ -106,7 +107,9 @@ module _ (program : LinearProgram) (p : ImagePlan) where
 
   -- the layout of a body
   abbrev pub IsLaidOut : BodyName → LinearBody → Type 0
-  IsLaidOut (FunctionBody f) b = IsLayoutIf (p.layout (FunctionBody f)) b (p.leaf (FunctionBody f))
+  IsLaidOut (FunctionBody f) b =
+      IsLayoutIf (weight_of (slice_get program.functions f)) (p.layout (FunctionBody f)) b
+      (p.leaf (FunctionBody f))
   IsLaidOut (FuncletBody k) b = IsFuncletPlan k b
 
   -- the layouts of all bodies

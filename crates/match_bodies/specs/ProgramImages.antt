@@ -69,16 +69,21 @@ service_of Protect = services.Protect
 service_of RaiseException = services.RaiseException
 service_of Walk = services.Walk
 
--- the frame of a body, by its layout
+-- the frame of a body, by its layout, with the entry that the body begins in
 abbrev pub frame_of : ImagePlan → BodyName → (back : ℕ) → List ℕ → StackFrame
 frame_of p name back others =
     record {
-      entry = p.entry name;
+      entry = p.entry name 0;
       slots = (p.layout name).slots;
       size = (p.layout name).frame;
       return_address = back;
       others = others;
     }
+
+-- the same frame, with the entry of an instruction
+abbrev pub frame_at_label : ImagePlan → BodyName → (label back : ℕ) → List ℕ → StackFrame
+frame_at_label p name label back others =
+    record (frame_of p name back others) { entry = p.entry name label }
 
 -- where a body's frame can be: there is room, and what is above its slots is as its codes tell
 pub record IsFramed (p : ImagePlan) (m : Memory) (name : BodyName) (c : Context) (back : ℕ)
@@ -119,8 +124,7 @@ module _ (t : Functions) (fs : List Funclet) (program : LinearProgram) (p : Imag
   pub record HasAddresses (name : BodyName) (b : LinearBody) : Type 0 where
     pub first : p.address name 0 ≡ begin_of p q name + sizes (entry_code program p q name)
     pub labels : HasLabels (links_of p q name) (p.layout name) (p.address name 0) b.code
-    pub rises : (label : ℕ) → label < length b.code
-        → p.address name label < p.address name (label + 1)
+    pub rises : (label : ℕ) → label < length b.code → p.address name label < p.after name label
     pub inside : IsInImage (begin_of p q name) (p.address name 0 + body_size (p.layout name) b.code)
     pub not_first : (label k : ℕ) → label < length b.code → k < length program.funclets
         → p.address name label ≢ p.funclet k
@@ -128,6 +132,11 @@ module _ (t : Functions) (fs : List Funclet) (program : LinearProgram) (p : Imag
     pub no_funclet : (a k : ℕ) → begin_of p q name < a
         → a < p.address name 0 + body_size (p.layout name) b.code → k < length program.funclets
         → a ≢ p.funclet k
+
+  -- a body's code is in one piece, which has one entry
+  pub record IsInOnePiece (name : BodyName) (b : LinearBody) : Type 0 where
+    pub ends : (label : ℕ) → label < length b.code → p.after name label ≡ p.address name (label + 1)
+    pub entries : (label other : ℕ) → p.entry name label ≡ p.entry name other
 
   -- ---- memory
 
@@ -176,14 +185,14 @@ module _ (t : Functions) (fs : List Funclet) (program : LinearProgram) (p : Imag
       (others : List ℕ)
       → body_of program name ≡ Some b → p.leaf name ≡ false → HasProgram m
       → IsResumed name b label c.rip → IsFramed p m name c back others
-      → FrameIsAt t m c (frame_of p name back others)
+      → FrameIsAt t m c (frame_at_label p name label back others)
 
-  -- the unwind info of an entry tells of the prologue of its body's plan
+  -- the unwind info of the entry that a body begins in tells of the prologue of its plan
   pub record IsPlanned (name : BodyName) : Type 0 where
-    pub codes : (p.entry name).info.codes ≡ (rules.unwind_of spell (body_plan p q name)).codes
-    pub frame_register : (p.entry name).info.frame_register ≡ (body_plan p q name).frame
-    pub frame_offset : (p.entry name).info.frame_offset ≡ (body_plan p q name).distance
-    pub prologue_size : (p.entry name).info.prologue_size
+    pub codes : (p.entry name 0).info.codes ≡ (rules.unwind_of spell (body_plan p q name)).codes
+    pub frame_register : (p.entry name 0).info.frame_register ≡ (body_plan p q name).frame
+    pub frame_offset : (p.entry name 0).info.frame_offset ≡ (body_plan p q name).distance
+    pub prologue_size : (p.entry name 0).info.prologue_size
         ≡ (rules.unwind_of spell (body_plan p q name)).prologue_size
 
   -- a leaf function has no entry
@@ -269,8 +278,9 @@ module _ (t : Functions) (fs : List Funclet) (program : LinearProgram) (p : Imag
   pub record FindsCallers (name : BodyName) (b : LinearBody) : Type 0 where
     pub entries : (m : Memory) → (p.leaf name ≡ true → 0 < length b.code)
         → FindsReturn t m (begin_of p q name)
-    pub making : (m : Memory) (d : ℕ) → p.leaf name ≡ false → d < (p.entry name).info.prologue_size
-        → FindsOwed t m (begin_of p q name + d) (owed_after (p.entry name).info d)
+    pub making : (m : Memory) (d : ℕ) → p.leaf name ≡ false
+        → d < (p.entry name 0).info.prologue_size
+        → FindsOwed t m (begin_of p q name + d) (owed_after (p.entry name 0).info d)
     pub arguments :
         (m : Memory) (done left : List Instr) (item : Instr)
         → HasProgram m → arguments_code program p name ≡ done ++ (item ∷ left)
@@ -320,6 +330,8 @@ module _ (t : Functions) (fs : List Funclet) (program : LinearProgram) (p : Imag
     pub laid_out : AreLaidOut program p
     pub addresses : (name : BodyName) (b : LinearBody) → body_of program name ≡ Some b
         → HasAddresses name b
+    pub pieces : (name : BodyName) (b : LinearBody) → body_of program name ≡ Some b
+        → IsInOnePiece name b
     pub check_stack : IsInImage q.check_stack (q.check_stack + sizes check_stack)
     -- a function's locals stand where its layout says
     pub registers : (f x : ℕ) → p.register (FunctionBody f) x

@@ -19,7 +19,7 @@ pub use Rattle.linear_code.specs.declared.instruction.Instruction.{Instruction}
 pub use Rattle.linear_code.specs.declared.program.Region.{Region}
 pub use Rattle.linear_code.specs.declared.slot.Slot.{Slot}
 pub use Rattle.linear_code.specs.declared.slot.Slot.TheVariants.{Local, Temporary}
-pub use Rattle.linear_machine.specs.Frames.{BodyName, FunctionBody, FuncletBody, Item, Waits, Searches, Unwinds, body_of, Frame, Configuration, Next, read, with_temporaries, forth, local_of, at_label, with_last, funclet_body}
+pub use Rattle.linear_machine.specs.Frames.{BodyName, FunctionBody, FuncletBody, Item, Waits, Searches, Unwinds, body_of, weight_of, Frame, Configuration, Next, read, with_temporaries, forth, local_of, at_label, with_last, funclet_body}
 unfoldable pub use Rattle.linear_machine.specs.Frames.{with_some, pick}
 pub use Rattle.linear_machine.specs.Instructions.{is_constant, operand, act, written, computed, not_landed, tested}
 pub use Rattle.linear_machine.specs.Regions.{holds, regions_of}
@@ -33,7 +33,7 @@ pub use Rattle.x64_instr.specs.declared.instruction.Instr.{Instr}
 pub use Rattle.x64_instr.specs.declared.instruction.Target.TheVariants.{Indirect, Relative}
 pub use Rattle.x64_instr.specs.declared.operand.RegisterOrMemory.{RegisterOrMemory}
 pub use Rattle.x64_instr.specs.declared.register.Reg.{Reg}
-pub use Rattle.x64_instr.specs.declared.register.Reg.TheVariants.{Rsp, Rax, Rcx, Rdx, R11, Rbx, Rbp, Rsi, Rdi, R12, R13, R14, R15}
+pub use Rattle.x64_instr.specs.declared.register.Reg.TheVariants.{Rsp, Rax, Rcx, Rdx, R10, R11, Rbx, Rbp, Rsi, Rdi, R12, R13, R14, R15}
 pub use Rattle.x64_encode.specs.Chosen.{is_encodable, chosen, prefixes, modrm_bits, opcode_bytes, place_bytes}
 unfoldable pub use Rattle.x64_encode.specs.Chosen.{opcode_register, modrm}
 pub use Rattle.x64_machine.specs.Contexts.{context_of, kept_of}
@@ -44,12 +44,12 @@ unfoldable pub use Rattle.template_code.specs.Bytes.{size}
 pub use Rattle.template_code.specs.Calls.{keep_register, parameter_register, stack_parameter, parameter_code, parameters_code, passing_code, return_code, information_code, finally_arguments}
 pub use Rattle.template_code.specs.Jumps.{IsNear, call, test_code}
 pub use Rattle.template_code.specs.Operations.{before, above, work}
-pub use Rattle.template_code.specs.Probing.{check_stack, first_touch}
+pub use Rattle.template_code.specs.Probing.{check_stack, first_touch, page_down, loop_back, touched_range, touching}
 pub use Rattle.template_code.specs.Slots.{local_at, fetch_local, fetch, finish_code, compute_code, fetched, keep_local, keep, operands_code, temporary_at, put_back}
 pub use Rattle.template_code.specs.Template.{template, code_from, body_size, offset_of}
 unfoldable pub use Rattle.template_code.specs.Template.{template_size}
 pub use Rattle.template_code.specs.declared.layout.Layout.{Layout}
-pub use Rattle.template_code.specs.declared.layout.TheConstants.{LARGEST_FRAME}
+pub use Rattle.template_code.specs.declared.layout.TheConstants.{FRAME_BY_WEIGHT, MOST_WEIGHT}
 pub use Rattle.x64_templates.specs.Epilogues.{IsReturn}
 pub use Rattle.x64_templates.specs.Frames.{Agrees, InTemporaries, InLocals, IsBytes, HasBase, SlotsHaveRoom, MemoryKeepsBase, KeepsReserved, HoldsBody, Changes}
 pub use Rattle.x64_templates.specs.InstructionRuns.{InstructionDone, KeepsArrivals, IsSpare}
@@ -82,7 +82,7 @@ pub use Rattle.match_bodies.specs.CodeSites.{Sites, links_of, arguments_code, be
 pub use Rattle.match_bodies.specs.ConfigurationFacts.{IsWellMade, IsKnown}
 pub use Rattle.match_bodies.specs.Layouts.{IsFunctionLayout, IsLayoutIf, IsLaidOut, AreLaidOut, IsLeafLayout, IsFuncletLayout, IsFuncletPlan}
 pub use Rattle.match_bodies.specs.LocalRegisters.{now_of, IsInRegister, RegistersHold}
-pub use Rattle.match_bodies.specs.ProgramImages.{HasProgram, IsProgramImage, frame_of, service_of, HasService, IsMachineMemory, IsInImage, IsFramed}
+pub use Rattle.match_bodies.specs.ProgramImages.{HasProgram, IsProgramImage, frame_of, frame_at_label, service_of, HasService, IsMachineMemory, IsInImage, IsFramed}
 pub use Rattle.match_bodies.specs.Setting.{setting_of, Setting, RepresentsAt, IsResumed}
 pub use Rattle.match_bodies.specs.SlotStores.{with_values, KeepsStackBut, OwnerHasFrame, with_values_if, IsInFrame, FrameWords, IsLeft, LeavesRegisters, ActivationIsAt, ActivationsAreAt, ActivationsAreStored}
 pub use Rattle.template_code.specs.declared.layout.Place.{Place}

@@ -34,7 +34,8 @@ module _ (t : Functions) (fs : List Funclet) where
   from_end : (least most turns left : ℕ) (s : State) (events : List Event) (seen : Seen)
       → most ≤ turns + left → RunOutcome t fs least most turns s events seen
       → ShowsAll (shown seen) (run t fs left (host s) events)
-  from_end least most turns left s events seen enough (RunsOn long live is) =
+  from_end least most turns left s events seen enough
+      (RunsOn rest last long still live is) =
       subst (λ x. ShowsAll (shown x) (run t fs left (host s) events)) (sym is)
       (none_yet events (run t fs left (host s) events) (begins t fs left (host s) events))
   from_end least most turns left s events seen enough (Exited over is) =

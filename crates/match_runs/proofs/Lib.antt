@@ -2,6 +2,7 @@ mod Lemmas
 pub mod Shadows
 pub mod Turns
 pub mod Matches
+pub mod Taken
 pub mod Steps
 pub mod MatchedRuns
 pub mod RunEnds

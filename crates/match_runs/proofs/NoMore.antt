@@ -4,7 +4,7 @@ use Rattle.std.proofs.lemmas.Bool.{cases_lt}
 use Rattle.match_runs.specs.Words.{Shown, RunEnd, Event, State, Functions, host, run, Funclet, IsPrefixOf, is_calm, Finished, Seen, shown, Comes, IsCalm, ShowsNoMore}
 use Rattle.source_meaning.specs.declared.ended.Ended.{Ended}
 use Rattle.match_runs.proofs.Lemmas.{prefix_same, prefix_then, prefix_after}
-use Rattle.match_runs.proofs.Turns.{partway, run_pauses}
+use Rattle.match_runs.proofs.Turns.{partway, run_pauses, still}
 use Rattle.match_runs.proofs.MatchedRuns.{RunOutcome, RunsOn, Exited, Died, Failed, RunIsMatched}
 use Rattle.match_runs.proofs.RunEnds.{HasEnded, returned, died, run_from}
 
@@ -50,7 +50,8 @@ module _ (t : Functions) (fs : List Funclet) where
   shown_first : (least most turns : ℕ) (s : State) (events : List Event) (seen : Seen)
       → IsCalm seen → RunOutcome t fs least most turns s events seen
       → IsPrefixOf events (shown seen).events
-  shown_first least most turns s events seen calm (RunsOn long live is) =
+  shown_first least most turns s events seen calm
+      (RunsOn rest last long silent live is) =
       prefix_same events (shown seen).events (ap (λ (x : Seen). (shown x).events) (sym is))
   shown_first least most turns s events seen calm (Exited over is) =
       prefix_same events (shown seen).events (ap (λ (x : Seen). (shown x).events) (sym is))
@@ -63,11 +64,11 @@ module _ (t : Functions) (fs : List Funclet) where
   from_end : (least most turns left : ℕ) (s : State) (events : List Event) (seen : Seen)
       → IsCalm seen → turns + left ≤ least → RunOutcome t fs least most turns s events seen
       → ShowsNoMore (shown seen) (run t fs left (host s) events)
-  from_end least most turns zero s events seen calm fewer (RunsOn long live is) =
-      continues (shown seen) (run t fs zero (host s) events) events (run_pauses t fs s events live)
-      (shown_first least most turns s events seen calm (RunsOn long live is))
-  from_end least most turns (suc left) s events seen calm fewer (RunsOn long live is) =
-      absurd (omega arith)
+  from_end least most turns left s events seen calm fewer
+      (RunsOn rest last long silent live is) =
+      continues (shown seen) (run t fs left (host s) events) events
+      (still t fs rest left s last events silent live (omega arith))
+      (shown_first least most turns s events seen calm (RunsOn rest last long silent live is))
   from_end least most turns left s events seen calm fewer (Exited over is) =
       ended_as seen (run t fs left (host s) events) (returned t fs left s events seen over is)
   from_end least most turns zero s events seen calm fewer (Died last code few live dies is) =

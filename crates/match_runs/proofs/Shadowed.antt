@@ -1,9 +1,10 @@
 -- At every turn of a run that has not ended the walk gives the shadow.
-use Rattle.std.proofs.Common.{◌≡◌, inl, inr, ℕ, zero, suc, ◌+◌, ◌-◌, ◌<◌, ◌≤◌, Some, None, List, ◌++◌, refl, sym, ap, subst, ◌∙◌, arith}
+use Rattle.std.proofs.Common.{◌≡◌, inl, inr, ℕ, zero, suc, ◌+◌, ◌-◌, ◌<◌, ◌≤◌, Some, None, List, [], ◌++◌, refl, sym, ap, subst, ◌∙◌, arith}
 use Rattle.std.proofs.lemmas.Bool.{cases_lt}
 use Rattle.std.specs.Prelude.{Option}
 use Rattle.match_runs.specs.Words.{Shown, RunEnd, Event, State, Context, Functions, host, turn, run, Continues, Funclet, Seen, Comes, IsLive, IsCalm, WalkGives, shadow_after}
 use Rattle.match_runs.specs.Shadowed.{by_turn, unless_over, shadowed, WalkGivesShadow}
+use Rattle.match_runs.proofs.Turns.{comes_then}
 use Rattle.match_runs.proofs.MatchedRuns.{RunOutcome, RunsOn, Exited, Died, Failed, RunIsMatched}
 use Rattle.match_runs.proofs.RunEnds.{HasEnded, returned, died, run_from}
 use Rattle.match_runs.proofs.NoMore.{not_wild}
@@ -42,32 +43,39 @@ module _ (t : Functions) (fs : List Funclet) where
         walk = x.walk;
       }
 
-  -- past the turns that match a calm run of so many steps, the machine has ended
-  past_end : (least most turns left : ℕ) (s : State) (events : List Event) (seen : Seen)
-      → IsCalm seen → 0 < left → turns + left ≤ least
-      → RunOutcome t fs least most turns s events seen → HasNoEnd (run t fs left (host s) events)
-      → ⊥
-  past_end least most turns left s events seen calm some fewer (RunsOn long live is) none =
-      omega arith
-  past_end least most turns left s events seen calm some fewer (Exited over is) none =
-      has_end seen (run t fs left (host s) events) (returned t fs left s events seen over is) none
-  past_end least most turns zero s events seen calm some fewer
-      (Died last code few live dies is) none = omega arith
-  past_end least most turns (suc left) s events seen calm some fewer
+  -- past the turns that match a calm run of so many steps, silent ones follow, or the machine has
+  -- ended
+  later : (least most turns left : ℕ) (s u : State) (cs : List Context) (shown events : List Event)
+      (seen : Seen) → Comes t fs turns s shown u → IsCalm seen → 0 < left → turns + left ≤ least
+      → WalkGives t s cs → RunOutcome t fs least most turns u events seen
+      → HasNoEnd (run t fs left (host u) events) → WalkGivesShadow t fs (turns + left) s cs
+  later least most turns left s u cs shown events seen comes calm some fewer w
+      (RunsOn rest last long silent live is) none =
+      along (turns + rest) (turns + left) s last cs (shown ++ [])
+      (comes_then t fs turns rest s u last shown [] comes silent) (omega arith) w
+  later least most turns left s u cs shown events seen comes calm some fewer w (Exited over is)
+      none =
+      absurd (has_end seen (run t fs left (host u) events)
+      (returned t fs left u events seen over is) none)
+  later least most turns zero s u cs shown events seen comes calm some fewer w
+      (Died last code few live dies is) none = absurd (omega arith)
+  later least most turns (suc left) s u cs shown events seen comes calm some fewer w
       (Died last code few live dies is) none =
-      has_end seen (run t fs (suc left) (host s) events)
-      (died t fs left s events last code seen live dies is) none
-  past_end least most turns left s events seen calm some fewer (Failed end before front wild is)
-      none = not_wild end before seen wild is calm
+      absurd (has_end seen (run t fs (suc left) (host u) events)
+      (died t fs left u events last code seen live dies is) none)
+  later least most turns left s u cs shown events seen comes calm some fewer w
+      (Failed end before front wild is) none = absurd (not_wild end before seen wild is calm)
 
-  -- so a run that has not ended is within them
+  -- so as long as a run has not ended, the walk gives the shadow
   pub walks_the_shadow : (least most m : ℕ) (s : State) (cs : List Context) (out : List Event)
       (seen : Seen) → RunIsMatched t fs least most s out seen → IsCalm seen → m ≤ least
       → WalkGives t s cs → HasNoEnd (run t fs m (host s) out) → WalkGivesShadow t fs m s cs
   walks_the_shadow least most m s cs out seen r calm fewer w none =
       elim (cases_lt r.turns m) as (λ _. WalkGivesShadow t fs m s cs) [
-        | inl lt ↦ absurd (past_end least most r.turns (m - r.turns) r.state (out ++ r.events) seen
-            calm (omega arith) (omega arith) r.outcome
-            (subst HasNoEnd (run_from t fs least most m s out seen r (omega arith)) none))
+        | inl lt ↦ (let whole : r.turns + (m - r.turns) ≡ m = omega arith in
+            subst (λ n. WalkGivesShadow t fs n s cs) whole
+            (later least most r.turns (m - r.turns) s r.state cs r.events (out ++ r.events) seen
+            r.comes calm (omega arith) (omega arith) w r.outcome
+            (subst HasNoEnd (run_from t fs least most m s out seen r (omega arith)) none)))
         | inr le ↦ along r.turns m s r.state cs r.events r.comes le w
       ]

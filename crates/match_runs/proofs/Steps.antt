@@ -1,9 +1,9 @@
 -- Steps of linear code, and what they show whatever steps_are_matched.
 use Rattle.std.proofs.Common.{◌≡◌, ℕ, zero, suc, ◌+◌, List, refl, ap, subst, ◌∙◌, arith}
 use Rattle.std.specs.Prelude.{Option, Some, None}
-use Rattle.match_runs.specs.Words.{State, Functions, Funclet, LinearProgram, Instruction, Configuration, Finished, Running, Seen, with_some, Stuck, act, instruction_at, exec, HasRule, IsMatched, StepIsMatched, Simulates, StepsAreMatched}
+use Rattle.match_runs.specs.Words.{is_separator, State, Functions, Funclet, LinearProgram, Instruction, Configuration, Finished, Running, Seen, with_some, Stuck, act, instruction_at, exec, HasRule, IsTaken, StepIsMatched, Simulates, StepsAreMatched}
 use Rattle.linear_machine.proofs.RunLengths.{More, longer}
-use Rattle.match_runs.proofs.Matches.{matched_as}
+use Rattle.match_runs.proofs.Taken.{taken_as}
 
 module _ (program : LinearProgram) where
   -- a step and what steps_are_matched
@@ -52,7 +52,7 @@ pub record MatchedStep (t : Functions) (fs : List Funclet) (program : LinearProg
     (s : State) (c : Configuration) : Type 0 where
   pub instruction : Instruction
   pub at : instruction_at program c ≡ Some instruction
-  pub matched : IsMatched t fs program turns_per_step credit Represents s c instruction
+  pub matched : IsTaken t fs program turns_per_step credit Represents s c instruction
 
 module _ (t : Functions) (fs : List Funclet) (program : LinearProgram) (turns_per_step : ℕ)
     (credit : Configuration → ℕ) where
@@ -78,7 +78,6 @@ module _ (t : Functions) (fs : List Funclet) (program : LinearProgram) (turns_pe
       → Simulates t fs program turns_per_step credit R → (n : ℕ) (s : State) (c : Configuration)
       → R n s c → StepsAreMatched t fs program turns_per_step credit n s c
   steps_are_matched R simulates zero s c r = simulates.live s c r
-  steps_are_matched R simulates (suc n) s c r = λ i at rule. matched_as t fs program credit
-      turns_per_step (R n)
-      (StepsAreMatched t fs program turns_per_step credit n) (steps_are_matched R simulates n) s c i
-      (simulates.steps n s c r i at rule)
+  steps_are_matched R simulates (suc n) s c r = λ i at rule. taken_as t fs program turns_per_step
+      credit (R n) (StepsAreMatched t fs program turns_per_step credit n)
+      (steps_are_matched R simulates n) s c i (is_separator i) (simulates.steps n s c r i at rule)

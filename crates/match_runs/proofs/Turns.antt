@@ -1,8 +1,9 @@
 -- Turns one after another, and the runs that they belong to.
-use Rattle.std.proofs.Common.{◌≡◌, ℕ, zero, suc, ◌+◌, ◌<◌, Bool, Some, None, Ok, List, [], ◌++◌, refl, sym, ap, subst, ◌∙◌, arith, append_assoc}
+use Rattle.std.proofs.Common.{◌≡◌, inl, inr, ℕ, zero, suc, ◌+◌, ◌<◌, ◌≤◌, Bool, Some, None, Ok, List, [], ◌∷◌, ◌++◌, refl, sym, ap, subst, ◌∙◌, arith, append_assoc}
 use Rattle.std.proofs.lemmas.List.{append-nil}
+use Rattle.std.proofs.lemmas.Bool.{cases_lt}
 use Rattle.std.specs.Prelude.{◌==◌}
-use Rattle.match_runs.specs.Words.{signed, RunEnd, Event, W32, Rax, State, register, step, Functions, distance, arrivals, arrived, host, turn, Ended, over, turned, end_of, run, or_turn, continued_by, Continues, Ends, Funclet, Comes, IsLive, KeepsShadow}
+use Rattle.match_runs.specs.Words.{Shown, signed, RunEnd, Event, W32, Rax, State, register, step, Functions, distance, arrivals, arrived, host, turn, Ended, over, turned, end_of, run, or_turn, continued_by, Continues, Ends, Funclet, Comes, IsLive, KeepsShadow}
 use Rattle.seh_num.specs.declared.end.RunEnd.TheVariants as ends
 
 module _ (t : Functions) (fs : List Funclet) where
@@ -131,3 +132,25 @@ module _ (t : Functions) (fs : List Funclet) where
             ∙ ap (λ (ys : List Event). record { events = ys; end = None })
             (append_assoc out r.first x.part);
       }
+
+  -- ---- turns that show nothing
+
+  no_front : (xs ys : List Event) → xs ++ ys ≡ [] → xs ≡ []
+  no_front [] ys e = refl
+  no_front (x ∷ xs) ys e = absurd cc
+
+  abbrev nothing_after : List Event → Shown RunEnd
+  nothing_after es = record { events = es; end = None }
+
+  -- they add nothing to a run, and do not end it
+  pub still : (k m : ℕ) (s u : State) (out : List Event) → Comes t fs k s [] u → IsLive u → m ≤ k
+      → run t fs m (host s) out ≡ record { events = out; end = None }
+  still k m s u out r live le =
+      elim (cases_lt m k) as (λ _. run t fs m (host s) out ≡ nothing_after out) [
+        | inl lt ↦ (let x = partway k m s u out [] r lt in x.runs
+            ∙ ap (λ (ys : List Event). nothing_after (out ++ ys))
+            (no_front x.part x.others (sym x.whole)) ∙ ap nothing_after (append-nil out))
+        | inr most ↦ (let same : m ≡ k + 0 = omega arith in
+            ap (λ n. run t fs n (host s) out) same ∙ run_comes k 0 s u out [] r
+            ∙ run_pauses u (out ++ []) live ∙ ap nothing_after (append-nil out))
+      ]

@@ -18,7 +18,7 @@ use Rattle.match_runs.specs.Shadow.{WalkGives}
 use Rattle.match_runs.specs.Shadowed.{WalkGivesShadow}
 use Rattle.match_runs.specs.Comes.{Comes}
 use Rattle.match_runs.specs.Ends.{run_end_of, HasRule, IsCalm}
-use Rattle.match_runs.specs.Matched.{StepsAreMatched}
+use Rattle.match_runs.specs.Matched.{turns_ahead, StepsAreMatched}
 
 -- a run of the machine shows these events at least; where the program has ended, the run has ended
 -- so and shows nothing else
@@ -34,14 +34,16 @@ pub record ShowsNoMore (meant : Shown Ended) (machine : Shown RunEnd) : Type 0 w
 
 -- ---- from a configuration on
 
--- in enough turns the machine shows what so many steps show
+-- in enough turns, with those ahead of the first step, the machine shows what so many steps show:
+-- where these end among the separators of a function that has just begun, all that they show comes
+-- before its call
 abbrev pub RunsShowAll : Type 0
 RunsShowAll =
     (t : Functions) (fs : List Funclet) (program : LinearProgram) (turns_per_step : ℕ)
     (credit : Configuration → ℕ)
     (n turns : ℕ) (s : State) (c : Configuration)
     → StepsAreMatched t fs program turns_per_step credit n s c → HasRule (exec program n c)
-    → turns_per_step * n + credit c ≤ turns
+    → turns_per_step * n + credit c ≤ turns + turns_ahead program turns_per_step c
     → ShowsAll (shown (exec program n c)) (run t fs turns (host s) c.events)
 
 -- in as many turns at most the machine shows no more than these
@@ -55,15 +57,17 @@ RunsShowNoMore =
 
 -- ---- whole programs
 
--- so many turns that show nothing lead to the beginning of `main`, and so many steps of linear code
--- are matched from there on
+-- turns that show nothing, at most so many beside those ahead of `main`, lead to its beginning, and
+-- so many steps of linear code are matched from there on
 pub record RunBegins (t : Functions) (fs : List Funclet) (program : LinearProgram)
     (turns_per_step : ℕ)
     (credit : Configuration → ℕ) (arg : ℤ) (first : ℕ) (s : State) (n : ℕ) : Type 0 where
   pub main : LinearFunction
   pub is_main : slice_get program.functions program.main ≡ Some main
+  pub turns : ℕ
+  pub few : turns ≤ first + turns_ahead program turns_per_step (start program arg main)
   pub state : State
-  pub comes : Comes t fs first s [] state
+  pub comes : Comes t fs turns s [] state
   pub no_credit : credit (start program arg main) ≡ 0
   pub steps : StepsAreMatched t fs program turns_per_step credit n state (start program arg main)
 

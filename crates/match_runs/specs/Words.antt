@@ -7,12 +7,12 @@ pub use Rattle.seh_num.specs.declared.event.Event.{Event}
 pub use Rattle.seh_num.specs.declared.width.Width.TheVariants.{W32}
 pub use Rattle.source_meaning.specs.Laws.{IsPrefixOf}
 pub use Rattle.source_meaning.specs.Meaning.{is_calm}
-pub use Rattle.linear_code.specs.Program.{LinearProgram, LinearFunction}
+pub use Rattle.linear_code.specs.Program.{LinearProgram, LinearBody, LinearFunction}
 pub use Rattle.linear_code.specs.declared.instruction.Instruction.{Instruction}
-pub use Rattle.linear_machine.specs.Frames.{Seen, Configuration, Finished, Running, Next, Stuck}
+pub use Rattle.linear_machine.specs.Frames.{body_of, Seen, Configuration, Finished, Running, Next, Stuck}
 unfoldable pub use Rattle.linear_machine.specs.Frames.{with_some}
 pub use Rattle.linear_machine.specs.Instructions.{act}
-pub use Rattle.linear_machine.specs.Run.{shown, instruction_at, start, seen}
+pub use Rattle.linear_machine.specs.Run.{shown, instruction_in, instruction_at, start, seen}
 unfoldable pub use Rattle.linear_machine.specs.Run.{exec}
 pub use Rattle.x64_instr.specs.declared.register.Reg.TheVariants.{Rax, Rsp}
 pub use Rattle.x64_machine.specs.Effect.{State, register, Answer}
@@ -29,6 +29,6 @@ pub use Rattle.host_model.specs.declared.funclet.Funclet.{Funclet}
 pub use Rattle.match_runs.specs.Comes.{Comes, IsLive}
 pub use Rattle.match_runs.specs.Ends.{HasRule, IsCalm, run_end_of}
 pub use Rattle.match_runs.specs.Laws.{ShowsAll, ShowsNoMore, RunBegins, RunsShowAll, RunsShowNoMore, ProgramsShowAll, ProgramsShowNoMore, ProgramsWalkTheShadow, TurnsAreEnough}
-pub use Rattle.match_runs.specs.Matched.{IsMatched, StepsAreMatched, Fails, StepIsMatched, Simulates}
+pub use Rattle.match_runs.specs.Matched.{is_separator, separators, separators_in, separators_at, turns_ahead, Moves, Begins, IsMatched, IsTakenIf, IsTaken, StepsAreMatched, Fails, StepIsMatched, Simulates}
 pub use Rattle.match_runs.specs.Shadow.{WalkGives, KeepsShadow, caller_at, if_below, drop_below, is_call, entered, started, served, by_step, callers_of, GivesCallers, AllKeep}
 unfoldable pub use Rattle.match_runs.specs.Shadow.{shadow_after}

@@ -1,8 +1,8 @@
 -- The control addresses of a stack: a walk comes to them, and they have the numbers of the
 -- functions that wait.
-use Rattle.std.proofs.Common.{◌≡◌, ℕ, zero, suc, ◌+◌, Some, None, List, [], ◌∷◌, Option, map, length, refl, ap, ◌∙◌, arith}
+use Rattle.std.proofs.Common.{◌≡◌, ℕ, zero, suc, ◌+◌, List, [], ◌∷◌, Option, map, refl, ap, ◌∙◌, arith}
 use Rattle.std.specs.List.{filter_map, cons_option}
-use Rattle.match_stack.specs.Words.{Memory, Context, context_of, Functions, Funclet, LinearProgram, Item, Waits, Searches, Unwinds, Frame, BodyName, FunctionBody, FuncletBody, StackItem, Framed, Leaf, Searching, Unwinding, after_frame, after_leaf, ImagePlan, Activation, activations_below, BodyWaits, Linked, with_function, functions_in, state, IsStack, control_addresses, number_of, NumbersFunctions, ControlsAreOfTheList, ControlAddressesAreOfFunctions}
+use Rattle.match_stack.specs.Words.{Memory, Context, context_of, Functions, Funclet, LinearProgram, Item, Waits, Searches, Unwinds, Frame, BodyName, FunctionBody, FuncletBody, StackItem, Framed, Leaf, Searching, Unwinding, after_frame, after_leaf, ImagePlan, Activation, activations_below, BodyWaits, Linked, with_function, functions_in, state, control_addresses, number_of, NumbersFunctions, ControlsAreOfTheList, ControlAddressesAreOfFunctions}
 use Rattle.seh_walk.specs.Controls.{controls, controls_from, with_address}
 use Rattle.match_stack.proofs.ItemVisits.{frame_is_visited, leaf_is_visited, search_is_passed, unwinding_is_passed, stack_is_over}
 

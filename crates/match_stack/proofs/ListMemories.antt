@@ -110,17 +110,18 @@ module _ (m m' : Memory) (top : ℕ) where
         → rsp c + f.size ≤ top
         → FrameWaits t fs program p m c f b below acts → FrameWaits t fs program p m' c f b below
         acts
+    unfolding body_kept
     frame_kept c f b below acts r within fits h =
         let y = p.layout b.body in
         let e = end_within m (get c) (p.register b.body) y (rsp c) f.slots b.activation acts b.body
         h.waits.activation in
         record {
           framed = h.framed;
-          entry = h.entry;
           slots = h.slots;
           small = h.small;
           waits = body_kept c (get c) f.slots (temporaries_end y b.body f.slots) b acts r
               (omega arith) (omega arith) h.waits;
+          entry = h.entry;
           pointers = pointers_kept y (rsp c) f.size below r fits h.pointers;
           returns = h.returns;
         }

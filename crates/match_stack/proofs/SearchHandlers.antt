@@ -2,7 +2,7 @@
 use Rattle.std.proofs.Common.{◌≡◌, ◌⊎◌, inl, inr, ℕ, suc, ◌+◌, ◌%◌, ◌^◌, ◌<◌, ◌≤◌, Option, Some, None, List, [], ◌∷◌, ◌++◌, length, refl, sym, ap, subst, ◌∙◌, arith}
 use Rattle.std.specs.Prelude.{filter, drop}
 use Rattle.std.proofs.Math.Seq.{drop-nil}
-use Rattle.match_stack.specs.Words.{Memory, Context, context_of, ScopeRecord, Entry, get, rsp, Functions, distance, rows_from, first_with_jump_target, SearchResult, search, Funclet, row_before, Region, LinearProgram, BodyName, FunctionBody, FuncletBody, body_of, Frame, Handler, Item, Waits, Searches, Unwinds, holds, regions_of, handlers_in, handlers, StackFrame, StackItem, Framed, Leaf, Searching, Unwinding, FrameIsAt, LeafIsAt, IsStack, after_frame, after_leaf, state, asked_row, chosen_or, plain_search, ImagePlan, AreRegions, IsFlagged, IsHandlerRow, Gives, Activation, activations_below, HasActivation, Reaches, FrameWaits, LeafWaits, regions_from, IsAtRow, Onward, Aimed, Linked, NoHandler, FirstHandler, left_from, IsWide, FindsHandler, SearchedAs, by_handler, chosen, rows_of, IsEntryOf, IsGiven, IsActivation, IsInstruction}
+use Rattle.match_stack.specs.Words.{Memory, Context, context_of, ScopeRecord, Entry, get, rsp, Functions, distance, rows_from, first_with_jump_target, SearchResult, search, Funclet, row_before, Region, LinearProgram, BodyName, FunctionBody, FuncletBody, body_of, Frame, Handler, Item, Waits, Searches, Unwinds, holds, regions_of, handlers_in, handlers, StackFrame, StackItem, Framed, Leaf, Searching, Unwinding, FrameIsAt, LeafIsAt, IsStack, after_frame, after_leaf, state, asked_row, chosen_or, plain_search, ImagePlan, AreRegions, IsFlagged, IsHandlerRow, Gives, Activation, activations_below, HasActivation, Reaches, FrameWaits, LeafWaits, regions_from, IsAtRow, Onward, Aimed, Linked, NoHandler, FirstHandler, left_from, IsWide, FindsHandler, SearchedAs, by_handler, chosen, rows_of, IsEntryOf, HasEntries, IsGiven, IsActivation, IsInstruction}
 use Rattle.seh_search.specs.declared.search_result.SearchResult.TheVariants as searches
 use Rattle.match_stack.proofs.StackKeeping.{rises}
 use Rattle.match_stack.proofs.ListWalks.{search_is_of_the_list}
@@ -103,13 +103,20 @@ module _ (t : Functions) (fs : List Funclet) (program : LinearProgram) (p : Imag
 
 module _ (t : Functions) (fs : List Funclet) (program : LinearProgram) (p : ImagePlan)
     (g : Gives t fs program p) where
-  -- a waiting body's frame has the records of its body
-  pub entry_of_body : (m : Memory) (c : Context) (f : StackFrame) (b : Frame) (below : List Item)
+  -- the entries of a body that waits in its frame
+  pub entries_of_body : (m : Memory) (c : Context) (f : StackFrame) (b : Frame) (below : List Item)
       (acts : List Activation) (body : FrameWaits t fs program p m c f b below acts)
-      → IsEntryOf t fs program p b.body body.waits.code
-  entry_of_body m c f b below acts body = subst
+      → HasEntries t fs program p b.body body.waits.code
+  entries_of_body m c f b below acts body = subst
       (λ x. IsGiven t fs program p b.body body.waits.code x) body.framed
       (g b.body body.waits.code body.waits.body)
+
+  -- that of its frame has the records of the body
+  entry_of_body : (m : Memory) (c : Context) (f : StackFrame) (b : Frame) (below : List Item)
+      (acts : List Activation) (body : FrameWaits t fs program p m c f b below acts)
+      → IsEntryOf t fs program p b.body body.waits.code body.waits.label
+  entry_of_body m c f b below acts body =
+      (entries_of_body m c f b below acts body).entries body.waits.label
 
   pub flags_of_body : (m : Memory) (c : Context) (f : StackFrame) (b : Frame) (below : List Item)
       (acts : List Activation) (body : FrameWaits t fs program p m c f b below acts)
@@ -136,7 +143,7 @@ module _ (t : Functions) (fs : List Funclet) (program : LinearProgram) (p : Imag
         rows = subst (λ (e : Entry). AreRegions t fs program p b.body e.info.scopes
             (regions_of (body_of program b.body))) (sym body.entry)
             (subst (λ (rs : List Region). AreRegions t fs program p b.body
-            (p.entry b.body).info.scopes rs) (sym (ap regions_of body.waits.body))
+            (p.entry b.body body.waits.label).info.scopes rs) (sym (ap regions_of body.waits.body))
             (entry_of_body m c f b below acts body).rows);
       }
 

@@ -11,7 +11,7 @@ use Rattle.match_stack.proofs.ScopeRows.{row_before_short}
 use Rattle.match_stack.proofs.FrameUnwind.{unwinding_runs_the_blocks, unwinding_stops_at_the_target}
 use Rattle.match_stack.proofs.ContextWidths.{wide_after, wide_after_leaf, wide_saved, wide_walk}
 use Rattle.match_stack.proofs.EntryFlags.{unwound_all}
-use Rattle.match_stack.proofs.SearchHandlers.{at_first_row, none_from, body_reaches, entry_of_body, flags_of_body, few_of_body, instruction_of_body}
+use Rattle.match_stack.proofs.SearchHandlers.{at_first_row, none_from, body_reaches, entries_of_body, flags_of_body, few_of_body, instruction_of_body}
 use Rattle.match_stack.specs.UnwindLaws.{UnwindingIsTheLists}
 use Rattle.match_stack.proofs.UnwindTargets.{left_activations, aimed_above, aimed_below, course_of, from_rear}
 
@@ -204,7 +204,7 @@ module _ (t : Functions) (fs : List Funclet) (program : LinearProgram) (p : Imag
               at_address = a.at_address;
               lands = a.lands;
               silent = λ cpu. ap (λ x. arrivals cpu (distance t.base x) 1 fs) a.at_address
-                  ∙ (entry_of_body t fs program p g m c f b below acts body).landings target.label
+                  ∙ (entries_of_body t fs program p g m c f b below acts body).landings target.label
                   a.lands cpu;
               above = omega arith;
               wide = wide;

@@ -22,11 +22,12 @@ use Rattle.linear_machine.specs.Regions.{leads_to}
 
 -- where the parts of an image are
 pub record ImagePlan : Type 0 where
-  -- where the code of an instruction begins, that of the last one up to the body's end
-  pub address : BodyName → ℕ → ℕ
+  pub address : BodyName → ℕ → ℕ  -- where the code of an instruction begins
+  pub after : BodyName → ℕ → ℕ  -- where it ends
   pub funclet : ℕ → ℕ  -- the first byte of a funclet, by its number
   pub leaf : BodyName → Bool  -- a leaf function, which has no frame and no entry
-  pub entry : BodyName → Entry  -- the entry of the function table for any other body
+  -- in any other body, the entry of the function table that an instruction's code is in
+  pub entry : BodyName → ℕ → Entry
   pub layout : BodyName → Layout  -- where the slots of a body are
   pub register : BodyName → ℕ → Option ℕ  -- the register that a local is in, by its number
   pub lands : BodyName → ℕ → Bool  -- an unwinding may land at this instruction
@@ -37,7 +38,7 @@ pub record ImagePlan : Type 0 where
 -- an address within the code of an instruction
 pub record InCode (p : ImagePlan) (name : BodyName) (label rip : ℕ) : Type 0 where
   pub low : p.address name label ≤ rip
-  pub high : rip < p.address name (label + 1)
+  pub high : rip < p.after name label
 
 -- the body that has the region of a funclet
 abbrev pub by_parent : ℕ → Option ℕ → BodyName
@@ -136,21 +137,25 @@ module _ (t : Functions) (fs : List Funclet) (program : LinearProgram) (p : Imag
 
   -- ---- the whole table
 
-  -- the entry of a body has its regions as rows
-  pub record IsEntryOf (name : BodyName) (b : LinearBody) : Type 0 where
-    pub rows : AreRegions name (p.entry name).info.scopes b.regions
-    pub flagged : IsFlagged (p.entry name).info
-    pub few : length (p.entry name).info.scopes < 2 ^ 32
+  -- the entry of an instruction has the regions of its body as rows
+  pub record IsEntryOf (name : BodyName) (b : LinearBody) (label : ℕ) : Type 0 where
+    pub rows : AreRegions name (p.entry name label).info.scopes b.regions
+    pub flagged : IsFlagged (p.entry name label).info
+    pub few : length (p.entry name label).info.scopes < 2 ^ 32
+
+  -- each instruction has its entry
+  pub record HasEntries (name : BodyName) (b : LinearBody) : Type 0 where
+    pub entries : (label : ℕ) → IsEntryOf name b label
     -- no funclet begins where an unwinding lands
     pub landings : (label : ℕ) → p.lands name label ≡ true → (c : Cpu)
         → arrivals c (target_rva name label) 1 fs ≡ []
 
   -- a leaf function has no regions
   abbrev pub IsGiven : BodyName → LinearBody → Bool → Type 0
-  IsGiven name b false = IsEntryOf name b
+  IsGiven name b false = HasEntries name b
   IsGiven name b true = b.regions ≡ []
 
-  -- each other body has its entry
+  -- each other body has its entries
   abbrev pub Gives : Type 0
   Gives =
       (name : BodyName) (b : LinearBody) → body_of program name ≡ Some b

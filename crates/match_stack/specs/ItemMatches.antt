@@ -32,7 +32,7 @@ use Rattle.linear_machine.specs.Run.{instruction_in}
 use Rattle.linear_machine.specs.Regions.{holds, regions_of, regions_at, regions_left, handlers_in, handlers}
 use Rattle.match_stack.specs.Stack.{StackFrame, StackItem, Framed, Leaf, Searching, Unwinding, after_frame, after_leaf}
 use Rattle.match_stack.specs.ImagePlan.{ImagePlan, InCode}
-use Rattle.template_code.specs.declared.layout.TheConstants.{LARGEST_FRAME}
+use Rattle.template_code.specs.declared.layout.TheConstants.{FRAME_BY_WEIGHT}
 
 -- ---- the source's activations
 
@@ -88,10 +88,10 @@ ResumesFrom p resumption b acts saved =
 -- ---- room on the stack
 
 -- a stack pointer, but for some bytes, is no further from the stack's end than frames of this depth
--- take, and the depth is within its limit; a filter or a `__finally` block takes no more than two
--- of the largest frames, with its record
+-- take, and the depth is within its limit; a filter or a `__finally` block takes no more than a
+-- depth of 2 gives, with its record
 pub record HasSpace (sp beside depth : ℕ) : Type 0 where
-  pub space : STACK_END ≤ sp + beside + LARGEST_FRAME * depth
+  pub space : STACK_END ≤ sp + beside + FRAME_BY_WEIGHT * depth
   pub shallow : depth ≤ DEEPEST
 
 -- a return address and the home space above it, with which a run begins at the stack's end; the
@@ -238,16 +238,16 @@ module _ (t : Functions) (fs : List Funclet) (program : LinearProgram) (p : Imag
       (instruction_in (body_of program w.body) w.next) ≡ Some back
   ReturnsTo items back = Unit {0}
 
-  -- in a frame of its own, which has the body's entry and slots; its locals are in the nonvolatile
-  -- registers, which a walk finds; its caller's registers are numbers of 64 bits
+  -- in a frame of its own, with the instruction's entry and the body's slots; its locals are in the
+  -- nonvolatile registers, which a walk finds; its caller's registers are numbers of 64 bits
   pub record FrameWaits (m : Memory) (c : Context) (f : StackFrame) (b : Frame) (below : List Item)
       (acts : List Activation) : Type 0 where
     pub framed : p.leaf b.body ≡ false
-    pub entry : f.entry ≡ p.entry b.body
     pub slots : f.slots ≡ (p.layout b.body).slots
     pub small : AllSmall f.others
     pub waits : BodyWaits m c (get c) f.slots (temporaries_end (p.layout b.body) b.body f.slots) b
         acts
+    pub entry : f.entry ≡ p.entry b.body waits.label
     pub pointers : HasPointers m (p.layout b.body) (rsp c) f.size below
     pub returns : ReturnsTo below f.return_address
 

@@ -61,7 +61,7 @@ pub use Rattle.match_stack.specs.DispatchSteps.{placed_in, AsksHost, IsException
 pub use Rattle.match_stack.specs.FrameHandlers.{NoHandler, FirstHandler, NoBlock, Arrives, FirstBlock}
 pub use Rattle.match_stack.specs.HostSearch.{IsWide, FindsHandler, SearchedAs, CanBeKept, Asks, Accepts}
 pub use Rattle.match_stack.specs.HostUnwind.{store_of, Course, RunsBlock, UnwoundAs, on_top, Lands}
-pub use Rattle.match_stack.specs.ImagePlan.{ImagePlan, IsFlagged, InCode, IsHandlerRow, IsOfKind, AreRegions, Gives, AllFinally, AllExcept, IsFinallyRow, target_rva, IsFunclet, IsEntryOf, IsGiven}
+pub use Rattle.match_stack.specs.ImagePlan.{ImagePlan, IsFlagged, InCode, IsHandlerRow, IsOfKind, AreRegions, Gives, AllFinally, AllExcept, IsFinallyRow, target_rva, IsFunclet, IsEntryOf, HasEntries, IsGiven}
 pub use Rattle.match_stack.specs.ItemMatches.{Activation, HasSpace, below_end, record_room, Onward, Linked, Reaches, activations_below, HoldsWords, IsInPlace, HoldsPlaces, temporaries_end, HasActivation, FrameWaits, LeafWaits, regions_from, IsAtRow, Aimed, Leads, home_end, HasPointers, BodyWaits, IsOwnRecord, IsActivation, locals_of, IsAbove, AimedHere, HasPurpose, ResumesFrom}
 pub use Rattle.match_stack.specs.ListLaws.{IsLinkedStack, KeepsAbove, left_from, SearchFindsTheHandlers, UnwindingRunsTheBlocks, UnwindingStopsAtTheTarget, KeptByStoresBelow, KeptByOtherMemories, IsInstruction}
 pub use Rattle.match_stack.specs.PlainWalks.{state, chosen_or, asked_row, plain_search, decided_or, plain_unwind}

@@ -143,12 +143,12 @@ module _ (setting : Setting) (roomy : HaveRoom setting.program) where
         by true e =
             let none = (leaf_layout t fs program p q c.frame.body b.body.slots.code e
             (image.laid_out c.frame.body b.body.slots.code b.body.slots.body)).plan in
-            ap (owed_by (p.entry c.frame.body).info) e
+            ap (owed_by (p.entry c.frame.body 0).info) e
             ∙ ap (λ (k : FramePlan). of_codes k.frame k.distance (operations_of k)) (sym none)
         by false e =
             let h = image.plans c.frame.body b.body.slots.code b.body.slots.body e in
             let codes = ap operations h.codes ∙ codes_plan spell (body_plan p q c.frame.body) in
-            ap (owed_by (p.entry c.frame.body).info) e ∙ (λ j. record {
+            ap (owed_by (p.entry c.frame.body 0).info) e ∙ (λ j. record {
               register = h.frame_register j;
               offset = h.frame_offset j;
               codes = codes j;

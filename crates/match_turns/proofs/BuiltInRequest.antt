@@ -2,10 +2,10 @@
 -- the list.
 use Rattle.std.proofs.Common.{◌≡◌, ℕ, ◌+◌, ◌-◌, ◌%◌, ◌^◌, ◌<◌, ◌≤◌, Some, List, [], ◌∷◌, Ok, refl, sym, ap, subst, ◌∙◌, arith, length-set}
 use Rattle.std.specs.Prelude.{◌==◌, false, slice_get, take}
-use Rattle.match_turns.specs.Words.{kept_of, W64, loaded, IMAGE_BASE, IMAGE_RANGE_END, STACK_START, STACK_END, address_of, Rsp, Instr, opcode_register, Cpu, State, register, BuiltIn, Put, Protect, RaiseException, Walk, Temporary, BodyState, LinearBody, Configuration, body_of, regions_of, waiting, instruction_at, Layout, size, sizes, put_back, keep, temporary_at, call, IsNear, return_at, begin_call, clear_result, template, template_size, MachineView, machine, pushed, HasCode, KeepsAbove, IsWellFormed, IsLive, Comes, links_of, service_of, CallsBuiltIn, IsWellMade, IsKnown, Setting, InBody, IsMachineMemory, IsResumed, RepresentsAt, arguments_code}
+use Rattle.match_turns.specs.Words.{kept_of, W64, loaded, IMAGE_BASE, IMAGE_RANGE_END, STACK_START, STACK_END, address_of, Rsp, Instr, opcode_register, Cpu, State, register, BuiltIn, Put, Protect, RaiseException, Walk, Temporary, BodyState, LinearBody, Configuration, body_of, regions_of, waiting, instruction_at, Layout, size, sizes, put_back, keep, temporary_at, call, IsNear, return_at, begin_call, clear_result, template, template_size, MachineView, machine, pushed, HasCode, InCode, KeepsAbove, IsWellFormed, IsLive, Comes, links_of, service_of, CallsBuiltIn, IsWellMade, IsKnown, Setting, InBody, IsMachineMemory, IsResumed, RepresentsAt, arguments_code}
 use Rattle.x64_templates.specs.Runs.{Reaches}
 use Rattle.linear_code.specs.declared.instruction.Instruction.TheVariants as instructions
-use Rattle.match_turns.proofs.Lemmas.{sizes_append, call_size, template_sizes, set_small, template_some, reaches_silently, counted_here, code_at, reaches_keeps, stays_well_formed, frame, slots, v, same_state, template_here, has_slots, next_address, sp_is, IsCounted, sp_low, frame_top, room_here, holds_here, others_of}
+use Rattle.match_turns.proofs.Lemmas.{sizes_append, call_size, template_sizes, set_small, template_some, reaches_silently, counted_here, code_at, reaches_keeps, stays_well_formed, frame, slots, v, same_state, template_here, has_slots, next_address, code_end, sp_is, IsCounted, sp_low, frame_top, room_here, holds_here, others_of}
 use Rattle.match_turns.proofs.FunctionFrame.{same_itself}
 use Rattle.match_turns.proofs.CallResult.{offset_most, caller_framed}
 use Rattle.match_turns.proofs.BuiltInCall.{with_arguments_of, ServiceReached, service_reached}
@@ -107,6 +107,14 @@ module _ (setting : Setting) (made : IsWellMade setting.program setting.plan) wh
         let k = keep_some y first in
         let e = back_is in
         (omega arith, omega (arith, n, z, b.rip, k, sizes_append done (keep y (Temporary first))))
+
+    in_code : InCode p c.frame.body c.frame.next back
+    in_code =
+        let n = next_address setting made.room s c b counted (instructions.CallBuiltIn f first)
+        here in
+        let e = code_end setting made.room s c b counted (instructions.CallBuiltIn f first) here in
+        let h = back_inside.1 in
+        record { low = back_inside.0; high = omega arith }
 
     back_near : (IMAGE_BASE < back) × (back < IMAGE_RANGE_END)
     back_near =
@@ -242,7 +250,7 @@ module _ (setting : Setting) (made : IsWellMade setting.program setting.plan) wh
     at_return =
         in_body t fs program p q s c b saved c.frame.next (take first c.frame.temporaries)
         registers_saved
-        (record { low = back_inside.0; high = back_inside.1 })
+        in_code
         (same_itself (regions_of (body_of program c.frame.body)) c.frame.next) back_small
         (first_words s.memory c.frame.temporaries first)
         (caller_framed setting made c.frame.body body c.frame.next

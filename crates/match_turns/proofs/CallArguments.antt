@@ -3,10 +3,10 @@
 use Rattle.std.proofs.Common.{◌≡◌, ℕ, ◌+◌, ◌-◌, ◌*◌, ◌<◌, ◌≤◌, true, false, Option, Some, None, List, length, refl, sym, ap, subst, ◌∙◌, arith, inl, inr}
 use Rattle.std.specs.Prelude.{◌⊎◌}
 use Rattle.std.proofs.lemmas.Bool.{cases_lt}
-use Rattle.match_turns.specs.Words.{STACK_START, STACK_END, number_at, may_write, Protection, is_writable, Rsp, Instr, Flags, State, register, Slot, Local, Temporary, IsSlot, BodyState, Layout, sizes, spelled, keep, IsNear, return_at, begin_call, call_code, passing_code, MachineView, machine, sp_of, with_four, pushed, HasBelow, InRegisters, slot_at, IsBytes, Agrees, HasCode, FramePlace, counts_of, LARGEST_FRAME, Setting, CallBegun}
+use Rattle.match_turns.specs.Words.{STACK_START, STACK_END, number_at, may_write, Protection, is_writable, Rsp, Instr, Flags, State, register, Slot, Local, Temporary, IsSlot, BodyState, Layout, sizes, spelled, keep, IsNear, return_at, begin_call, call_code, passing_code, MachineView, machine, sp_of, with_four, pushed, HasBelow, InRegisters, slot_at, IsBytes, Agrees, HasCode, FramePlace, counts_of, FRAME_BY_WEIGHT, MOST_WEIGHT, weight, Setting, CallBegun}
 use Rattle.x64_templates.specs.Runs.{Reaches}
 use Rattle.linear_code.specs.declared.instruction.Instruction.TheVariants as instructions
-use Rattle.match_turns.proofs.Lemmas.{bytes_kept, reaches_then, same_number, Reached, code_split, runs_view, call_begins, beside, pushed_agrees, pushed_bytes, KeepsSlot, stack_is_reserved, AsFunction, AsFunclet, kind, sp_low, frame_top, room_here, holds_here, v, base, frame, slots, same_state, template_here, has_slots, sp_is}
+use Rattle.match_turns.proofs.Lemmas.{bytes_kept, reaches_then, same_number, Reached, code_split, runs_view, call_begins, beside, pushed_agrees, pushed_bytes, KeepsSlot, stack_is_reserved, AsFunction, AsFunclet, kind, sp_low, frame_top, room_here, holds_here, v, base, frame, slots, same_state, template_here, has_slots, sp_is, locals_count}
 use Rattle.x64_templates.proofs.Passing.{passed_in_registers}
 use Rattle.match_bodies.proofs.BodyViews.{placed}
 use Rattle.match_turns.proofs.CallStackArguments.{HasOutgoing, AllPassed, passes, passing_fine}
@@ -30,6 +30,8 @@ module _ {setting : Setting} (at_call : AtCall setting) where
     at,
     few_passed,
     framed,
+    function as fn,
+    shallow,
   }
 
   abbrev pub layout : Layout
@@ -58,10 +60,10 @@ module _ {setting : Setting} (at_call : AtCall setting) where
   pub record Bottom : Type 0 where
     pub temporaries : room ≤ layout.temporaries
     pub locals : sp + room ≤ at_base + layout.locals
-    pub base : (k : ℕ) → layout.base ≡ Some k → (room ≤ k) × (k + 16 ≤ LARGEST_FRAME)
+    pub base : (k : ℕ) → layout.base ≡ Some k → (room ≤ k) × (k + 16 ≤ FRAME_BY_WEIGHT)
     pub slots : layout.temporaries ≤ layout.slots
     pub within : layout.slots ≤ layout.frame
-    pub small : layout.frame + 8 ≤ LARGEST_FRAME
+    pub small : layout.frame + 8 ≤ FRAME_BY_WEIGHT * MOST_WEIGHT
 
   is_base : (o : Option ℕ) → layout.base ≡ o → o ≡ None → at_base ≡ sp
   is_base None e n = subst (λ o. KeepsSlot s.memory layout o sp at_base) e
@@ -77,6 +79,7 @@ module _ {setting : Setting} (at_call : AtCall setting) where
       let l = g.layout.temporaries in
       let m = g.layout.locals in
       let z = g.layout.small in
+      let few = g.layout.light in
       let e = is_base None g.layout.none refl in
       record {
         temporaries = a;
@@ -84,7 +87,7 @@ module _ {setting : Setting} (at_call : AtCall setting) where
         base = λ k i. absurd (no k (sym g.layout.none ∙ i));
         slots = omega arith;
         within = g.layout.within;
-        small = z;
+        small = omega arith;
       }
     where
       no : (k : ℕ) → ◌≡◌ {A = Option ℕ} None (Some k) → ⊥
@@ -127,10 +130,19 @@ module _ {setting : Setting} (at_call : AtCall setting) where
   pub low : STACK_START + 196568 ≤ sp
   low = sp_low setting s c b counted
 
+  -- and so is the callee's frame, below it
+  pub low_callee : STACK_START + 196568 + FRAME_BY_WEIGHT * weight fn ≤ sp
+  low_callee =
+      let space = b.body.slots.space.space in
+      let left = shallow in
+      let depth : length c.store.activations ≡ length b.body.acts = ap length b.body.store
+      ∙ locals_count b.body.acts in
+      omega arith
+
   pub top : sp + layout.frame + 8 ≤ STACK_END
   top = frame_top setting s c b counted
 
-  pub room_small : room + 8 ≤ LARGEST_FRAME
+  pub room_small : room + 8 ≤ FRAME_BY_WEIGHT * MOST_WEIGHT
   room_small =
       let g = bottom.temporaries in
       let h = bottom.slots in

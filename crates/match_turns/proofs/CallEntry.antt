@@ -1,11 +1,10 @@
 -- A call of a function: the callee's first instruction begins, with its arguments in its first
 -- locals and what the stack and the registers held in the others.
 use Rattle.std.proofs.Common.{◌≡◌, ℕ, ◌+◌, ◌-◌, ◌*◌, ◌^◌, ◌<◌, ◌≤◌, Bool, true, false, Some, List, [], ◌∷◌, ◌++◌, length, refl, sym, ap, subst, ◌∙◌, arith, inl, inr, length-append, append_assoc}
-use Rattle.std.specs.Prelude.{nat_lt, slice_get, drop}
-use Rattle.std.proofs.lemmas.Bool.{cases_lt, lt-ltb}
+use Rattle.std.specs.Prelude.{slice_get, drop}
 use Rattle.std.proofs.lemmas.Option.{slice_get_within}
 use Rattle.std.proofs.lemmas.List.{append-nil, length-drop, length-take}
-use Rattle.match_turns.specs.Words.{STACK_START, STACK_END, Memory, may_write, Protection, Rsp, Instr, State, register, distance, arrivals, Temporary, LinearBody, FunctionBody, body_of, Waits, Configuration, instruction_in, waiting, Layout, sizes, put_back, keep, temporary_at, IsNear, call, return_at, passing_code, parameters_code, passing_call_code, context_below, home_end, HoldsPlaces, return_of, ReturnsTo, On, AllKeep, Comes, function_arguments, FindsReturn, IsLayoutIf, turns_left, slots_end, KeepsStackBut, begun, LARGEST_FRAME, Setting, IsMachineMemory, IsResumed, RepresentsAt, arguments_code, IsWellFormed, LocalRegisters, local_registers, number_placed, owed_of, now_of, arrived_in}
+use Rattle.match_turns.specs.Words.{weight, weight_of, STACK_START, STACK_END, Memory, may_write, Protection, Rsp, Instr, State, register, distance, arrivals, Temporary, LinearBody, FunctionBody, body_of, Waits, Configuration, instruction_in, waiting, Layout, sizes, put_back, keep, temporary_at, IsNear, call, return_at, passing_code, parameters_code, passing_call_code, context_below, home_end, HoldsPlaces, return_of, ReturnsTo, On, AllKeep, Comes, function_arguments, FindsReturn, IsLayoutIf, turns_left, slots_end, KeepsStackBut, begun, FRAME_BY_WEIGHT, Setting, IsMachineMemory, IsResumed, RepresentsAt, arguments_code, IsWellFormed, LocalRegisters, local_registers, number_placed, owed_of, now_of, arrived_in}
 use Rattle.template_code.specs.Places.{place_of}
 use Rattle.match_turns.specs.CallOutcome.{turns_per_call}
 use Rattle.lowering_invariants.specs.SmallNumbers.{AreSmall}
@@ -23,7 +22,7 @@ use Rattle.match_turns.proofs.CallArguments as calling
 use Rattle.match_turns.proofs.FunctionParameters as entering
 use Rattle.match_turns.proofs.FunctionLocals.{numbers_placed, numbers_count, numbers_small, arguments_then_places}
 use Rattle.match_turns.proofs.FunctionEntry as entries
-use Rattle.match_turns.proofs.AtCall.{AtCall}
+use Rattle.match_turns.proofs.AtCall.{AtCall, callee_weight}
 use Rattle.match_turns.proofs.CallActs.{passed_in, got_past}
 use Rattle.match_bodies.proofs.BodyViews.{arrived_small}
 
@@ -46,6 +45,7 @@ module _ {setting : Setting} (at_call : AtCall setting) where
     parameters,
     fits,
     some,
+    shallow,
     held,
     apart,
   }
@@ -81,8 +81,11 @@ module _ {setting : Setting} (at_call : AtCall setting) where
   abbrev called_in : ℕ
   called_in = length (passing_code (p.layout c.frame.body) first 4 (count - 4)) + 5
 
-  low : STACK_START + 196568 ≤ caller
-  low = calling.low at_call
+  low : STACK_START + 196568 + FRAME_BY_WEIGHT * weight fn ≤ caller
+  low = calling.low_callee at_call
+
+  abbrev weighs : ℕ
+  weighs = weight_of (slice_get program.functions f)
 
   top : caller + 40 ≤ STACK_END
   top = let a = calling.room_top at_call in omega arith
@@ -217,29 +220,36 @@ module _ {setting : Setting} (at_call : AtCall setting) where
   arguments_are = ap (λ x. function_arguments layout x) callee ∙ ap (λ n. parameters_code layout 0
       n) parameters
 
-  arguments_stored : (leaf : Bool) → IsLayoutIf program p layout o leaf
+  arguments_stored : (leaf : Bool) → IsLayoutIf program p weighs layout o leaf
       → AllSteady (owed_of p (FunctionBody f)) layout.slots layout.frame 40
-      (parameters_code layout 0 count) × (layout.frame + 8 ≤ LARGEST_FRAME)
+      (parameters_code layout 0 count)
   arguments_stored true l =
       let h = fits in
       let e = l.frame in
       let a = l.locals in
-      let n = l.few in (
-        parameters_steady (owed_of p (FunctionBody f)) layout.slots layout.frame 40 layout 0 count
-            (locals_own setting (FunctionBody f) o there) (omega arith) (omega arith)
-            (λ j lt. inr (omega arith, omega arith)),
-        omega arith,
-      )
+      let n = l.few in
+      parameters_steady (owed_of p (FunctionBody f)) layout.slots layout.frame 40 layout 0 count
+      (locals_own setting (FunctionBody f) o there) (omega arith) (omega arith)
+      (λ j lt. inr (omega arith, omega arith))
   arguments_stored false l =
       let h = fits in
       let a = l.locals in
       let w = l.within in
-      let z = l.small in (
-        parameters_steady (owed_of p (FunctionBody f)) layout.slots layout.frame 40 layout 0 count
-            (locals_own setting (FunctionBody f) o there) (omega arith) (omega arith)
-            (λ j lt. inl (omega arith)),
-        l.small,
-      )
+      let z = l.small in
+      let y = l.light in
+      parameters_steady (owed_of p (FunctionBody f)) layout.slots layout.frame 40 layout 0 count
+      (locals_own setting (FunctionBody f) o there) (omega arith) (omega arith)
+      (λ j lt. inl (omega arith))
+
+  abbrev HasPlan : Bool → Type 0
+  HasPlan leaf = IsLayoutIf program p weighs layout o leaf
+
+  planned : HasPlan (p.leaf (FunctionBody f))
+  planned = image.laid_out (FunctionBody f) o there
+
+  frame_small : (leaf : Bool) → HasPlan leaf → layout.frame + 8 ≤ FRAME_BY_WEIGHT * weight fn
+  frame_small true l = let e = l.frame in omega arith
+  frame_small false l = let z = l.small in let e = callee_weight at_call in omega arith
 
   entry_run : EntryRan t fs program p q image (FunctionBody f) o there some (caller - 8)
       (caller + 32) next (others_of s.cpu.registers) (callee_there.item ∷ b.body.is) inside.turns
@@ -249,14 +259,15 @@ module _ {setting : Setting} (at_call : AtCall setting) where
       let stored = arguments_stored (p.leaf (FunctionBody f)) (image.laid_out (FunctionBody f) o
       there) in
       let lo = low in
+      let small = frame_small (p.leaf (FunctionBody f)) planned in
       entry_ran t fs program p q image (FunctionBody f) o there some (caller - 8) (caller + 32)
       next (others_of s.cpu.registers) (k.item ∷ b.body.is) inside.turns at_callee after
       (sites.arguments_code program p (FunctionBody f)) [] 40
       (sym (append-nil (sites.arguments_code program p (FunctionBody f)))) inside.exact
       (enters_steps from to inside.turns at_callee after inside.comes) k.rip k.stack k.beneath_it
-      (small_registers s b.well_formed) k.program_there stored.1 (omega arith) (omega arith)
+      (small_registers s b.well_formed) k.program_there (omega arith) (omega arith)
       (subst (λ (xs : List Instr). AllSteady (owed_of p (FunctionBody f)) layout.slots
-      layout.frame 40 xs) (sym arguments_are) stored.0)
+      layout.frame 40 xs) (sym arguments_are) stored)
 
   entry_keeps : AllKeep t fs inside.turns at_callee
   entry_keeps = entry_run.keeps
@@ -316,10 +327,10 @@ module _ {setting : Setting} (at_call : AtCall setting) where
 
   -- where the callee begins
   abbrev pub callee_begins : Configuration
-  callee_begins = begun f (arguments ++ others) c.frame.held (Waits (waiting c first).frame ∷
-      c.below) c.store.memory c.store.activations c.events
+  callee_begins = begun f (arguments ++ others) (c.frame.held + fn.surplus)
+      (Waits (waiting c first).frame ∷ c.below) c.store.memory c.store.activations c.events
 
-  pub soon : turns + turns_left callee_begins ≤ turns_per_call + turns_left c
+  pub soon : turns + turns_left callee_begins ≤ turns_per_call fn.surplus + turns_left c
   unfolding turns
   soon =
       let a = inside.soon in
@@ -367,16 +378,6 @@ module _ {setting : Setting} (at_call : AtCall setting) where
       image_kept inside.bytes protection_same inside.agrees b.memory
 
   -- ---- the frame
-
-  abbrev HasPlan : Bool → Type 0
-  HasPlan leaf = IsLayoutIf program p layout o leaf
-
-  planned : HasPlan (p.leaf (FunctionBody f))
-  planned = image.laid_out (FunctionBody f) o there
-
-  frame_small : (leaf : Bool) → HasPlan leaf → layout.frame + 8 ≤ LARGEST_FRAME
-  frame_small true l = let e = l.frame in omega arith
-  frame_small false l = l.small
 
   slots_fit : (leaf : Bool) → HasPlan leaf → (layout.locals + 8 * o.locals ≤ slots_end layout leaf)
       × (inside.sp + slots_end layout leaf ≤ caller + 32)
@@ -436,9 +437,8 @@ module _ {setting : Setting} (at_call : AtCall setting) where
 
   -- ---- all of it
 
-  pub begins : nat_lt 1000 (length c.store.activations + c.frame.held + 1) ≡ false → RepresentsAt
-      setting after callee_begins
-  begins shallow =
+  pub begins : RepresentsAt setting after callee_begins
+  begins =
       let waits = awaiting.awaits at_call
       after.memory room (omega arith) framed stack_kept memory.data_alone in
       let small = frame_small (p.leaf (FunctionBody f)) planned in
@@ -448,10 +448,10 @@ module _ {setting : Setting} (at_call : AtCall setting) where
       let deep = b.body.slots.space.shallow in
       let depth : length c.store.activations ≡ length b.body.acts = ap length b.body.store ∙
       locals_count b.body.acts in
-      let limit = not_less 1000 (length c.store.activations + c.frame.held + 1) shallow in
+      let limit = shallow in
       let up : register after.cpu Rsp + layout.frame + 8 ≡ caller = omega arith in
       let begins = function_begins t fs program p q image after c.store.memory f o there
-      (Waits (waiting c first).frame ∷ c.below) b.body.acts c.frame.held c.events
+      (Waits (waiting c first).frame ∷ c.below) b.body.acts (c.frame.held + fn.surplus) c.events
       (arguments ++ others) well_formed memory
       inside.rip some (record { space = omega arith; shallow = omega arith }) tt
       (λ leaf. subst (λ x. x + home_end ≤ STACK_END) (sym stack) (at_home (p.leaf (FunctionBody f))
@@ -462,9 +462,6 @@ module _ {setting : Setting} (at_call : AtCall setting) where
       (others_of s.cpu.registers)) waits.0 (Waits (waiting c first).frame ∷ c.below) b.body.acts)
       (sym up) waits.1) in
       subst (λ (xs : List (List ℕ)). RepresentsAt setting after
-      (begun f (arguments ++ others) c.frame.held (Waits (waiting c first).frame ∷ c.below)
-      c.store.memory xs c.events)) (sym b.body.store) begins
-    where
-      not_less : (n m : ℕ) → nat_lt n m ≡ false → m ≤ n
-      not_less n m e = elim (cases_lt n m)
-          [ inl l ↦ absurd (let z : true ≡ false = sym (lt-ltb n m l) ∙ e in cc) | inr g ↦ g ]
+      (begun f (arguments ++ others) (c.frame.held + fn.surplus)
+      (Waits (waiting c first).frame ∷ c.below) c.store.memory xs c.events)) (sym b.body.store)
+      begins

@@ -238,7 +238,6 @@ module _ (setting : Setting) (roomy : HaveRoom setting.program) where
       next_small : p.address w.body (w.next + 1) < 2 ^ 64
       next_small =
           let a = image.addresses w.body o there in
-          let r = a.rises (w.next + 1) within in
           let high = a.inside.high in
           let e = a.labels (w.next + 1) in
           let most = offset_most layout o.code (w.next + 1) in

@@ -3,9 +3,9 @@
 use Rattle.std.proofs.Common.{◌≡◌, ℕ, zero, suc, ◌+◌, ◌-◌, ◌*◌, ◌^◌, ◌<◌, ◌≤◌, true, false, Option, Some, List, [], ◌∷◌, ◌++◌, refl, sym, subst, ◌∙◌, arith}
 use Rattle.std.specs.Prelude.{slice_get, take}
 use Rattle.std.proofs.lemmas.List.{append_assoc}
-use Rattle.match_turns.specs.Words.{IMAGE_BASE, IMAGE_RANGE_END, Memory, Rsp, Instr, context_of, State, register, Temporary, LinearBody, LinearFunclet, BodyName, FunctionBody, FuncletBody, body_of, Item, Waits, Searches, Unwinds, waiting, regions_of, Layout, sizes, put_back, keep, temporary_at, call, return_at, begin_call, passing_code, template_size, StackItem, context_below, HoldsWords, IsAbove, FuncletIsAbove, IsData, On, KeepsStackBut, Setting, InBody, IsResumed, IsLinkedStack, arguments_code, frame_of, slots_end, now_of}
+use Rattle.match_turns.specs.Words.{IMAGE_BASE, IMAGE_RANGE_END, Memory, Rsp, Instr, context_of, State, register, Temporary, LinearBody, LinearFunclet, BodyName, FunctionBody, FuncletBody, body_of, Item, Waits, Searches, Unwinds, waiting, regions_of, Layout, sizes, put_back, keep, temporary_at, call, return_at, begin_call, passing_code, template_size, StackItem, context_below, InCode, HoldsWords, IsAbove, FuncletIsAbove, IsData, On, KeepsStackBut, Setting, InBody, IsResumed, IsLinkedStack, arguments_code, frame_of, slots_end, now_of}
 use Rattle.linear_code.specs.declared.instruction.Instruction.TheVariants as instructions
-use Rattle.match_turns.proofs.Lemmas.{sizes_append, call_size, template_some, others_of, frame_with, body_on_top, sp_low, next_address}
+use Rattle.match_turns.proofs.Lemmas.{sizes_append, call_size, template_some, others_of, frame_with, body_on_top, sp_low, next_address, code_end}
 use Rattle.match_turns.proofs.CallResult.{offset_most}
 use Rattle.match_turns.proofs.CallReturn.{returns_at, call_template}
 use Rattle.match_turns.proofs.FunctionFrame.{same_itself}
@@ -106,6 +106,13 @@ module _ {setting : Setting} (at_call : AtCall setting) where
       let k = kept_some y first in
       (omega arith, omega (arith, n, z, b.rip, k))
 
+  in_code : InCode p c.frame.body c.frame.next back
+  in_code =
+      let n = next_address setting roomy s c b counted (instructions.Call f first count) at in
+      let e = code_end setting roomy s c b counted (instructions.Call f first count) at in
+      let h = back_inside.1 in
+      record { low = back_inside.0; high = omega arith }
+
   back_small : back < 2 ^ 64
   back_small =
       let a = image.addresses c.frame.body b.body.slots.code b.body.slots.body in
@@ -149,7 +156,7 @@ module _ {setting : Setting} (at_call : AtCall setting) where
       code = b.body.slots.code;
       body = b.body.slots.body;
       label = c.frame.next;
-      instruction = record { low = back_inside.0; high = back_inside.1 };
+      instruction = in_code;
       same = same_itself (regions_of (body_of program c.frame.body)) c.frame.next;
       small = back_small;
       activation = activation_at s.memory (p.register c.frame.body) y s.cpu later.cpu

@@ -2,7 +2,7 @@
 use Rattle.std.proofs.Common.{◌≡◌, ℕ, ◌+◌, ◌*◌, ◌≤◌, true, false, List, ◌∷◌, length, sym, ◌∙◌, arith, inl, inr}
 use Rattle.std.specs.Prelude.{nat_lt}
 use Rattle.std.proofs.lemmas.Bool.{cases_lt, lt-ltb}
-use Rattle.match_turns.specs.Words.{STACK_END, Memory, Context, rsp, Functions, Funclet, Exception, Region, LinearProgram, Frame, Handler, Target, Resumption, Item, Waits, Searches, Unwinds, StackItem, Framed, Leaf, Searching, Unwinding, ImagePlan, Activation, HasSpace, below_end, record_room, Linked, LARGEST_FRAME}
+use Rattle.match_turns.specs.Words.{STACK_END, Memory, Context, rsp, Functions, Funclet, Exception, Region, LinearProgram, Frame, Handler, Target, Resumption, Item, Waits, Searches, Unwinds, StackItem, Framed, Leaf, Searching, Unwinding, ImagePlan, Activation, HasSpace, below_end, record_room, Linked, FRAME_BY_WEIGHT}
 
 pub shallow_is : (n : ℕ) → nat_lt 1000 n ≡ false → n ≤ 1000
 shallow_is n e = elim (cases_lt 1000 n) [
@@ -13,7 +13,7 @@ shallow_is n e = elim (cases_lt 1000 n) [
 module _ (t : Functions) (fs : List Funclet) (program : LinearProgram) (p : ImagePlan) where
   -- below a record, by what waits where it was placed
   pub record HasRecordSpace (at depth : ℕ) : Type 0 where
-    pub space : STACK_END ≤ at + (below_end + record_room) + LARGEST_FRAME * depth
+    pub space : STACK_END ≤ at + (below_end + record_room) + FRAME_BY_WEIGHT * depth
 
   body_space : (m : Memory) (c : Context) (is : List StackItem) (f : Frame) (below : List Item)
       (acts : List Activation) → Linked t fs program p m c is (Waits f ∷ below) acts

@@ -123,7 +123,9 @@ module _ (setting : Setting) where
         let name = l.body.body in
         let d : Context = record { rip = r.target; kept = l.to.kept } in
         let cs = callers (after_frame l.to f) l.is in
-        let owes = frame_is_owed p name s.memory l.to f waits.framed waits.entry is_there.kept
+        let entry = waits.entry ∙ (image.pieces name waits.waits.code waits.waits.body).entries
+        waits.waits.label 0 in
+        let owes = frame_is_owed p name s.memory l.to f waits.framed entry is_there.kept
         is_there.eight is_there.room is_there.is_told in
         let found = begin_finds t fs program p q image s.memory name waits.waits.code
         w.target.label waits.waits.body memory.code

@@ -1,6 +1,6 @@
 -- A funclet's first turns: its frame is made, and keeps the base of its activation.
 use Rattle.std.proofs.Common.{◌≡◌, ℕ, ◌+◌, ◌-◌, ◌*◌, ◌^◌, ◌<◌, ◌≤◌, Option, Some, None, List, [], ◌++◌, length, refl, sym, ap, subst, ◌∙◌, arith, append_assoc}
-use Rattle.match_turns.specs.Words.{STACK_START, STACK_END, number_at, Memory, Rcx, Rdx, Rsp, Instr, Flags, State, register, distance, arrivals, FuncletBody, body_of, funclet_body, Item, Layout, sizes, code_from, MachineView, machine, sp_of, HasCode, Enters, Activation, below_end, record_room, links_of, parent_base, keep_argument, funclet_arguments, frame_code, making_size, entry_code, IsWellFormed, seen_by_templates, LARGEST_FRAME, Setting, HasProgram, IsMachineMemory}
+use Rattle.match_turns.specs.Words.{STACK_START, STACK_END, number_at, Memory, Rcx, Rdx, Rsp, Instr, Flags, State, register, distance, arrivals, FuncletBody, body_of, funclet_body, Item, Layout, sizes, code_from, MachineView, machine, sp_of, HasCode, Enters, Activation, below_end, record_room, links_of, parent_base, keep_argument, funclet_arguments, frame_code, making_size, entry_code, IsWellFormed, seen_by_templates, FRAME_BY_WEIGHT, Setting, HasProgram, IsMachineMemory}
 use Rattle.match_bodies.specs.CodeSites.{arguments_code, body_plan}
 use Rattle.frame_rules.specs.Bytes.{prologue_code}
 use Rattle.frame_rules.specs.Plan.{FramePlan}
@@ -115,7 +115,7 @@ module _ (setting : Setting) where
   module _ (s : State) (k first activation : ℕ) (items : List Item) (acts : List Activation)
       (l : IsPlanned setting k) (a : ArrivesBelow t fs program p s k activation first
       items acts) (source : Memory) (memory : IsMachineMemory setting s.memory source)
-      (depth : ℕ) (space : STACK_END ≤ a.at + (below_end + record_room) + LARGEST_FRAME * depth)
+      (depth : ℕ) (space : STACK_END ≤ a.at + (below_end + record_room) + FRAME_BY_WEIGHT * depth)
       (shallow : depth + 2 ≤ 1000) (some : 0 < length l.funclet.body.code)
       (leads : LeadsBy s.memory (parent_base p l.funclet.parent) (register s.cpu Rdx)
       a.reaches.base) where
@@ -132,7 +132,7 @@ module _ (setting : Setting) where
     top = in_stack t fs program p s.memory _ a.is items acts
         a.on.is_there.stack a.on.is_there.linked
 
-    pub low : STACK_START + LARGEST_FRAME ≤ register s.cpu Rsp
+    pub low : STACK_START + FRAME_BY_WEIGHT ≤ register s.cpu Rsp
     low = let e = a.stack in omega (arith, space, shallow)
 
     pub sp_is : register s.cpu Rsp ≡ sp + frame

@@ -63,6 +63,6 @@ module _ (setting : Setting) where
         n s w stored left 8 parts
         (count ∙ ap (λ x. x + length stored) (sym made)) run a.rip refl
         (arrives_beneath setting s k activation argument items acts a high)
-        (small_others s a.well_formed) memory.code (omega arith) (omega arith) refl
+        (small_others s a.well_formed) memory.code (omega arith) refl
         (plain_steady (owed_of p (FuncletBody k)) (p.layout (FuncletBody k)).slots
         (p.layout (FuncletBody k)).frame 8 stored plain)

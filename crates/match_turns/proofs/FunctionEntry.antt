@@ -1,6 +1,7 @@
 -- A function is entered after its call, whatever its frame is.
-use Rattle.std.proofs.Common.{◌≡◌, ℕ, ◌+◌, ◌-◌, ◌≤◌, Bool, true, false, Some, List, [], length, refl, sym, ap, subst, ◌∙◌, arith, inl, inr}
-use Rattle.match_turns.specs.Words.{STACK_START, STACK_END, Rsp, Instr, register, LinearBody, FunctionBody, body_of, Layout, sizes, spelled, parameters_code, check_stack, HasCode, IsFunctionLayout, IsLeafLayout, IsLayoutIf, Setting, Enters, arrived_in, local_registers, number_placed}
+use Rattle.std.proofs.Common.{◌≡◌, ℕ, ◌+◌, ◌-◌, ◌*◌, ◌≤◌, Bool, true, false, Some, List, [], length, refl, sym, ap, subst, ◌∙◌, arith, inl, inr}
+use Rattle.std.specs.Prelude.{slice_get}
+use Rattle.match_turns.specs.Words.{weight, weight_of, FRAME_BY_WEIGHT, STACK_START, STACK_END, Rsp, Instr, register, LinearBody, FunctionBody, body_of, Layout, sizes, spelled, parameters_code, check_stack, HasCode, IsFunctionLayout, IsLeafLayout, IsLayoutIf, Setting, Enters, arrived_in, local_registers, number_placed}
 use Rattle.match_bodies.specs.CodeSites.{body_plan, making_size}
 use Rattle.frame_rules.specs.Bytes.{prologue_code}
 use Rattle.frame_rules.specs.Plan.{FramePlan}
@@ -16,7 +17,7 @@ use Rattle.match_turns.proofs.FunctionParameters.{parameters_stay, arguments_arr
 use Rattle.match_turns.proofs.FunctionParameters as entering
 use Rattle.match_turns.proofs.FunctionEntryCode.{making_frame, HasEntry, has_entry}
 use Rattle.match_turns.proofs.FunctionPrologue.{Made, planned_frame}
-use Rattle.match_turns.proofs.AtCall.{AtCall}
+use Rattle.match_turns.proofs.AtCall.{AtCall, callee_weight}
 
 module _ {setting : Setting} (at_call : AtCall setting) where
   open setting use {functions as t, funclets as fs, program, plan as p, sites as q, image}
@@ -64,8 +65,11 @@ module _ {setting : Setting} (at_call : AtCall setting) where
         placed = h.placed;
       }
 
-  low : STACK_START + 196568 ≤ caller
-  low = calling.low at_call
+  low : STACK_START + 196568 + FRAME_BY_WEIGHT * weight fn ≤ caller
+  low = calling.low_callee at_call
+
+  abbrev weighs : ℕ
+  weighs = weight_of (slice_get program.functions f)
 
   top : caller + 40 ≤ STACK_END
   top = let a = calling.room_top at_call in omega arith
@@ -110,7 +114,7 @@ module _ {setting : Setting} (at_call : AtCall setting) where
 
   -- ---- a function with a frame
 
-  module _ (leaf : p.leaf (FunctionBody f) ≡ false) (l : IsFunctionLayout layout o) where
+  module _ (leaf : p.leaf (FunctionBody f) ≡ false) (l : IsFunctionLayout weighs layout o) where
     abbrev frame : ℕ
     frame = layout.frame
 
@@ -126,6 +130,7 @@ module _ {setting : Setting} (at_call : AtCall setting) where
         let x = low in
         let z = top in
         let k = l.small in
+        let weight_is = callee_weight at_call in
         let a = image.addresses (FunctionBody f) o there in
         let first = a.first in
         let high = a.inside.high in
@@ -151,11 +156,20 @@ module _ {setting : Setting} (at_call : AtCall setting) where
         (entering.arguments at_call) (calling.called_sp at_call)
         (calling.in_registers at_call) plan q.check_stack frame
         (body_planned setting (FunctionBody f) o there some leaf)
-        (let few = l.few in let n = few_turns plan in omega arith)
         (plan_depth plan frame l.plan.whole) begins
         (called_code target (prologue_code plan) (entry false leaf).making)
         (body_probed setting (FunctionBody f) o there some)
         (called_code q.check_stack check_stack b.memory.code.check_stack)
+
+    -- it takes four turns for each page, and one for each register that it saves
+    soon : prologue_turns plan ≤ 21 + 8 * fn.surplus
+    soon =
+        let few = l.few in
+        let n = few_turns plan in
+        let whole = l.plan.whole in
+        let small = l.small in
+        let weight_is = callee_weight at_call in
+        omega arith
 
     framed_entered : Goal
     framed_entered =
@@ -165,6 +179,8 @@ module _ {setting : Setting} (at_call : AtCall setting) where
         let m = l.locals in
         let j = l.within in
         let k = l.small in
+        let few = l.light in
+        let weight_is = callee_weight at_call in
         entering.entered at_call sp (target + sizes (making_frame p q f false))
         (prologue_turns plan) made
         (record {
@@ -182,7 +198,7 @@ module _ {setting : Setting} (at_call : AtCall setting) where
           temporaries = omega arith;
           locals = omega arith;
           within = l.within;
-        }) k (omega arith)
+        }) (omega arith) soon (omega arith)
         (entry false leaf).storing (entry false leaf).ends (λ a out i. elim i [
           | inl w ↦ (let g = w.0 in let h = w.1 in
               elim out [
@@ -209,7 +225,7 @@ module _ {setting : Setting} (at_call : AtCall setting) where
   entered = by (p.leaf (FunctionBody f)) refl
     where
       by : (leaf : Bool) → p.leaf (FunctionBody f) ≡ leaf → Goal
-      by true e = leaf_entered e (subst (λ x. IsLayoutIf program p layout o x) e
+      by true e = leaf_entered e (subst (λ x. IsLayoutIf program p weighs layout o x) e
           (image.laid_out (FunctionBody f) o there))
-      by false e = framed_entered e (subst (λ x. IsLayoutIf program p layout o x) e
+      by false e = framed_entered e (subst (λ x. IsLayoutIf program p weighs layout o x) e
           (image.laid_out (FunctionBody f) o there))

@@ -1,7 +1,8 @@
 -- A function begins: its frame is below its return address, and on top of what waits.
 use Rattle.std.proofs.Common.{◌≡◌, ℕ, suc, ◌+◌, ◌<◌, ◌≤◌, Bool, true, false, Some, None, List, [], ◌∷◌, length, refl, arith}
+use Rattle.std.specs.Prelude.{slice_get}
 use Rattle.std.specs.List.{AllByRecursion}
-use Rattle.match_turns.specs.Words.{Event, STACK_END, Memory, Rsp, context_of, State, register, Functions, Funclet, no_exception, Region, LinearProgram, LinearBody, FunctionBody, body_of, Item, Waits, Searches, Unwinds, holds, regions_of, Layout, StackItem, context_below, ImagePlan, Activation, locals_of, HasSpace, below_end, HoldsPlaces, home_end, BodyWaits, HasPointers, ReturnsTo, FunctionIsAbove, On, IsWellFormed, Sites, IsLayoutIf, IsProgramImage, slots_end, last_temporary, begun, now_of}
+use Rattle.match_turns.specs.Words.{weight_of, Event, STACK_END, Memory, Rsp, context_of, State, register, Functions, Funclet, no_exception, Region, LinearProgram, LinearBody, FunctionBody, body_of, Item, Waits, Searches, Unwinds, holds, regions_of, Layout, StackItem, context_below, ImagePlan, Activation, locals_of, HasSpace, below_end, HoldsPlaces, home_end, BodyWaits, HasPointers, ReturnsTo, FunctionIsAbove, On, IsWellFormed, Sites, IsLayoutIf, IsProgramImage, slots_end, last_temporary, begun, now_of}
 use Rattle.seh_records.specs.Laws.{AllSmall}
 use Rattle.match_bodies.specs.ProgramImages.{frame_of, IsMachineMemory}
 use Rattle.match_bodies.specs.Bodies.{HasFrame, RepresentsAt}
@@ -59,7 +60,7 @@ module _ (t : Functions) (fs : List Funclet) (program : LinearProgram) (p : Imag
     }
 
     abbrev HasPlan : Bool → Type 0
-    HasPlan leaf = IsLayoutIf program p y o leaf
+    HasPlan leaf = IsLayoutIf program p (weight_of (slice_get program.functions f)) y o leaf
 
     no_base : (leaf : Bool) → HasPlan leaf → y.base ≡ None
     no_base true l = l.none

@@ -2,7 +2,7 @@
 use Rattle.std.proofs.Common.{◌≡◌, ℕ, zero, suc, ◌+◌, ◌-◌, ◌*◌, ◌^◌, ◌<◌, ◌≤◌, true, false, Some, None, List, [], ◌++◌, length, refl, sym, ap, subst, ◌∙◌, arith, inl, inr, length-append}
 use Rattle.std.specs.Prelude.{◌⊎◌, nat_lt, slice_index}
 use Rattle.std.proofs.lemmas.Bool.{cases_lt, lt-ltb, le-ltb}
-use Rattle.match_turns.specs.Words.{STACK_START, STACK_END, Memory, may_write, number_at, Protection, is_writable, Rsp, Flags, State, register, is_reserved, Local, Temporary, LinearBody, FunctionBody, body_of, function_body, Layout, sizes, spelled, IsNear, return_at, passing_code, parameters_code, stack_parameter, parameter_code, MachineView, machine, with_arguments, OnStack, IsFunctionFrame, body_in_memory, FreshFrame, HasBase, MemoryKeepsBase, IsBytes, Agrees, InTemporaries, InLocals, KeepsReserved, HasCode, Enters, FramePlace, Roomy, ReachesBody, counts_of, LARGEST_FRAME, Setting, OtherRegisters, LocalRegisters, local_in, registers_of, Place, InRegister, InFrame, Arriving, InRegisters, arrived_in, parameter_register, parameter_placed, number_placed, local_registers}
+use Rattle.match_turns.specs.Words.{STACK_START, STACK_END, Memory, may_write, number_at, Protection, is_writable, Rsp, Flags, State, register, is_reserved, Local, Temporary, LinearBody, FunctionBody, body_of, function_body, Layout, sizes, spelled, IsNear, return_at, passing_code, parameters_code, stack_parameter, parameter_code, MachineView, machine, with_arguments, OnStack, IsFunctionFrame, body_in_memory, FreshFrame, HasBase, MemoryKeepsBase, IsBytes, Agrees, InTemporaries, InLocals, KeepsReserved, HasCode, Enters, FramePlace, Roomy, ReachesBody, counts_of, FRAME_BY_WEIGHT, MOST_WEIGHT, Setting, OtherRegisters, LocalRegisters, local_in, registers_of, Place, InRegister, InFrame, Arriving, InRegisters, arrived_in, parameter_register, parameter_placed, number_placed, local_registers}
 use Rattle.template_code.specs.Places.{place_of}
 use Rattle.template_code.proofs.Places.{arriving_low}
 use Rattle.x64_instr.specs.Registers.{number}
@@ -234,7 +234,7 @@ module _ {setting : Setting} (at_call : AtCall setting) where
     pub turns : ℕ
     pub exact : turns ≡ making_steps (p.leaf (FunctionBody f)) (body_plan p q (FunctionBody f))
         + length (arguments_code program p (FunctionBody f))
-    pub soon : turns ≤ 17 + (count + (count - 4))
+    pub soon : turns ≤ 21 + 8 * fn.surplus + (count + (count - 4))
     pub comes : Enters target (target + making_size p q (FunctionBody f)) turns at_callee state
     pub rip : state.cpu.rip ≡ p.address (FunctionBody f) 0
     pub stack : register state.cpu Rsp ≡ sp
@@ -260,7 +260,8 @@ module _ {setting : Setting} (at_call : AtCall setting) where
   module _ (sp to n : ℕ) (made : Made called target to flags (caller - 8) sp arguments n)
       (own : IsOwn program.globals layout o sp)
       (whole : IsFunctionFrame (own_frame program.globals layout o sp))
-      (short : layout.frame + 8 ≤ LARGEST_FRAME) (place : sp + layout.frame + 8 ≡ caller)
+      (short : layout.frame + 8 ≤ FRAME_BY_WEIGHT * MOST_WEIGHT)
+      (early : n ≤ 21 + 8 * fn.surplus) (place : sp + layout.frame + 8 ≡ caller)
       (code : HasCode s.memory to (parameters_code layout 0 count))
       (ends : to + sizes (parameters_code layout 0 count) ≡ p.address (FunctionBody f) 0)
       (outside : (a : ℕ) → Outside a → InTemporaries layout (counts_of o) sp a
@@ -343,7 +344,6 @@ module _ {setting : Setting} (at_call : AtCall setting) where
     pub entered : InCallee
     entered =
         let long = parameters_soon y 0 count (omega arith) in
-        let early = made.few in
         record {
           sp = sp;
           place = place;

@@ -1,5 +1,5 @@
 -- From a function's first byte its frame is made, by the prologue of its plan.
-use Rattle.std.proofs.Common.{◌≡◌, ℕ, ◌+◌, ◌-◌, ◌≤◌, true, [], refl, sym, subst, ◌∙◌, arith}
+use Rattle.std.proofs.Common.{◌≡◌, ℕ, ◌+◌, ◌-◌, true, [], refl, sym, subst, ◌∙◌, arith}
 use Rattle.match_turns.specs.Words.{Flags, sizes, check_stack, MachineView, machine, sp_of, InRegisters, HasCode, Enters, seen_by_templates}
 use Rattle.frame_rules.specs.Bytes.{prologue_code}
 use Rattle.frame_rules.specs.Codes.{depth}
@@ -14,7 +14,6 @@ use Rattle.match_turns.proofs.Lemmas.{is_machine}
 -- most in the frame
 pub record Made (v : MachineView) (target to : ℕ) (f : Flags) (top sp : ℕ) (arguments : ℕ → ℕ)
     (n : ℕ) : Type 0 where
-  pub few : n ≤ 17
   pub after : MachineView
   pub flags : Flags
   pub comes : Enters target to n (machine v target f) (machine after to flags)
@@ -57,10 +56,14 @@ made_view p check v target f is_plan entry code probed checks =
       comes = subst (Enters target (target + sizes (prologue_code p)) (prologue_turns p) e) is
           m.comes;
       stack = d;
-      rcx = m.volatile 1 refl (λ z. absurd (omega arith)) (λ z. absurd (omega arith));
-      rdx = m.volatile 2 refl (λ z. absurd (omega arith)) (λ z. absurd (omega arith));
-      r8 = m.volatile 8 refl (λ z. absurd (omega arith)) (λ z. absurd (omega arith));
-      r9 = m.volatile 9 refl (λ z. absurd (omega arith)) (λ z. absurd (omega arith));
+      rcx = m.volatile 1 refl (λ z. absurd (omega arith)) (λ z. absurd (omega arith))
+          (λ z. absurd (omega arith));
+      rdx = m.volatile 2 refl (λ z. absurd (omega arith)) (λ z. absurd (omega arith))
+          (λ z. absurd (omega arith));
+      r8 = m.volatile 8 refl (λ z. absurd (omega arith)) (λ z. absurd (omega arith))
+          (λ z. absurd (omega arith));
+      r9 = m.volatile 9 refl (λ z. absurd (omega arith)) (λ z. absurd (omega arith))
+          (λ z. absurd (omega arith));
       within = m.within;
       same = m.same;
     }
@@ -68,21 +71,20 @@ made_view p check v target f is_plan entry code probed checks =
 module _ (v : MachineView) (target : ℕ) (f : Flags) (top : ℕ) (arguments : ℕ → ℕ)
     (at : sp_of v ≡ top) (regs : InRegisters v arguments) where
   -- where its codes lead so far down
-  pub planned_frame : (p : FramePlan) (check frame : ℕ) → IsPlan p → prologue_turns p ≤ 17
+  pub planned_frame : (p : FramePlan) (check frame : ℕ) → IsPlan p
       → depth (operations_of p) ≡ frame → IsEntry frame (machine v target f)
       → HasCode v.memory target (prologue_code p)
       → AreProbed p check target (turned [] (operations_of p))
       → HasCode v.memory check check_stack
       → Made v target (target + sizes (prologue_code p)) f top (top - frame) arguments
       (prologue_turns p)
-  planned_frame p check frame is_plan few deep entry code probed checks =
+  planned_frame p check frame is_plan deep entry code probed checks =
       let m = made_view p check v target f is_plan
       (subst (λ k. IsEntry k (machine v target f)) (sym deep) entry) code probed checks in
       let at' : registers (machine v target f) 4 ≡ top = at in
       let lower : registers (machine v target f) 4 - depth (operations_of p) ≡ top - frame = omega
       (arith, at', deep) in
       record {
-        few = few;
         after = m.after;
         flags = m.flags;
         comes = m.comes;

@@ -60,7 +60,7 @@ pub use Rattle.match_bodies.proofs.StackWords.{may_read_written, word_is, word_o
 pub use Rattle.match_bodies.proofs.StepNeeds.{some_is, counted_here, code_at, label_in, body_there, owned_count, leaf_or_funclet, owner_waits, ready_here, held_here, goes_inside, around_here}
 pub use Rattle.match_bodies.proofs.TemplateKeeping.{information_keeps, finish_keeps, operands_keep}
 pub use Rattle.match_bodies.proofs.ArrivedParameters.{each}
-pub use Rattle.match_bodies.proofs.TemplateRuns.{v, frame, slots, same_state, template_here, has_slots, sp_is, next_address, base, code, y, silent_at, Surroundings, get_or_is}
+pub use Rattle.match_bodies.proofs.TemplateRuns.{v, frame, slots, same_state, template_here, has_slots, sp_is, next_address, code_end, base, code, y, silent_at, Surroundings, get_or_is}
 pub use Rattle.match_bodies.proofs.TemplateShadows.{kept_by_view, is_here, is_after, ends_at, RunsKeep, one_piece, caller_here, beyond_here, ends_gives, IsPast, past_ends, kept_here, Below}
-pub use Rattle.match_bodies.proofs.TemplateSizes.{template_some, first_in_code, address_next}
+pub use Rattle.match_bodies.proofs.TemplateSizes.{template_some, first_in_code, code_ends}
 pub use Rattle.match_bodies.proofs.TemplateSlots.{Leaves}

@@ -2,7 +2,7 @@
 use Rattle.std.proofs.Common.{◌≡◌, ◌≢◌, ℕ, ◌+◌, ◌*◌, ◌^◌, ◌<◌, ◌≤◌, Bool, true, false, List, [], ◌∷◌, length, Option, Some, None, refl, sym, ap, subst, ◌∙◌, arith, inl, inr}
 use Rattle.std.specs.Prelude.{◌⊎◌, slice_get}
 use Rattle.std.proofs.lemmas.Option.{slice_get_cases}
-use Rattle.match_turns.specs.Words.{Memory, executable, Instr, leading, chosen, Cpu, State, Functions, distance, Funclet, arrivals, no_flags, Operation, Slot, Instruction, HasSlots, LinearProgram, LinearBody, BodyName, FunctionBody, FuncletBody, body_of, Layout, spelled, sizes, keep, operands_code, finish_code, template, template_size, HasBase, SlotsHaveRoom, HasCode, HaveRoom, ImagePlan, Sites, links_of, IsFunctionLayout, IsLeafLayout, IsLayoutIf, IsLaidOut, IsFuncletLayout, IsProgramImage, counts_of, setting_of, Counts, work}
+use Rattle.match_turns.specs.Words.{weight_of, Memory, executable, Instr, leading, chosen, Cpu, State, Functions, distance, Funclet, arrivals, no_flags, Operation, Slot, Instruction, HasSlots, LinearProgram, LinearBody, BodyName, FunctionBody, FuncletBody, body_of, Layout, spelled, sizes, keep, operands_code, finish_code, template, template_size, HasBase, SlotsHaveRoom, HasCode, HaveRoom, ImagePlan, Sites, links_of, IsFunctionLayout, IsLeafLayout, IsLayoutIf, IsLaidOut, IsFuncletLayout, IsProgramImage, counts_of, setting_of, Counts, work}
 use Rattle.match_turns.proofs.Lemmas.{longest, sizes_append, bytes_split, spells, reads, code_split, Fine, none_taking, finish_fine, funclet_makes, template_there, template_some, each}
 use Rattle.linear_code.specs.declared.instruction.Instruction.TheVariants as instructions
 use Rattle.match_bodies.specs.ProgramImages.{HasProgram}
@@ -56,13 +56,14 @@ own_room y n none temporaries locals apart = record {
   };
 }
 
-function_room : (y : Layout) (b : LinearBody) → IsFunctionLayout y b
+function_room : (weight : ℕ) (y : Layout) (b : LinearBody) → IsFunctionLayout weight y b
     → HasRoomSomewhere y (counts_of b)
-function_room y b l =
+function_room weight y b l =
     let x = l.temporaries in
     let z = l.locals in
     let w = l.within in
     let s = l.small in
+    let few = l.light in
     own_room y (counts_of b) l.none (omega arith) (omega arith) (inr (omega arith))
 
 leaf_room : (y : Layout) (b : LinearBody) → IsLeafLayout y b → HasRoomSomewhere y (counts_of b)
@@ -72,9 +73,9 @@ leaf_room y b l =
     let s = l.few in
     own_room y (counts_of b) l.none (omega arith) (omega arith) (inl (omega arith))
 
-funclet_room : (y f : Layout) (b g : LinearBody) → IsFuncletLayout y f b → IsFunctionLayout f g
-    → b.locals ≡ g.locals → HasRoomSomewhere y (counts_of b)
-funclet_room y f b g l m same =
+funclet_room : (weight : ℕ) (y f : Layout) (b g : LinearBody) → IsFuncletLayout y f b
+    → IsFunctionLayout weight f g → b.locals ≡ g.locals → HasRoomSomewhere y (counts_of b)
+funclet_room weight y f b g l m same =
     let x = l.temporaries in
     let z = l.locals in
     let w = l.within in
@@ -83,6 +84,7 @@ funclet_room y f b g l m same =
     let u = m.locals in
     let i = m.within in
     let v = m.small in
+    let few = m.light in
     record {
       sp = 0;
       base = 8192;
@@ -100,10 +102,11 @@ funclet_room y f b g l m same =
 module _ (t : Functions) (fs : List Funclet) (program : LinearProgram) (p : ImagePlan) (q : Sites)
     (image : IsProgramImage t fs program p q) where
   by_leaf : (f : ℕ) (b : LinearBody) (leaf : Bool)
-      → IsLayoutIf program p (p.layout (FunctionBody f)) b leaf
+      → IsLayoutIf program p (weight_of (slice_get program.functions f)) (p.layout (FunctionBody f)) b leaf
       → HasRoomSomewhere (p.layout (FunctionBody f)) (counts_of b)
   by_leaf f b true l = leaf_room (p.layout (FunctionBody f)) b l
-  by_leaf f b false l = function_room (p.layout (FunctionBody f)) b l
+  by_leaf f b false l = function_room (weight_of (slice_get program.functions f))
+      (p.layout (FunctionBody f)) b l
 
   by_name : (name : BodyName) (b : LinearBody) → IsLaidOut program p name b
       → HasRoomSomewhere (p.layout name) (counts_of b)
@@ -111,10 +114,11 @@ module _ (t : Functions) (fs : List Funclet) (program : LinearProgram) (p : Imag
   by_name (FuncletBody k) b l =
       let g : IsLaidOut program p (FunctionBody l.funclet.function) l.function = image.laid_out
       (FunctionBody l.funclet.function) l.function l.function_there in
-      funclet_room (p.layout (FuncletBody k)) (p.layout (FunctionBody l.funclet.function)) b
+      let weight = weight_of (slice_get program.functions l.funclet.function) in
+      funclet_room weight (p.layout (FuncletBody k)) (p.layout (FunctionBody l.funclet.function)) b
       l.function l.layout
-      (subst (λ (leaf : Bool). IsLayoutIf program p (p.layout (FunctionBody l.funclet.function))
-      l.function leaf) l.function_framed g) l.same_locals
+      (subst (λ (leaf : Bool). IsLayoutIf program p weight
+      (p.layout (FunctionBody l.funclet.function)) l.function leaf) l.function_framed g) l.same_locals
 
   -- ---- code
 

@@ -7,7 +7,7 @@ use Rattle.template_code.specs.Operands as operands
 use Rattle.template_code.specs.Slots.{fetch_if}
 use Rattle.x64_templates.specs.Runs.{Reaches}
 use Rattle.linear_code.specs.declared.instruction.Instruction.TheVariants as instructions
-use Rattle.match_turns.proofs.Lemmas.{before_length, code_split, Begun, operands_run, reaches_silently, IsCounted, room_here, holds_here, is_here, operands_keep, code, frame, slots, v, same_state, template_here, has_slots, next_address, sp_is, Surroundings, reaches_keeps, stays_well_formed, is_read, counted_here, around_here, code_at, ready_here, kept_by_view}
+use Rattle.match_turns.proofs.Lemmas.{before_length, code_split, Begun, operands_run, reaches_silently, IsCounted, room_here, holds_here, is_here, operands_keep, code, frame, slots, v, same_state, template_here, has_slots, next_address, code_end, sp_is, Surroundings, reaches_keeps, stays_well_formed, is_read, counted_here, around_here, code_at, ready_here, kept_by_view}
 use Rattle.lowering_invariants.specs.Ready as ready
 use Rattle.match_turns.proofs.OperationCode.{some_finish, whole_size, finish_is_at, silent_within}
 use Rattle.match_bodies.proofs.LeafRegisters.{running_hold, leaf_held}
@@ -108,6 +108,8 @@ module _ (setting : Setting) (made : IsWellMade setting.program setting.plan)
   inside =
       let some = some_finish (p.layout c.frame.body) o to in
       let a = next_at in
+      let n = next_address setting made.room s c b counted here at_here in
+      let e = code_end setting made.room s c b counted here at_here in
       let r = b.rip in
       record { low = omega arith; high = omega arith }
 

@@ -2,7 +2,7 @@
 -- begins, with the result 0.
 use Rattle.std.proofs.Common.{◌≡◌, ℕ, suc, ◌+◌, ◌*◌, ◌≤◌, Bool, true, false, List, [], ◌∷◌, ◌++◌, length, Some, None, refl, sym, ap, subst, ◌∙◌, arith, length-append}
 use Rattle.std.specs.Prelude.{slice_get}
-use Rattle.match_turns.specs.Words.{Rsp, Instr, Cpu, context_of, State, distance, arrivals, RaiseException, Temporary, Instruction, HasSlots, LinearProgram, LinearBody, BodyName, FunctionBody, FuncletBody, body_of, AfterCall, Waits, Configuration, resumed, Layout, sizes, put_back, keep, temporary_at, call, return_at, begin_call, clear_result, HasCode, StackItem, ImagePlan, Activation, locals_of, On, on_top, IsWellFormed, LeadsTo, IsLayoutIf, IsLaidOut, IsWellMade, IsKnown, counts_of, entry_turns, LARGEST_FRAME, Setting, setting_of, IsMachineMemory, RepresentsAt, ReturnsThere, ContinuationsAfterCalls, arguments_code, leaf_values, ResumesFrom}
+use Rattle.match_turns.specs.Words.{Rsp, Instr, Cpu, context_of, State, distance, arrivals, RaiseException, Temporary, Instruction, HasSlots, LinearProgram, LinearBody, BodyName, FunctionBody, FuncletBody, body_of, AfterCall, Waits, Configuration, resumed, Layout, sizes, put_back, keep, temporary_at, call, return_at, begin_call, clear_result, HasCode, StackItem, ImagePlan, Activation, locals_of, On, on_top, IsWellFormed, LeadsTo, IsLayoutIf, IsLaidOut, IsWellMade, IsKnown, counts_of, entry_turns, FRAME_BY_WEIGHT, MOST_WEIGHT, weight_of, Setting, setting_of, IsMachineMemory, RepresentsAt, ReturnsThere, ContinuationsAfterCalls, arguments_code, leaf_values, ResumesFrom}
 use Rattle.linear_code.specs.declared.instruction.Instruction.TheVariants as instructions
 use Rattle.match_turns.proofs.Lemmas.{sizes_append, call_size, code_split, near, template_there, reaches_silently, locals_count, label_in, body_there, counted_here, each, IsCounted}
 use Rattle.lowering_invariants.specs.Depths.{depth_at, depth_in}
@@ -20,14 +20,16 @@ locals_in xs k = elim (slice_get xs k) [ Some locals ↦ locals | None ↦ [] ]
 -- temporaries are near RSP
 temporaries_near : (program : LinearProgram) (p : ImagePlan) (name : BodyName) (b : LinearBody)
     → IsLaidOut program p name b → (p.layout name).temporaries + 8 * b.temporaries + 8
-    ≤ LARGEST_FRAME
+    ≤ FRAME_BY_WEIGHT * MOST_WEIGHT
 temporaries_near program p (FunctionBody f) b h = by (p.leaf (FunctionBody f)) h
   where
-    by : (leaf : Bool) → IsLayoutIf program p (p.layout (FunctionBody f)) b leaf
-        → (p.layout (FunctionBody f)).temporaries + 8 * b.temporaries + 8 ≤ LARGEST_FRAME
+    by : (leaf : Bool) → IsLayoutIf program p (weight_of (slice_get program.functions f))
+        (p.layout (FunctionBody f)) b leaf
+        → (p.layout (FunctionBody f)).temporaries + 8 * b.temporaries + 8
+        ≤ FRAME_BY_WEIGHT * MOST_WEIGHT
     by true l = let a = l.temporaries in let e = l.few in omega arith
     by false l = let a = l.temporaries in let e = l.locals in let w = l.within in let z = l.small in
-        omega arith
+        let few = l.light in omega arith
 temporaries_near program p (FuncletBody k) b h = let a = h.layout.temporaries in
     let w = h.layout.within in let z = h.layout.small in omega arith
 

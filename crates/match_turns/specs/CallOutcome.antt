@@ -1,5 +1,5 @@
 -- Where a function begins.
-use Rattle.std.specs.Prelude.{◌≡◌, ◌≢◌, ℕ, ◌+◌, ◌-◌, ◌<◌, ◌≤◌, List, [], ◌∷◌, ◌++◌, length, slice_get, Some, None}
+use Rattle.std.specs.Prelude.{◌≡◌, ◌≢◌, ℕ, ◌+◌, ◌-◌, ◌*◌, ◌<◌, ◌≤◌, List, [], ◌∷◌, ◌++◌, length, slice_get, Some, None}
 use Rattle.seh_num.specs.declared.event.Event.{Event}
 use Rattle.flat_memory.specs.Memory.{Memory}
 use Rattle.x64_machine.specs.Effect.{State}
@@ -16,10 +16,10 @@ use Rattle.lowering_invariants.specs.SmallNumbers.{AreSmall}
 use Rattle.match_bodies.specs.CodeSites.{Sites}
 use Rattle.match_bodies.specs.Bodies.{turns_left, RepresentsAt}
 
--- turns that a call takes at most, with what earlier steps left: those of a step, and six that its
--- body has in hand
-abbrev pub turns_per_call : ℕ
-turns_per_call = 22
+-- turns that a call takes at most, with what earlier steps left: 26, and 8 for the two more pages
+-- that each 1 of its function's surplus gives the frame
+abbrev pub turns_per_call : (surplus : ℕ) → ℕ
+turns_per_call surplus = 26 + 8 * surplus
 
 -- linear code where a function begins, with these numbers in its locals
 abbrev pub begun : (f : ℕ) (values : List ℕ) (held : ℕ) (below : List Item) (source : Memory)
@@ -60,14 +60,14 @@ module _ (t : Functions) (fs : List Funclet) (program : LinearProgram) (p : Imag
     pub small : AreSmall others
     pub turns : ℕ
     pub some : 1 ≤ turns
-    pub few : turns + turns_left (begun f (arguments ++ others) c.frame.held
+    pub few : turns + turns_left (begun f (arguments ++ others) (c.frame.held + function.surplus)
         (Waits (waiting c first).frame ∷ c.below) c.store.memory c.store.activations c.events)
-        ≤ turns_per_call + turns_left c
+        ≤ turns_per_call function.surplus + turns_left c
     pub state : State
     pub comes : Comes t fs turns s [] state
     pub acts : (next : Next) → act program (instructions.Call f first count) next c
         ≡ next (begin_function f function arguments c.frame.held
         (Waits (waiting c first).frame ∷ c.below) c.store c.events)
     pub begins : RepresentsAt t fs program p q state
-        (begun f (arguments ++ others) c.frame.held
+        (begun f (arguments ++ others) (c.frame.held + function.surplus)
         (Waits (waiting c first).frame ∷ c.below) c.store.memory c.store.activations c.events)

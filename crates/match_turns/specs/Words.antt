@@ -23,7 +23,7 @@ pub use Rattle.source_meaning.specs.State.{Exception}
 pub use Rattle.source_meaning.specs.declared.ended.Ended.TheVariants.{Deep}
 pub use Rattle.linear_code.specs.BodyState.{BodyState, with_slot, Counts}
 pub use Rattle.linear_code.specs.Meaning.{IsSlot, HasSlots}
-pub use Rattle.linear_code.specs.Program.{LinearFunction, LinearProgram, LinearFunclet, LinearBody}
+pub use Rattle.linear_code.specs.Program.{LinearFunction, LinearProgram, LinearFunclet, LinearBody, weight}
 pub use Rattle.linear_code.specs.declared.instruction.Instruction.{Instruction}
 pub use Rattle.linear_code.specs.declared.program.FuncletKind.{FuncletKind}
 pub use Rattle.linear_code.specs.declared.program.Region.{Region}
@@ -31,7 +31,7 @@ pub use Rattle.linear_code.specs.declared.program.RegionKind.{RegionKind}
 pub use Rattle.linear_code.specs.declared.slot.Slot.{Slot}
 pub use Rattle.linear_code.specs.declared.slot.Slot.TheVariants.{Local, Temporary}
 pub use Rattle.linear_machine.specs.BuiltInCalls.{CallsBuiltIn}
-pub use Rattle.linear_machine.specs.Frames.{Configuration, AfterCall, SameOperation, read, BodyName, FunctionBody, FuncletBody, body_of, Frame, Item, Waits, Searches, Unwinds, with_last, Next, deeper, last_temporaries, function_body, Finished, local_of, Seen, Handler, Target, Resumption, Store, funclet_body, forth, set_local, Running, Stuck}
+pub use Rattle.linear_machine.specs.Frames.{Configuration, AfterCall, SameOperation, read, BodyName, FunctionBody, FuncletBody, body_of, Frame, Item, Waits, Searches, Unwinds, with_last, Next, deeper, last_temporaries, function_body, weight_of, Finished, local_of, Seen, Handler, Target, Resumption, Store, funclet_body, forth, set_local, Running, Stuck}
 unfoldable pub use Rattle.linear_machine.specs.Frames.{with_some, pick}
 pub use Rattle.linear_machine.specs.Instructions.{waiting, begin_function, act, end_finally, local_unwind, end_funclet, end_body, return, written, is_constant, operand, computed, count_of, built_in}
 pub use Rattle.linear_machine.specs.Regions.{regions_of, holds, handlers, regions_at, regions_left, stops}
@@ -67,7 +67,7 @@ pub use Rattle.template_code.specs.Slots.{fetch, local_at, fetch_local, keep, pu
 pub use Rattle.template_code.specs.Template.{template, body_size, offset_of, code_from}
 unfoldable pub use Rattle.template_code.specs.Template.{template_size}
 pub use Rattle.template_code.specs.declared.layout.Layout.{Layout}
-pub use Rattle.template_code.specs.declared.layout.TheConstants.{LARGEST_FRAME}
+pub use Rattle.template_code.specs.declared.layout.TheConstants.{FRAME_BY_WEIGHT, MOST_WEIGHT}
 pub use Rattle.x64_templates.specs.CallStates.{HasBack, with_sp, moved, sp_of, with_four, pushed, HasBelow}
 pub use Rattle.x64_templates.specs.EntryStates.{InRegisters, with_arguments, OnStack, IsFunctionFrame, body_in_memory, FreshFrame}
 pub use Rattle.x64_templates.specs.Exceptions.{IsField, field_width, MayRead}

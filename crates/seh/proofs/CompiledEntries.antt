@@ -33,7 +33,7 @@ use Rattle.image_code.specs.Code.{code_of}
 use Rattle.image_code.specs.Verdicts.{checked_code, IsImageVerdict}
 use Rattle.image_code.proofs.ImageBounds.{IsBounded}
 use Rattle.image_code.proofs.LoadedItems.{items_there, bytes_there}
-use Rattle.x64_emit.specs.declared.entry.TheConstants.{CHECK_STACK}
+use Rattle.x64_emit.specs.declared.entry.TheConstants.{CHECK_STACK, CHECK_STACK_SIZE}
 use Rattle.x64_emit.proofs.CheckStack.{check_stack_spelled}
 use Rattle.image_link.specs.Fits.{FitsProgram}
 use Rattle.image_link.specs.Near.{IsSiteNear}
@@ -93,7 +93,7 @@ module _ (p : LinearProgram) (fits : FitsProgram p) (b : IsBounded (image_of (li
       let at = probe_begin p in
       let few = near.text in
       let services = services_few p in
-      let long : length CHECK_STACK ≡ 21 = refl in
+      let long : length CHECK_STACK ≡ CHECK_STACK_SIZE = refl in
       bytes_there image b at CHECK_STACK (omega arith)
       (subst (IsExecutableAt (mapped image) (image_base + at)) (sym check_stack_spelled)
       (probe_is_at p (mapped image) text))

@@ -17,7 +17,7 @@ use Rattle.template_code.specs.Bytes.{spelled}
 use Rattle.template_code.specs.Probing.{check_stack}
 use Rattle.template_code.proofs.Sizes.{sizes_spelled}
 use Rattle.pe_write.specs.ImportTables.{slot_of}
-use Rattle.x64_emit.specs.declared.entry.TheConstants.{THUNK_SIZE}
+use Rattle.x64_emit.specs.declared.entry.TheConstants.{CHECK_STACK_SIZE, THUNK_SIZE}
 use Rattle.x64_emit.proofs.Nearby.{near_signed}
 use Rattle.image_link.specs.Near.{AreFew}
 use Rattle.image_link.specs.Text.{service_thunk, thunk_at, front_code, front_size}
@@ -96,7 +96,8 @@ module _ (imports : List ImportedService) (text rdata : ℕ) where
 
   front_from : (m : Memory) (base to : ℕ) (ss : List ImportedService) (at rva : ℕ)
       → HasItems m (base + at) (spelled_by spell (map thunk ss ++ check_stack)) (base + to)
-      → at + 6 * length ss + 21 ≡ to → at ≤ rva → rva < to → IsFrontPiece m base to rva
+      → at + 6 * length ss + CHECK_STACK_SIZE ≡ to → at ≤ rva → rva < to
+      → IsFrontPiece m base to rva
   front_from m base to [] at rva h end low high = record {
     begin = at;
     end = to;

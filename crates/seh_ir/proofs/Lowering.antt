@@ -1,7 +1,8 @@
 -- Regions, funclets and functions, one after another.
-use Rattle.std.proofs.Common.{◌≡◌, ℕ, zero, suc, ◌+◌, ◌<◌, List, [], ◌∷◌, ◌++◌, length, map, take, get_or, refl, sym, ap, ◌∙◌, arith, append_assoc}
-use Rattle.std.proofs.lemmas.List.{append-nil}
-use Rattle.seh_ir.specs.Words.{Stmt, statement, statements, function, Region, LinearFunction, LinearFunclet, linear_function, Names, Owner, statement_size, statements_size, statement_regions, statements_regions, statement_funclets, statements_funclets, lowered_function, lowered_funclets, all_funclets}
+use Rattle.std.proofs.Common.{◌≡◌, ℕ, zero, suc, ◌+◌, ◌<◌, List, [], ◌∷◌, ◌++◌, length, map, take, get_or, replicate, refl, sym, ap, ◌∙◌, arith, append_assoc}
+use Rattle.std.proofs.lemmas.List.{append-nil, length-replicate, replicate-append-replicate}
+use Rattle.c_checked.specs.Program.{Function as Function', surplus, weight}
+use Rattle.seh_ir.specs.Words.{Stmt, statement, statements, function, Region, LinearFunction, LinearFunclet, linear_function, Names, Owner, statement_size, statements_size, statement_regions, statements_regions, statement_funclets, statements_funclets, Separator, first_separators, lowered_function, lowered_funclets, all_funclets}
 use Rattle.c_checked.specs.declared.function.Function.{Function}
 use Rattle.linear_code.specs.declared.program.IrFunction.{IrFunction}
 
@@ -93,6 +94,17 @@ funclets_next owner names items i x old mid new lt is h k =
     one
 
 -- ---- functions
+
+-- as many separators as a function weighs
+pub first_are : (f : Function') (n : ℕ) → n ≡ weight f
+    → replicate n Separator ≡ first_separators f
+first_are f n e = ap (λ k. replicate k Separator) e
+    ∙ sym (replicate-append-replicate 1 (surplus f) Separator)
+
+pub length_first : (f : Function') → length (first_separators f) ≡ weight f
+length_first f =
+    let e = length-replicate (surplus f) Separator in
+    omega arith
 
 more_functions : (items : List Function) (i : ℕ) (x : Function) → i < length items
     → map lowered_function (map function (take (suc i) items))

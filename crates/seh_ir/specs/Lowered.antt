@@ -1,6 +1,7 @@
 -- The linear code of a program.
-use Rattle.std.specs.Prelude.{ℕ, ◌+◌, List, [], ◌∷◌, ◌++◌, length, map, None}
-use Rattle.c_checked.specs.Program.{Program, Function}
+use Rattle.std.specs.Prelude.{ℕ, ◌+◌, List, [], ◌∷◌, ◌++◌, length, map, replicate, None}
+use Rattle.c_checked.specs.Program.{Program, Function, surplus, weight}
+use Rattle.linear_code.specs.declared.instruction.Instruction.{Instruction}
 use Rattle.linear_code.specs.declared.slot.Slot.TheVariants.{Temporary}
 use Rattle.linear_code.specs.declared.instruction.Instruction.TheVariants.{Separator, Return}
 use Rattle.linear_code.specs.Program.{LinearFunction, LinearFunclet, LinearProgram}
@@ -19,19 +20,25 @@ use Rattle.seh_ir.specs.Funclets.{statements_funclets}
 abbrev pub all_locals : Function → ℕ
 all_locals f = own_locals f + statements_notes f.body
 
--- a function begins with a separator, so that no region of it begins where its prologue ends; it
--- returns 0 at its end, and what its first temporary holds at its exit
+-- a function begins with a separator, so that no region of it begins where its prologue ends, and
+-- with one for each further step that an activation of it counts: as many as it weighs
+abbrev pub first_separators : Function → List Instruction
+first_separators f = Separator ∷ replicate (surplus f) Separator
+
+-- after them comes its body; it returns 0 at its end, and what its first temporary holds at its
+-- exit
 abbrev pub scope_of : Function → LoweringContext
-scope_of f = function_scope (own_locals f) (1 + statements_size f.body + 1)
+scope_of f = function_scope (own_locals f) (weight f + statements_size f.body + 1)
 
 abbrev pub lowered_function : Function → LinearFunction
 lowered_function f = record {
   name = f.name;
   parameters = length f.parameters;
   registers = register_locals f;
+  surplus = surplus f;
   body =
-      body_with (all_locals f) (Separator ∷ statements_code (scope_of f) f.body 1 ++ constant 0 0
-      ∷ Return (Temporary 0) ∷ []) (statements_regions f.body 1);
+      body_with (all_locals f) (first_separators f ++ statements_code (scope_of f) f.body (weight f)
+      ++ constant 0 0 ∷ Return (Temporary 0) ∷ []) (statements_regions f.body (weight f));
 }
 
 -- the funclets of a function of this number

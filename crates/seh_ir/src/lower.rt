@@ -1,6 +1,7 @@
 //! Whole programs.
 
-ghost use Rattle.std.specs.Prelude.{◌≡◌, OnOk, IfOk};
+ghost use Rattle.std.specs.Prelude.{◌≡◌, ◌++◌, replicate, OnOk, IfOk};
+ghost use Rattle.linear_code.specs.declared.instruction.Instruction.TheVariants.{Separator};
 ghost use Rattle.linear_code.specs.Program.{linear_function, linear_program};
 ghost use Rattle.c_checked.specs.Program as programs;
 ghost use Rattle.c_checked.specs.Whole.{program};
@@ -30,6 +31,23 @@ fn all_locals(f: &Function) -> Result<u64, AllocError>
     sum(own_locals(f)?, statements_notes(&f.body)?)
 }
 
+/// How much an activation counts in the depth, and the label at which the body begins.
+fn weight(f: &Function) -> Result<u64, AllocError>
+    ensures { IfOk result (λ n. n ≡ programs.weight (programs.function f.now)) }
+{
+    sum(1, f.surplus())
+}
+
+/// Adds so many separators.
+fn put_separators(code: &mut Vec<Instruction>, count: u64) -> Result<(), AllocError>
+    ensures { OnOk result (code.new.items ≡ code.old.items ++ replicate count Separator) }
+{
+    for _ in 0..count {
+        code.push(Instruction::Separator)?;
+    }
+    Ok(())
+}
+
 /// What names mean in a function outside of any `__try`.
 fn names_of(f: &Function) -> Result<Names, AllocError>
     ensures { IfOk result (λ n. n ≡ (spec.scope_of (programs.function f.now)).names) }
@@ -46,7 +64,8 @@ fn scope_of(alloc: Global, f: &Function) -> Result<LoweringContext, AllocError>
     ensures { IfOk result (λ s. s ≡ spec.scope_of (programs.function f.now)) }
 {
     let names = names_of(f)?;
-    let exit = sum(measure_all(&f.body, &mut Vec::new(alloc))?, 2)?;
+    let body = sum(measure_all(&f.body, &mut Vec::new(alloc))?, 1)?;
+    let exit = sum(weight(f)?, body)?;
     Ok(LoweringContext {
         names,
         exit: Way::Jumps(exit),
@@ -63,15 +82,16 @@ fn lower_function(alloc: Global, f: &Function) -> Result<IrFunction, AllocError>
     let registers = register_locals(alloc, f)?;
     let scope = scope_of(alloc, f)?;
     let locals = all_locals(f)?;
+    let begin = weight(f)?;
     let mut code = Vec::new(alloc);
-    put_all(&mut code, &[Instruction::Separator])?;
+    put_separators(&mut code, begin)?;
     statements(alloc, &mut code, &scope, &f.body)?;
     let returns = Instruction::Return {
         from: Slot::Temporary(0),
     };
     put_all(&mut code, &[constant(0, 0), returns])?;
     let mut regions = Vec::new(alloc);
-    statements_regions(&mut regions, &f.body, 1)?;
+    statements_regions(&mut regions, &f.body, begin)?;
     let body = body_with(locals, code, regions)?;
     let mut name = Vec::new(alloc);
     name.extend_from_slice(&f.name)?;
@@ -79,6 +99,7 @@ fn lower_function(alloc: Global, f: &Function) -> Result<IrFunction, AllocError>
         name,
         parameters: f.parameters.len() as u64,
         registers,
+        surplus: f.surplus(),
         body,
     })
 }

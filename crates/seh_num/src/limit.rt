@@ -1,7 +1,7 @@
 //! The limits of a program (own).
 
 /// The most locals of a function.
-pub const MOST_LOCALS: u64 = 256;
+pub const MOST_LOCALS: u64 = 65_536;
 
 /// The most parameters of a function.
 pub const MOST_PARAMETERS: u64 = 8;

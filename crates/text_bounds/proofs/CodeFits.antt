@@ -98,7 +98,12 @@ body_fits b s c few =
     let p = s.passed in
     let t = s.temporaries in
     let l = s.locals in
-    record { words = omega arith; code = code_fits b b.code s.code (omega arith); regions = few }
+    record {
+      words = omega arith;
+      locals = omega arith;
+      code = code_fits b b.code s.code (omega arith);
+      regions = few;
+    }
 
 -- what each has by its number, all have
 all_of : (P : LinearFunction → Type 0) (fs : List LinearFunction)
@@ -110,15 +115,21 @@ functions_fit : (fs : List LinearFunction) → AllByRecursion IsSmallFunction fs
     → AllByRecursion FunctionIsCounted fs → AllByRecursion HasRegisters fs
     → tables_room (function_bodies fs) ≤ MOST_IMAGE → AllByRecursion FitsFunction fs
 functions_fit [] s c r few = tt
-functions_fit (f ∷ fs) s c r few = (
-  record {
-    parameters = s.0.parameters;
-    registers = r.0.few;
-    some = c.0.1;
-    body = body_fits f.body s.0.body c.0.0 (omega arith);
-  },
-  functions_fit fs s.1 c.1 r.1 (omega arith),
-)
+functions_fit (f ∷ fs) s c r few =
+    let p = s.0.body.passed in
+    let t = s.0.body.temporaries in
+    let l = s.0.locals in
+    let light = s.0.surplus in (
+      record {
+        parameters = s.0.parameters;
+        registers = r.0.few;
+        some = c.0.1;
+        weight = omega arith;
+        words = omega arith;
+        body = body_fits f.body s.0.body c.0.0 (omega arith);
+      },
+      functions_fit fs s.1 c.1 r.1 (omega arith),
+    )
 
 kind_fits : (b : LinearBody) (k : FuncletKind) → HasFlag b k → FitsKind b k
 kind_fits b kinds.Filter h = tt

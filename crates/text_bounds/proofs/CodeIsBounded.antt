@@ -18,7 +18,7 @@ rooms = record {
   statement = statement_room;
   statements = statements_room;
   functions = functions_room;
-  each = 220;
+  each = 219;
   converted = 105;
   retyped = 35;
 }

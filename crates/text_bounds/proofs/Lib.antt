@@ -2,6 +2,7 @@ mod Lemmas
 pub mod Times
 pub mod OperatorWeights
 pub mod ExpressionWeights
+pub mod LocalCounts
 pub mod StatementWeights
 pub mod ExpressionRooms
 pub mod StatementRooms

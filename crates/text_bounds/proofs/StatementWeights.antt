@@ -1,6 +1,7 @@
--- Statements are resolved to such that weigh at most so much for each node.
+-- Statements are resolved to such that weigh at most so much for each node, and functions to such
+-- that weigh 1 more.
 use Rattle.std.proofs.Common.{◌≡◌, ℕ, ◌+◌, ◌*◌, ◌≤◌, arith}
-use Rattle.std.proofs.Math.Nat.{mul-add, mul-one}
+use Rattle.std.proofs.Math.Nat.{add-mul, mul-add, mul-one}
 use Rattle.std.specs.Prelude.{Bool, true, false, if◌then◌else◌, List, [], ◌∷◌, ◌++◌, length, map, Option, Some, None}
 use Rattle.c_operations.specs.declared.operation.Size.TheVariants as sizes
 use Rattle.text_bounds.specs.Words.{Kept, Base, CType, start, ExternalDeclaration, Globals, Statement, Statements, ForInitialiser, Declaring, Evaluating, nodes_of, is_void, size_of, TypedNode, int, Names, FaultAt, resolve_expression, file_of, empty_file, with_parameters, around, function_of, functions_of, Scope, Near, Beyond, past_finally, with_number, Environment, Numbering, names_at, filter_names, inside, any, condition, to_type, to_answer, Value, Optional, declare, declare_all, only, returned, always, ResolvedFilter, resolve_filter, names_only, resolve_for_initialiser, resolve_statement, resolve_statements, Weights, optional, NodesAdd, StatementsAdd, nodes_of_optional, nodes_of_locals, nodes_of_for_initialiser, nodes_of_statement, nodes_of_statements, nodes_of_globals, nothing}
@@ -18,6 +19,7 @@ use Rattle.text_bounds.specs.WeightLaws.{WeightIsBounded}
 use Rattle.text_bounds.proofs.Times.{times_1, times_2, times_3, times_4, once}
 use Rattle.text_bounds.proofs.OperatorWeights.{LightIf, typed_weight, kept_weight}
 use Rattle.text_bounds.proofs.ExpressionWeights.{resolved_light}
+use Rattle.text_bounds.proofs.LocalCounts.{few_locals}
 
 -- ---- nodes
 
@@ -349,26 +351,28 @@ mutual
 
 function_light : (w : Weights) → StatementsAdd w
     → (f : checked_program.Function) (fs : List checked_program.Function) (k m n : ℕ)
-    → w.statements f.body ≤ w.each * m → w.functions fs ≤ w.each * n
-    → w.functions (f ∷ fs) ≤ w.each * ((1 + (k + m)) + n)
-function_light w adds f fs k m n h i =
+    → length f.locals ≤ m → w.statements f.body ≤ w.each * m → w.functions fs ≤ (w.each + 1) * n
+    → w.functions (f ∷ fs) ≤ (w.each + 1) * ((1 + (k + m)) + n)
+function_light w adds f fs k m n few h i =
     let l = adds.several_functions f fs in
-    let e = mul-add w.each (1 + (k + m)) n in
+    let own = 1 + (k + m) in
+    let e = mul-add (w.each + 1) own n in
+    let a = add-mul w.each 1 own in
     let t = times_2 w.each k m in
     omega arith
 
 functions_light : (w : Weights) → NodesAdd w → StatementsAdd w
     → (text : List ℕ) (file : Scope) (xs : List ExternalDeclaration) (number : ℕ)
-    → w.functions (functions_of text file xs number).done ≤ w.each * nodes_of xs
+    → w.functions (functions_of text file xs number).done ≤ (w.each + 1) * nodes_of xs
 functions_light w on_nodes adds text file [] number = let h = adds.no_function in omega arith
 functions_light w on_nodes adds text file (Globals base gs ∷ xs) number =
     let i = functions_light w on_nodes adds text file xs number in
-    let e = mul-add w.each (nodes_of_globals gs) (nodes_of xs) in
+    let e = mul-add (w.each + 1) (nodes_of_globals gs) (nodes_of xs) in
     omega arith
 functions_light w on_nodes adds text file (Function t n ps body ∷ xs) number =
     function_light w adds _ (functions_of text file xs
     (function_of text file t n ps body number).number).done (length ps) (nodes_of_statements body)
-    (nodes_of xs)
+    (nodes_of xs) (few_locals ps body (around text file t) (with_parameters text ps [] 0) number)
     (statements_light w on_nodes adds body (around text file t) (with_parameters text ps [] 0)
     (record { sizes = map (λ p. size_of p.of) ps; number = number }))
     (functions_light w on_nodes adds text file xs (function_of text file t n ps body number).number)

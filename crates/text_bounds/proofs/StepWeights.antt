@@ -1,4 +1,5 @@
--- The program of a text begins at most three steps for each node without a turn.
+-- The program of a text begins at most four steps for each node without a turn: three of its own,
+-- and one for each of its functions' locals.
 use Rattle.std.proofs.Common.{◌≡◌, ℕ, ◌*◌, ◌≤◌, refl, arith}
 use Rattle.std.specs.Prelude.{List, Option, Some, None}
 use Rattle.text_bounds.specs.Words.{Expression, ExternalDeclaration, nodes_of, resolve, Weights, optional, NodesAdd, StatementsAdd, weight_of}
@@ -84,5 +85,5 @@ statements_add = record {
 }
 
 pub resolved_weight : (text : List ℕ) (xs : List ExternalDeclaration)
-    → weight_of (resolve text xs).program.functions ≤ 3 * nodes_of xs
+    → weight_of (resolve text xs).program.functions ≤ 4 * nodes_of xs
 resolved_weight = weight_is_bounded weights nodes_add statements_add

@@ -14,7 +14,8 @@ ResolvedIsShallow =
     (text : List ℕ) (xs : List ExternalDeclaration) → Within text xs
     → AreShallow (resolve text xs).program.functions
 
--- no frame has more than 1,000 words, and one without locals no more than 460
+-- no frame has more than 1,000 words, with 1,024 more for each 1 that its function weighs above 1,
+-- and one without locals no more than 460
 abbrev pub AcceptedIsSmall : Type 0
 AcceptedIsSmall =
     (text : List ℕ) (xs : List ExternalDeclaration) → Within text xs → Accepted text xs

@@ -5,7 +5,7 @@ use Rattle.c_checked.specs.declared.expression.Conversion.TheVariants.{Kept, Ext
 use Rattle.c_checked.specs.Expression as nodes
 use Rattle.c_checked.specs.Expression.{Expression, On, Node, Lvalue, Local, Global, Indirection, Element, Arguments, Done, Next}
 use Rattle.c_checked.specs.Statement.{Declared, Filter, Always, Funclet, Statement, Declare, Block, Evaluate, If, IfElse, For, DoWhile, Return, Break, Continue, Leave, TryExcept, TryFinally, Statements, Empty, Then}
-use Rattle.c_checked.specs.Program.{Function}
+use Rattle.c_checked.specs.Program.{Function, weight}
 
 -- an operation on temporaries takes 35 bytes at most, and one on two or three locals 51 or 59
 
@@ -137,7 +137,7 @@ abbrev mutual
 
 -- ---- functions
 
--- each begins with a separator, and returns 0 at its end
+-- each begins with as many separators as it weighs, and returns 0 at its end
 abbrev pub functions_room : List Function → ℕ
 functions_room [] = 0
-functions_room (f ∷ fs) = statements_room f.body + 88 + functions_room fs
+functions_room (f ∷ fs) = statements_room f.body + (87 + weight f) + functions_room fs

@@ -1,5 +1,5 @@
 -- A weight for each part of a checked program, and how much each node adds to what its parts weigh.
-use Rattle.std.specs.Prelude.{ℕ, ◌+◌, ◌≡◌, ◌≤◌, List, [], ◌∷◌, Option, None, Some}
+use Rattle.std.specs.Prelude.{ℕ, ◌+◌, ◌≡◌, ◌≤◌, List, [], ◌∷◌, length, Option, None, Some}
 use Rattle.c_operations.specs.declared.built_in.BuiltIn.{BuiltIn}
 use Rattle.c_operations.specs.declared.field.Field.{Field}
 use Rattle.c_operations.specs.declared.operation.Operation.{Operation}
@@ -119,5 +119,7 @@ pub record StatementsAdd (w : Weights) : Type 0 where
   pub several_declared : (d : Declared) (ds : List Declared)
       → w.declared (d ∷ ds) ≡ w.statement (Declare d) + w.declared ds
   pub no_function : w.functions [] ≡ 0
+  -- a function adds at most 1 for each of its locals
   pub several_functions : (f : Function) (fs : List Function)
-      → w.functions (f ∷ fs) ≤ w.each + (w.statements f.body + w.functions fs)
+      → w.functions (f ∷ fs)
+      ≤ w.each + (length f.locals + (w.statements f.body + w.functions fs))

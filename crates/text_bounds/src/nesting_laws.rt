@@ -9,7 +9,8 @@ pub fn resolved_is_shallow()
 {}
 
 /// No body of an accepted text's program uses more than 1,000 words of 8 bytes, 460 of them beside
-/// the locals, and each slot, function and funclet that its linear code names is there.
+/// the locals, and 1,024 more for each 1 that its function weighs above 1; and each slot, function
+/// and funclet that its linear code names is there.
 pub fn accepted_is_small()
     ensures small { AcceptedIsSmall }
 {}

@@ -29,14 +29,18 @@ use x64_instr::register::Reg;
 pub const THUNK_SIZE: u32 = 6;
 
 /// How many bytes `__chkstk` has.
-pub const CHECK_STACK_SIZE: u32 = 21;
+pub const CHECK_STACK_SIZE: u32 = 41;
 
 /// `__chkstk` (Microsoft x64 ABI, "Prolog and epilog"), which every program has once: it touches
-/// the two pages that a frame of at most 8,192 bytes can reach into, whose size is in RAX.
+/// each page of a frame, from the top down. The frame's size is in RAX and is a page at least.
 pub const CHECK_STACK: [u8; CHECK_STACK_SIZE as usize] = [
-    0x40, 0x84, 0x84, 0x24, 0x08, 0xF0, 0xFF, 0xFF, // test [rsp-4088],al
     0x4C, 0x8D, 0x5C, 0x24, 0x08, // lea r11,[rsp+8]
     0x49, 0x29, 0xC3, // sub r11,rax
+    0x4C, 0x8D, 0x94, 0x24, 0x08, 0xF0, 0xFF, 0xFF, // lea r10,[rsp-4088]
+    0x41, 0x84, 0x42, 0x00, // test [r10],al
+    0x4D, 0x8D, 0x92, 0x00, 0xF0, 0xFF, 0xFF, // lea r10,[r10-4096]
+    0x4D, 0x39, 0xDA, // cmp r10,r11
+    0x0F, 0x8D, 0xEC, 0xFF, 0xFF, 0xFF, // jge, 20 bytes back
     0x41, 0x84, 0x43, 0x00, // test [r11],al
     0xC3, // ret
 ];
@@ -58,8 +62,7 @@ pub fn put_thunk(code: &mut Vec<u8>, at: u64, slot: u64) -> Result<(), AllocErro
     )
 }
 
-/// Adds `__chkstk`, which touches each page of a frame of at most 8,192 bytes, whose size is in
-/// RAX.
+/// Adds `__chkstk`, which touches each page of a frame, whose size is in RAX.
 pub fn put_check_stack(code: &mut Vec<u8>) -> Result<(), AllocError>
     ensures { OnOk result (code.new.items ≡ code.old.items ++ spelled check_stack) }
 {

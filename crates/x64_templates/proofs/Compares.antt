@@ -10,7 +10,7 @@ use Rattle.c_operations.specs.declared.operation.Relation.TheVariants as relatio
 
 -- ---- what conditions say after a comparison
 
-abbrev flags_after : Width → ℕ → ℕ → Flags
+abbrev pub flags_after : Width → ℕ → ℕ → Flags
 flags_after w x y = (subtracted w (low w x) (low w y)).1
 
 equal_holds : (w : Width) (x y : ℕ) → holds (flags_after w x y) conditions.Equal ≡ are_equal w x y
@@ -26,7 +26,7 @@ less_holds Signed w x y =
     ∙ ap (λ (z : ℤ). int_lt z (signed w (low w y))) (signed_twice w x)
     ∙ ap (λ (z : ℤ). int_lt (signed w x) z) (signed_twice w y)
 
-not_less_holds : (s : Signedness) (w : Width) (x y : ℕ)
+pub not_less_holds : (s : Signedness) (w : Width) (x y : ℕ)
     → holds (flags_after w x y) (not_less s) ≡ not (is_less s w x y)
 unfolding subtracted
 not_less_holds Unsigned w x y = refl

@@ -1,7 +1,8 @@
 -- Jumps come to their labels.
 use Rattle.x64_templates.proofs.Lemmas.{arrives, short, jump_if_size, sizes_append}
 use Rattle.std.proofs.Common.{◌≡◌, ℕ, ◌+◌, ◌-◌, ◌%◌, ◌^◌, ◌<◌, Bool, true, false, cond, eqb, [], ◌∷◌, ◌++◌, length, Ok, refl, sym, ap, subst, ◌∙◌, arith, length-append}
-use Rattle.x64_templates.specs.Words.{W64, low, Memory, Rax, Relative, Instr, chosen, is_encodable, Flags, subtracted, State, effect, Slot, BodyState, takes_frame, MachineView, machine, size, sizes, fetch, distance, jump_equal, jump_code, compare_zero, test_code, jump_if_zero_code, separator_code, IsNear, IsBytes, Reaches, HasCode, FramePlace, Roomy, FrameHolds, AreArrived, IsThere, ReachesBody, jump, local_in}
+use Rattle.x64_templates.specs.Words.{W64, low, Memory, Rax, Relative, Instr, chosen, is_encodable, Flags, subtracted, holds, State, effect, Slot, BodyState, takes_frame, MachineView, machine, size, sizes, fetch, distance, jump_equal, jump_code, compare_zero, test_code, jump_if_zero_code, separator_code, IsNear, IsBytes, Reaches, HasCode, FramePlace, Roomy, FrameHolds, AreArrived, IsThere, ReachesBody, jump, local_in}
+use Rattle.x64_instr.specs.declared.instruction.Condition.{Condition}
 use Rattle.x64_instr.specs.declared.instruction.Condition.TheVariants as conditions
 use Rattle.x64_instr.specs.declared.instruction.Instr.TheVariants as instrs
 use Rattle.x64_templates.proofs.PlacedCode.{bytes_split, reaches_then}
@@ -85,17 +86,17 @@ test_comes : (v : MachineView) (rip : ℕ) (f : Flags) → HasCode v.memory rip 
 test_comes v rip f code = one_reaches compare_zero v v rip (rip + size compare_zero) f
     (zero_flags v) refl refl code refl
 
--- by the flag, to the label or on
-branch_effect : (v : MachineView) (next d : ℕ) (f : Flags) (z : Bool) → f.zero ≡ z
-    → effect (machine v next f) (instrs.JumpIf conditions.Equal d)
+-- by the condition, to the label or on
+pub branch_effect : (v : MachineView) (next d : ℕ) (f : Flags) (c : Condition) (z : Bool)
+    → holds f c ≡ z → effect (machine v next f) (instrs.JumpIf c d)
     ≡ Ok (machine v (cond z ((next + d) % 2 ^ 64) next) f)
-branch_effect v next d f true e = ap (λ (t : Bool).
+branch_effect v next d f c true e = ap (λ (t : Bool).
     let u : State = record {
       cpu = cond t (machine v ((next + d) % 2 ^ 64) f).cpu
           (machine v next f).cpu;
       memory = v.memory;
     } in Ok u) e
-branch_effect v next d f false e = ap (λ (t : Bool).
+branch_effect v next d f c false e = ap (λ (t : Bool).
     let u : State = record {
       cpu = cond t (machine v ((next + d) % 2 ^ 64) f).cpu
           (machine v next f).cpu;
@@ -110,7 +111,7 @@ branch_comes v rip to f z e near code =
     let d = distance (rip + 6) to in
     let next : rip + size i ≡ rip + 6 = ap (λ (n : ℕ). rip + n) (jump_if_size d) in
     one_reaches i v v rip (cond z to (rip + 6)) f f (short (rip + 6) to near) refl code
-    (branch_effect v (rip + size i) d f z e
+    (branch_effect v (rip + size i) d f conditions.Equal z e
     ∙ ap (λ (n : ℕ). Ok (machine v (cond z ((n + d) % 2 ^ 64) n) f)) next
     ∙ ap (λ (n : ℕ). Ok (machine v (cond z n (rip + 6)) f)) (arrives (rip + 6) to near))
 

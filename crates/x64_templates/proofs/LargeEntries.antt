@@ -1,5 +1,5 @@
 -- A large frame is entered.
-use Rattle.std.proofs.Common.{◌≡◌, ℕ, ◌+◌, ◌-◌, ◌^◌, ◌<◌, ◌≤◌, true, false, ltb, List, [], ◌∷◌, Ok, refl, sym, ap, subst, ◌∙◌, arith, inl, inr}
+use Rattle.std.proofs.Common.{◌≡◌, ℕ, ◌+◌, ◌-◌, ◌*◌, ◌/◌, ◌^◌, ◌<◌, ◌≤◌, true, false, ltb, List, [], ◌∷◌, Ok, refl, sym, ap, subst, ◌∙◌, arith, inl, inr}
 use Rattle.std.specs.Prelude.{◌⊎◌}
 use Rattle.std.proofs.lemmas.Bool.{cases_lt, lt-ltb}
 use Rattle.x64_templates.specs.Words.{W32, W64, low, may_write, Rax, Rsp, Instr, Flags, subtracted, effect, spelled, MachineView, machine, size, sizes, call, IsNear, sp_of, pushed, HasBelow, moved, check_stack, Reaches, HasCode, opcode_register, distance}
@@ -15,7 +15,7 @@ use Rattle.x64_templates.proofs.Jumps.{one_reaches}
 use Rattle.x64_templates.proofs.Lemmas.{call_size}
 use Rattle.x64_templates.proofs.Calls.{call_reaches}
 use Rattle.x64_templates.proofs.Entries.{beside, pushed_back}
-use Rattle.x64_templates.proofs.Probing.{Touchable, with_eleventh, check_run}
+use Rattle.x64_templates.proofs.Probing.{Touchable, with_probes, check_run}
 
 -- ---- code stays while a return address is put on the stack
 
@@ -44,15 +44,16 @@ move_size : (n : ℕ) → size (instrs.Move W32 (places.Register Rax) (operands.
 unfolding size opcode_register
 move_size n = refl
 
--- RSP has fallen by the frame, RAX and R11 hold something else, and below the old RSP a return
+-- RSP has fallen by the frame, RAX, R10 and R11 hold something else, and below the old RSP a return
 -- address was written
 pub record EnteredLarge (v : MachineView) (sp frame rip check : ℕ) (f : Flags) : Type 0 where
   pub flags : Flags
+  pub tenth : ℕ
   pub eleventh : ℕ
-  pub comes : Reaches 8 (machine v rip f) (machine
+  pub comes : Reaches (8 + 4 * (frame / 4096)) (machine v rip f) (machine
       (record v {
         rax = frame;
-        rest = record v.rest { rsp = sp - frame; r11 = eleventh };
+        rest = record v.rest { rsp = sp - frame; r10 = tenth; r11 = eleventh };
         memory = (pushed v sp (rip + 10)).memory;
       }) (rip + sizes (allocating (distance (rip + 10) check) frame false)) flags)
 
@@ -99,25 +100,31 @@ enter_large_run v sp frame rip check f at below touch small near high leaf code 
     e3 (call_reaches v1 sp (rip + 5) check f at below (subst (λ a. IsNear a check) (sym e3) near)
     (subst (λ a. HasCode v.memory (rip + 5) (call a check ∷ [])) (sym e3) q.0)) in
     let third = check_run v2 sp frame (rip + 10) check f refl refl
-    (record { enough = e; more = mo; high = hi; first = touch.first; last = touch.last })
+    (record { enough = e; more = mo; high = hi; readable = touch.readable })
     (pushed_back v1 sp (rip + 10) below (omega arith))
     (pushed_keeps_code v1 sp (rip + 10) check check_stack below leaf) in
-    let v3 = moved (with_eleventh (with_eleventh v2 sp) (sp - frame)) sp in
+    let v3 = moved (with_probes v2 third.tenth (sp - frame)) sp in
     let g = (subtracted W64 (low W64 (sp_of v3)) (low W64 v3.rax)).1 in
     let v4 = moved v3 (sp - frame) in
-    let last = one_reaches k v3 v4 (rip + 10) (rip + 10 + size k) third.0 g refl refl
+    let last = one_reaches k v3 v4 (rip + 10) (rip + 10 + size k) third.flags g refl refl
     (pushed_keeps_code v1 sp (rip + 10) (rip + 10) (k ∷ []) below tail)
-    (lower_by_rax v3 frame sp (rip + 10 + size k) third.0 refl refl e (omega arith)) in
+    (lower_by_rax v3 frame sp (rip + 10 + size k) third.flags refl refl e (omega arith)) in
     let end : rip + 10 + size k
     ≡ rip + sizes (allocating (distance (rip + 10) check) frame false) = omega arith in
-    let all = reaches_then 1 7 (machine v rip f) (machine v1 (rip + 5) f)
+    let pages = 5 + 4 * (frame / 4096) in
+    let turns : 1 + (1 + (pages + 1)) ≡ 8 + 4 * (frame / 4096) = omega arith in
+    let all = reaches_then 1 (1 + (pages + 1)) (machine v rip f) (machine v1 (rip + 5) f)
     (machine v4 (rip + 10 + size k) g) first
-    (reaches_then 1 6 (machine v1 (rip + 5) f) (machine v2 check f)
+    (reaches_then 1 (pages + 1) (machine v1 (rip + 5) f) (machine v2 check f)
     (machine v4 (rip + 10 + size k) g) second
-    (reaches_then 5 1 (machine v2 check f) (machine v3 (rip + 10) third.0)
-    (machine v4 (rip + 10 + size k) g) third.1 last)) in
+    (reaches_then pages 1 (machine v2 check f) (machine v3 (rip + 10) third.flags)
+    (machine v4 (rip + 10 + size k) g) third.comes last)) in
     record {
       flags = g;
+      tenth = third.tenth;
       eleventh = sp - frame;
-      comes = subst (λ a. Reaches 8 (machine v rip f) (machine v4 a g)) end all;
+      comes = subst (λ n. Reaches n (machine v rip f)
+          (machine v4 (rip + sizes (allocating (distance (rip + 10) check) frame false)) g)) turns
+          (subst (λ a. Reaches (1 + (1 + (pages + 1))) (machine v rip f) (machine v4 a g)) end
+          all);
     }

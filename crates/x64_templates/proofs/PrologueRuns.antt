@@ -1,5 +1,5 @@
 -- A plan's prologue is run, one code after another.
-use Rattle.std.proofs.Common.{◌≡◌, ◌≢◌, ℕ, ◌+◌, ◌-◌, ◌%◌, ◌^◌, ◌<◌, ◌≤◌, Bool, true, false, not, ◌&&◌, leb, List, [], ◌∷◌, set, Ok, refl, sym, ap, subst, ◌∙◌, arith, inr}
+use Rattle.std.proofs.Common.{◌≡◌, ◌≢◌, ℕ, ◌+◌, ◌-◌, ◌*◌, ◌/◌, ◌%◌, ◌^◌, ◌<◌, ◌≤◌, Bool, true, false, not, ◌&&◌, leb, List, [], ◌∷◌, set, Ok, refl, sym, ap, subst, ◌∙◌, arith, inr}
 use Rattle.std.specs.Prelude.{nat_le, if◌then◌else◌}
 use Rattle.std.specs.List.{flat_map}
 use Rattle.std.proofs.lemmas.Bool.{false≢true, and_parts, eq-eqb, leb-true, leb-false, not-true}
@@ -63,7 +63,8 @@ module _ (p : FramePlan) (is_plan : IsPlan p) (check : ℕ) (e : State)
     record Here (done : List UnwindOperation) (at : ℕ) (s : State) : Type 0 where
       running : Running f offset e back done s
       rip : s.cpu.rip ≡ begin + at
-      kept : (r : ℕ) → is_nonvolatile r ≡ false → r ≢ 0 → r ≢ 11 → registers s r ≡ registers e r
+      kept : (r : ℕ) → is_nonvolatile r ≡ false → r ≢ 0 → r ≢ 10 → r ≢ 11
+          → registers s r ≡ registers e r
       within : Within (top - n) top e.memory s.memory
       same : none_stores done ≡ true → s.memory ≡ e.memory
 
@@ -261,7 +262,7 @@ module _ (p : FramePlan) (is_plan : IsPlan p) (check : ℕ) (e : State)
           here = record {
             running = run;
             rip = d.rip ∙ to;
-            kept = λ r vol zero' eleven. d.kept r vol ∙ h.kept r vol zero' eleven;
+            kept = λ r vol zero' ten eleven. d.kept r vol ∙ h.kept r vol zero' ten eleven;
             within = within_then (top - n) top e.memory s.memory d.to.memory h.within d.within;
             same = λ none. (let both = and_parts (not (code_stores x)) (none_stores done) none in
                 d.same (not-true (code_stores x) both.0) ∙ h.same both.1);
@@ -276,7 +277,7 @@ module _ (p : FramePlan) (is_plan : IsPlan p) (check : ℕ) (e : State)
       x = Allocate k
 
       by_view : (v : MachineView) (rip : ℕ) (flags : Flags) → Here done at (machine v rip flags)
-          → Goes 8 (at + long x) (x ∷ done) (machine v rip flags)
+          → Goes (8 + 4 * (k / 4096)) (at + long x) (x ∷ done) (machine v rip flags)
       by_view v rip flags h =
           let s = machine v rip flags in
           let g = good_before f n (x ∷ done) xs l.good in
@@ -311,43 +312,42 @@ module _ (p : FramePlan) (is_plan : IsPlan p) (check : ℕ) (e : State)
             enough = omega arith;
             more = omega arith;
             high = omega arith;
-            first = writable_readable v.memory (sp - 4096) (may (sp - 4096) (omega arith)
-                (omega arith));
-            last = writable_readable v.memory (sp - k) (may (sp - k) (omega arith) (omega arith));
+            readable = λ b lo hi. writable_readable v.memory b (may b (omega arith) hi);
           }) most (subst (λ b. IsNear (b + 10) check) (sym h.rip) probe.1) (omega arith)
           (within_keeps_code (top - n) top e.memory v.memory check check_stack room_writable
           h.within checks) code in
           let memory = (pushed v sp (rip + 10)).memory in
           let mid = machine (record v {
             rax = k;
-            rest = record v.rest { r11 = r.eleventh };
+            rest = record v.rest { r10 = r.tenth; r11 = r.eleventh };
             memory = memory;
           }) rip flags in
           let u = machine (record v {
             rax = k;
-            rest = record v.rest { rsp = sp - k; r11 = r.eleventh };
+            rest = record v.rest { rsp = sp - k; r10 = r.tenth; r11 = r.eleventh };
             memory = memory;
           }) (rip + sizes (allocating (distance (rip + 10) check) k false)) r.flags in
-          let mid_kept : (j : ℕ) → j ≢ 0 → j ≢ 11 → registers mid j ≡ registers s j = λ j z e'.
-          set_other (set s.cpu.registers 0 k) 11 j r.eleventh e'
-          ∙ set_other s.cpu.registers 0 j k z in
+          let mid_kept : (j : ℕ) → j ≢ 0 → j ≢ 10 → j ≢ 11 → registers mid j ≡ registers s j =
+          λ j zero' ten eleven.
+          set_other (set (set s.cpu.registers 0 k) 10 r.tenth) 11 j r.eleventh eleven
+          ∙ set_other (set s.cpu.registers 0 k) 10 j r.tenth ten
+          ∙ set_other s.cpu.registers 0 j k zero' in
           let u_kept : (j : ℕ) → j ≢ 4 → registers u j ≡ registers mid j = λ j e'.
           set_other mid.cpu.registers 4 j (sp - k) e' in
           let lower : registers u 4 ≡ sp - k = refl in
           let level : registers mid 4 ≡ sp = refl in
-          let volatile : (j : ℕ) → is_nonvolatile j ≡ true → (j ≢ 0) × (j ≢ 11) = λ j nv. (
-            λ z. false≢true (ap is_nonvolatile (sym z) ∙ nv),
-            λ z. false≢true (ap is_nonvolatile (sym z) ∙ nv),
-          ) in
+          let nonvolatile : (i j : ℕ) → is_nonvolatile i ≡ false → is_nonvolatile j ≡ true → j ≢ i =
+          λ i j vol nv z. false≢true (sym vol ∙ ap is_nonvolatile (sym z) ∙ nv) in
           let half = carried f offset back e s mid done (good_rest f n x done g).allowed h.running
           refl refl
           (moved_words v.memory memory (registers e) back sp sp done refl
           (λ b le. beside v.memory sp (rip + 10) b (omega arith) (omega arith) (inr le))
           (omega arith) h.running.holds.stack)
-          (λ j nv. mid_kept j (volatile j nv).0 (volatile j nv).1) in
+          (λ j nv. mid_kept j (nonvolatile 0 j refl nv) (nonvolatile 10 j refl nv)
+          (nonvolatile 11 j refl nv)) in
           record {
             to = u;
-            comes = reaches_enters begin end 8 s u r.comes;
+            comes = reaches_enters begin end (8 + 4 * (k / 4096)) s u r.comes;
             here = record {
               running = fallen f offset back n k e mid u done entry g.deep
                   (pushes_before k done g.ordered) half refl
@@ -360,8 +360,8 @@ module _ (p : FramePlan) (is_plan : IsPlan p) (check : ℕ) (e : State)
                 bytes_sizes (instructions_of p x),
                 ap sizes three,
               );
-              kept = λ j vol zero' eleven. u_kept j (other_kind j 4 vol refl)
-                  ∙ mid_kept j zero' eleven ∙ h.kept j vol zero' eleven;
+              kept = λ j vol zero' ten eleven. u_kept j (other_kind j 4 vol refl)
+                  ∙ mid_kept j zero' ten eleven ∙ h.kept j vol zero' ten eleven;
               within = within_then (top - n) top e.memory v.memory memory h.within
                   (within_cell v.memory (top - n) top (sp - 8) (rip + 10) (omega arith)
                   (omega arith) (omega arith));
@@ -370,10 +370,11 @@ module _ (p : FramePlan) (is_plan : IsPlan p) (check : ℕ) (e : State)
             };
           }
 
-      large_goes : (s : State) → Here done at s → Goes 8 (at + long x) (x ∷ done) s
+      large_goes : (s : State) → Here done at s
+          → Goes (8 + 4 * (k / 4096)) (at + long x) (x ∷ done) s
       large_goes s h =
           let w = seen s h.running.length in
-          subst (Goes 8 (at + long x) (x ∷ done)) (sym w.is)
+          subst (Goes (8 + 4 * (k / 4096)) (at + long x) (x ∷ done)) (sym w.is)
           (by_view w.view s.cpu.rip s.cpu.flags (subst (Here done at) w.is h))
 
     -- ---- a code, and all that are left
@@ -386,8 +387,9 @@ module _ (p : FramePlan) (is_plan : IsPlan p) (check : ℕ) (e : State)
         (pushes r _ s done (good_before f n (Push r ∷ done) xs l.good) h.running)
     code_goes (Allocate k) xs done at l s h = by (nat_le k 4096) refl
       where
-        by : (few : Bool) → nat_le k 4096 ≡ few → Goes (if few then 1 else 8)
-            (at + long (Allocate k)) (Allocate k ∷ done) s
+        by : (few : Bool) → nat_le k 4096 ≡ few
+            → Goes (if few then 1 else 8 + 4 * (k / 4096)) (at + long (Allocate k))
+            (Allocate k ∷ done) s
         by true e' = one_goes (Allocate k) xs done at
             (instrs.Arithmetic arithmetic.Sub W64 (places.Register Rsp) (operands.Immediate k))
             (ap (allocating p.probe k) e') l s h
@@ -460,7 +462,7 @@ module _ (p : FramePlan) (is_plan : IsPlan p) (check : ℕ) (e : State)
           let r = all_go (turned [] (operations_of p)) [] 0 begins e (record {
             running = first_running f offset n e entry;
             rip = (let z : begin ≡ begin + 0 = omega arith in z);
-            kept = λ j a b c. refl;
+            kept = λ j a b c d. refl;
             within = within_same (top - n) top e.memory;
             same = λ none. refl;
           }) in

@@ -1,5 +1,5 @@
 -- The prologue of a plan is run, and its frame is there.
-use Rattle.std.specs.Prelude.{◌≡◌, ◌≢◌, ◌⊎◌, ℕ, ◌+◌, ◌-◌, ◌<◌, ◌≤◌, Bool, true, false, not, ◌&&◌, nat_le, if◌then◌else◌, List, [], ◌∷◌, length}
+use Rattle.std.specs.Prelude.{◌≡◌, ◌≢◌, ◌⊎◌, ℕ, ◌+◌, ◌-◌, ◌*◌, ◌/◌, ◌<◌, ◌≤◌, Bool, true, false, not, ◌&&◌, nat_le, if◌then◌else◌, List, [], ◌∷◌, length}
 use Rattle.host_layout.specs.declared.range.TheConstants.{PAGE}
 use Rattle.flat_memory.specs.Memory.{Memory}
 use Rattle.x64_machine.specs.Effect.{State}
@@ -24,9 +24,10 @@ pub record Within (lo hi : ℕ) (old new : Memory) : Type 0 where
 
 -- ---- turns
 
--- so many instructions are a code's, those of `__chkstk` among them, and those of all
+-- so many instructions are a code's, those of `__chkstk` among them, and those of all: it has four
+-- for each page
 abbrev pub code_turns : UnwindOperation → ℕ
-code_turns (Allocate n) = if nat_le n PAGE then 1 else 8
+code_turns (Allocate n) = if nat_le n PAGE then 1 else 8 + 4 * (n / PAGE)
 code_turns x = 1
 
 abbrev pub codes_turns : List UnwindOperation → ℕ
@@ -66,7 +67,7 @@ AreProbed p check at (x ∷ xs) =
 -- ---- the frame
 
 -- e: at the first byte. In memory the frame alone has changed, nothing where no code stores, and of
--- the volatile registers RAX and R11, which `__chkstk` takes
+-- the volatile registers RAX, R10 and R11, which `__chkstk` takes
 pub record MakesFrame (p : FramePlan) (e : State) : Type 0 where
   pub following : State
   pub comes : Enters e.cpu.rip (e.cpu.rip + sizes (prologue_code p)) (prologue_turns p) e following
@@ -74,7 +75,7 @@ pub record MakesFrame (p : FramePlan) (e : State) : Type 0 where
   pub count : length following.cpu.registers ≡ 16
   pub holds : HoldsFrame p.frame p.distance following.memory (registers e) (return_address e)
       (registers following) (operations_of p) (operations_of p)
-  pub volatile : (r : ℕ) → is_nonvolatile r ≡ false → r ≢ 0 → r ≢ 11
+  pub volatile : (r : ℕ) → is_nonvolatile r ≡ false → r ≢ 0 → r ≢ 10 → r ≢ 11
       → registers following r ≡ registers e r
   pub within : Within (registers e 4 - depth (operations_of p)) (registers e 4) e.memory
       following.memory

@@ -57,7 +57,7 @@ pub use Rattle.template_code.specs.Calls.{return_at, begin_call, parameter_regis
 pub use Rattle.template_code.specs.Jumps.{distance, call, IsNear, compare_zero, jump_equal, test_code, jump_code, jump_if_zero_code, separator_code, jump}
 pub use Rattle.template_code.specs.Operands.{has_first, has_second}
 pub use Rattle.template_code.specs.Operations.{above, move, compare, before, work, high_half, extended, pure_code, compared, less, not_less, division}
-pub use Rattle.template_code.specs.Probing.{check_stack, first_touch}
+pub use Rattle.template_code.specs.Probing.{check_stack, first_touch, loop_back, page_down, touched_range, touching}
 pub use Rattle.template_code.specs.Slots.{fetched, put_back, temporary_at, local_at, keep_local, keep, fetch_local, fetch, fetch_if, operands_code, finish_code, compute_code, fetch_placed, keep_placed}
 pub use Rattle.template_code.specs.Template.{Links, template, offset_of, code_from, nowhere, body_size, HasLabels}
 unfoldable pub use Rattle.template_code.specs.Template.{template_size}

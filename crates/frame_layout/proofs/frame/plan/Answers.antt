@@ -1,5 +1,5 @@
-use Rattle.std.proofs.Common.{◌+◌, ◌≤◌, sym, subst}
-use Rattle.template_code.specs.declared.layout.TheConstants.{LARGEST_FRAME}
+use Rattle.std.proofs.Common.{◌+◌, ◌*◌, ◌≤◌, sym, subst}
+use Rattle.template_code.specs.declared.layout.TheConstants.{FRAME_BY_WEIGHT}
 use Rattle.frame_layout.specs.Layout.{IsFrame, IsLaidOut, IsFramedBySize}
 use Rattle.frame_layout.specs.declared.frame.FrameLayout.{FrameLayout}
 use Rattle.frame_layout.proofs.Frames.{parts, laid_out, framed_by_size, small, size_is}
@@ -18,7 +18,8 @@ pub returns-clause-parts : goal.returns-clause-parts
 returns-clause-parts c = subst IsFrame (sym c.laid_out.ensures) (parts c.args.facts.now c.requires)
 
 pub returns-clause-small : goal.returns-clause-small
-returns-clause-small c = subst (λ (f : FrameLayout). f.depth + 8 ≤ LARGEST_FRAME)
+returns-clause-small c = subst
+    (λ (f : FrameLayout). f.depth + 8 ≤ FRAME_BY_WEIGHT * c.args.facts.now.weight)
     (sym c.laid_out.ensures) (small c.args.facts.now c.requires)
 
 pub returns-clause-size : goal.returns-clause-size

@@ -1,4 +1,4 @@
-use Rattle.image_tables.proofs.Shape.{frames_are_small}
+use Rattle.image_tables.proofs.FrameSizes.{frames_are_small}
 use Rattle.image_tables.proofs.shape_laws.sizes.Goals as goal
 
 pub returns : goal.returns
