@@ -85,7 +85,7 @@ check --each | foreign @ file+426 5F 5B @ file+613 08 | 16 yes 0 00002000 / no 1
 check --each | framed | 16 no 0 00002005 Unsaved / yes 0 of 1
 check --each | framed @ file+317 31 C0 | 0 yes 0 00002000 / yes 1 of 1
 check --each | fourteen | 0 yes 0 of 0
-check --each | compiled int main(void){} | 0 yes 0 00002033 / yes 1 of 1
+check --each | compiled int main(void){} | 0 yes 0 00002047 / yes 1 of 1
 check --each | bytes 64*00 | 3 ! image NotPe 0
 check --each | tables @ file+308 00 | 3 ! table Unsorted 1
 ";

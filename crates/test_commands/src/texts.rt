@@ -3,7 +3,7 @@
 use crate::calls::{Shown, answer, compiled, words_of};
 use crate::ways::{COMPILED, MEANING, TEXT, WAYS, all_show};
 use std::process::Abort;
-use test_texts::{binary, depths, examples, handlers, refused, texts, unary, walks};
+use test_texts::{binary, depths, examples, handlers, many_locals, refused, texts, unary, walks};
 
 /// Expressions, calls and loops show what they mean, and a recursion returns as often as it called.
 #[test]
@@ -82,6 +82,17 @@ fn within(rt: HostRuntime) {
 #[test]
 fn deeper(rt: HostRuntime) {
     all_show(&rt, rt.alloc(), &MEANING, &TEXT, depths::DEEPER);
+}
+
+/// Functions of many locals weigh more in the depth, take more steps, and have large frames.
+#[test]
+fn many_locals(rt: HostRuntime) {
+    all_show(&rt, rt.alloc(), &WAYS, &TEXT, many_locals::WITHIN);
+    all_show(&rt, rt.alloc(), &MEANING, &TEXT, many_locals::DEEPER);
+    all_show(&rt, rt.alloc(), &MEANING, &TEXT, many_locals::STEPS);
+    all_show(&rt, rt.alloc(), &WAYS, &TEXT, many_locals::FRAMES);
+    let largest = [many_locals::LARGEST];
+    all_show(&rt, rt.alloc(), &WAYS, &largest, many_locals::LARGEST_SHOWN);
 }
 
 /// Each program shows what is beside it.

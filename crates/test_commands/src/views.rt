@@ -2,12 +2,14 @@
 
 use crate::calls::{answer, compiled, words_of};
 use crate::inputs::all_answer;
+use crate::ways::filled;
 use std::alloc::Global;
 use std::process::Abort;
+use test_texts::many_locals;
 
 /// The infos of the first rows are of a prologue that pushes RBX and takes 32 bytes of stack; of
 /// one whose allocation has no room for its operand; and one of version 2. In the last row `main`
-/// has 40 bytes, after five thunks of 6 and the 21 of `__chkstk`. Its prologue is `sub rsp, 40`, of
+/// has 40 bytes, after five thunks of 6 and the 41 of `__chkstk`. Its prologue is `sub rsp, 40`, of
 /// 4 bytes: home space and a temporary (UWOP_ALLOC_SMALL with 40 / 8 - 1). A `nop` of one byte is
 /// after it.
 const VIEWS: &str = r"
@@ -16,7 +18,7 @@ show | tables @ optional+140 00 @ file+272 01 05 02 00 05 32 01 30 01 07 01 00 0
 show | fourteen | 0 entries 0
 show | bytes 64*00 | 3 ! image NotPe 0
 show | bytes | 3 ! image Truncated 0
-show | compiled int main(void){} | 0 entry 0 00002033 00002051 00004000 /  bytes 0104010004420000 /  info prolog 4 flags 0 frame - 0 /  code 4 alloc 40 / entries 1
+show | compiled int main(void){} | 0 entry 0 00002047 00002065 00004000 /  bytes 0104010004420000 /  info prolog 4 flags 0 frame - 0 /  code 4 alloc 40 / entries 1
 ";
 
 /// How many bytes a compiled image has: the headers, and a block of 512 for each section but
@@ -64,15 +66,15 @@ fn scope_records(rt: HostRuntime) {
 }
 
 /// Where a `__try` is the first statement, its range begins after the `nop`, one byte past the end
-/// of the prologue, whose 4 bytes are from 2033 to 2036.
+/// of the prologue, whose 4 bytes are from 2047 to 204A.
 #[test]
 fn ranges_begin_past_the_prologue(rt: HostRuntime) {
     let text = "int main(void){ __try{ *(int*)0 = 1; } __except(1){ put(1); } return 0; }";
     let view = view_of(&rt, rt.alloc(), text);
     let shown = str::from_utf8(&view).unwrap_or("");
-    assert!(rt; shown.starts_with("entry 0 00002033 "), "{shown}");
+    assert!(rt; shown.starts_with("entry 0 00002047 "), "{shown}");
     assert!(rt; shown.contains("\n info prolog 4 "), "{shown}");
-    assert!(rt; shown.contains("\n scope 0 00002038 "), "{shown}");
+    assert!(rt; shown.contains("\n scope 0 0000204C "), "{shown}");
 }
 
 /// Whether just two lines of a view end with the push of RBX.
@@ -90,6 +92,19 @@ fn pushes_in_the_view(rt: HostRuntime) {
     let shown = str::from_utf8(&view).unwrap_or("");
     assert!(rt; pushes_twice(shown), "{shown}");
     assert!(rt; shown.ends_with("\nentries 2\n"), "{shown}");
+}
+
+/// The largest frame: home space of 4 words, 4 temporaries, a parameter and 65,536 locals, and four
+/// registers saved by MOV. These are 65,549 words, above what UWOP_ALLOC_LARGE takes in units, and
+/// the registers are from 8 * 65,545 on, above what UWOP_SAVE_NONVOL takes.
+#[test]
+fn largest_frame(rt: HostRuntime) {
+    let text = filled(&rt, rt.alloc(), &[many_locals::LARGEST], "");
+    let view = view_of(&rt, rt.alloc(), &text);
+    let shown = str::from_utf8(&view).unwrap_or("");
+    assert!(rt; shown.contains(" alloc 524392\n"), "{shown}");
+    assert!(rt; shown.contains(" save r12 524360\n"), "{shown}");
+    assert!(rt; shown.contains(" save r15 524384\n"), "{shown}");
 }
 
 /// A leaf function has no entry in the function table: `main` alone has one.

@@ -54,37 +54,69 @@ fn shows(rt: &impl Abort, alloc: Global, way: &str, row: Row<'_>, traced: bool) 
     }
 }
 
-/// What stands for a place between two `$`: a column of what fills a program, by its number, or
-/// all; or a piece, so many times.
-fn filling<'a>(place: &'a str, fill: &'a str) -> (usize, &'a str) {
-    if let Some((times, piece)) = place.split_once('*') {
-        return (times.parse().unwrap_or(0), piece);
-    }
-    match place.parse() {
-        Ok(number) => (1, fill.split(" | ").nth(number).unwrap_or("")),
-        Err(_) => (1, fill),
+/// A piece, so many times; each with its number after it, from 0, or without.
+#[derive(Clone, Copy)]
+struct Pieces<'a> {
+    times: usize,
+    piece: &'a str,
+    are_numbered: bool,
+}
+
+/// A piece that stands for itself.
+fn once(piece: &str) -> Pieces<'_> {
+    Pieces {
+        times: 1,
+        piece,
+        are_numbered: false,
     }
 }
 
-/// Adds a program with its places filled.
-fn push_filled(rt: &impl Abort, out: &mut String, program: &str, fill: &str) {
-    for (number, piece) in program.split('$').enumerate() {
-        let (times, text) = if number % 2 == 0 {
-            (1, piece)
-        } else {
-            filling(piece, fill)
-        };
-        for _ in 0..times {
-            out.push_str(text).expect(rt, "memory");
+/// What stands for a place between two `$`: a column of what fills a program, by its number, or
+/// all; or `TIMES*PIECE`, or `TIMES#PIECE` with numbers.
+fn filling<'a>(place: &'a str, fill: &'a str) -> Pieces<'a> {
+    for (mark, are_numbered) in [('*', false), ('#', true)] {
+        if let Some((times, piece)) = place.split_once(mark) {
+            return Pieces {
+                times: times.parse().unwrap_or(0),
+                piece,
+                are_numbered,
+            };
+        }
+    }
+    match place.parse() {
+        Ok(number) => once(fill.split(" | ").nth(number).unwrap_or("")),
+        Err(_) => once(fill),
+    }
+}
+
+/// Adds pieces.
+fn push_pieces(rt: &impl Abort, alloc: Global, out: &mut String, pieces: Pieces<'_>) {
+    for number in 0..pieces.times {
+        out.push_str(pieces.piece).expect(rt, "memory");
+        if pieces.are_numbered {
+            let number = format!(in alloc; "{number}").expect(rt, "memory");
+            out.push_str(&number).expect(rt, "memory");
         }
     }
 }
 
+/// Adds a program with its places filled.
+fn push_filled(rt: &impl Abort, alloc: Global, out: &mut String, program: &str, fill: &str) {
+    for (number, piece) in program.split('$').enumerate() {
+        let pieces = if number % 2 == 0 {
+            once(piece)
+        } else {
+            filling(piece, fill)
+        };
+        push_pieces(rt, alloc, out, pieces);
+    }
+}
+
 /// The program of these parts, with its places filled.
-fn filled(rt: &impl Abort, alloc: Global, parts: &[&str], fill: &str) -> String {
+pub fn filled(rt: &impl Abort, alloc: Global, parts: &[&str], fill: &str) -> String {
     let mut text = String::new(alloc);
     for part in parts {
-        push_filled(rt, &mut text, part, fill);
+        push_filled(rt, alloc, &mut text, part, fill);
     }
     text
 }

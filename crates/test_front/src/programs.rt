@@ -109,7 +109,7 @@ char a[1048576]; char b[1]; => TooMany { at: 24, what: Globals }
 long long a[18446744073709551615]; => TooMany { at: 12, what: Globals }
 ";
 
-/// 4,096 functions, 256 locals of a function, and 16,384 `__finally` blocks and filters that may
+/// 4,096 functions, 65,536 locals of a function, and 16,384 `__finally` blocks and filters that may
 /// refuse are within the limits, and one more is beyond. Filters that always accept aren't counted.
 const COUNTED: &str = r"
 $4096$int f(){}$ => 4096 0 0 0
@@ -119,10 +119,10 @@ int f(){$16385$__try{}__finally{}$} => TooMany { at: 294927, what: Funclets }
 int f(){$16384$__try{}__except(0){}$} => 1 0 0 16384
 int f(){$16385$__try{}__except(0){}$} => TooMany { at: 327704, what: Funclets }
 int f(){$16385$__try{}__except(1){}$} => 1 0 0 16385
-int f(){$256$int a;$} => 1 0 0 256
-int f(){$257$int a;$} => TooMany { at: 1544, what: Locals }
-int f(){int a$255$,a$;} => 1 0 0 1
-int f(){int a$256$,a$;} => TooMany { at: 523, what: Locals }
+int f(){$65536$int a;$} => 1 0 0 65536
+int f(){$65537$int a;$} => TooMany { at: 393224, what: Locals }
+int f(){int a$65535$,a$;} => 1 0 0 1
+int f(){int a$65536$,a$;} => TooMany { at: 131083, what: Locals }
 ";
 
 /// 64 statements and 64 expressions may be around a statement or an expression, and one more

@@ -4,7 +4,8 @@
 //! the status as the number that the process ends with, the lines of `out` with `--trace`, and
 //! those of
 //! `err`, which are left out where there are none. Lines are joined by ` / ` or by line feeds.
-//! `$TIMES*PIECE$` stands for a piece so many times; in a program that many rows fill, `$0$`, `$1$`
+//! `$TIMES*PIECE$` stands for a piece so many times, `$TIMES#PIECE$` for the same with a number
+//! after each, from 0; in a program that many rows fill, `$0$`, `$1$`
 //! and `$2$` stand for the columns of a row's text.
 #![tactic(auto)]
 
@@ -12,6 +13,7 @@ pub mod binary;
 pub mod depths;
 pub mod examples;
 pub mod handlers;
+pub mod many_locals;
 pub mod refused;
 pub mod texts;
 pub mod unary;
