@@ -154,14 +154,16 @@ enum seh_rule {
     SEH_RULE_NONE = 0,
     SEH_RULE_DECODE = 1,      /* no instruction that is known stands there, or it passes the end of
                                  the entry or of its prologue */
-    SEH_RULE_CHAIN = 2,       /* the entry is chained to another one */
+    SEH_RULE_CHAIN = 2,       /* the entry is chained to another one, and has codes, a prologue or
+                                 another frame register than that one; or that one is chained
+                                 itself, or is no entry of the table */
     SEH_RULE_CODES = 3,       /* unwind codes of no prologue: of a machine frame or an XMM register,
                                  at no instruction's end, of a register that is saved twice or isn't
                                  nonvolatile, of a place outside the allocation */
     SEH_RULE_PROLOGUE = 4,    /* an instruction of the prologue isn't what its code says */
     SEH_RULE_STACK_WRITE = 5, /* an instruction of the body writes RSP or the frame register */
     SEH_RULE_UNSAVED = 6,     /* an instruction of the body writes a nonvolatile register that no
-                                 code saves */
+                                 code saves; of a chained entry none of its function */
     SEH_RULE_EPILOGUE = 7     /* an epilogue doesn't give back exactly what the prologue took */
 };
 
@@ -245,8 +247,9 @@ seh_status seh_scopes(const uint8_t *bytes, size_t size, bool mapped, uint32_t r
  * instruction of its prologue is what its unwind code says, that its body leaves RSP, the frame
  * register and nonvolatile registers that aren't saved alone, and that its epilogues undo the
  * prologue. Where that is so of all entries, an unwinding from any instruction of theirs finds the
- * registers of the caller. The rules are those that code by seh keeps, and stricter than the ABI:
- * what other compilers make may fail one, as a chained entry does.
+ * registers of the caller. The code of a chained entry, which is a fragment of a function, is held
+ * to the codes of the function. The rules are those that code by seh keeps, and stricter than the
+ * ABI: what other compilers make may fail one, as a fragment with codes of its own does.
  *
  * The imports and all entries are read, and refused.
  *

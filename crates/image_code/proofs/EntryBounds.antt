@@ -1,7 +1,8 @@
 -- The entries of a table that was read from octets end below 4 GiB.
 use Rattle.std.proofs.Common.{◌≡◌, ℕ, zero, suc, ◌+◌, ◌/◌, ◌%◌, ◌^◌, ◌<◌, Bool, true, false, ◌==◌, List, [], ◌∷◌, length, drop, Option, Some, None, Ok, Err, refl, subst}
-use Rattle.std.specs.Prelude.{nat_lt, nat_le}
+use Rattle.std.specs.Prelude.{nat_lt, nat_le, All}
 use Rattle.std.specs.List.{AllByRecursion}
+use Rattle.std.proofs.lemmas.List.Elements.{All-from_recursion}
 use Rattle.seh_num.specs.Answers.{unless, or_refused, prepend, ◌>>=◌}
 use Rattle.pe_image.specs.declared.directory.DataDirectory.{DataDirectory}
 use Rattle.pe_image.specs.Image.{Image, stored}
@@ -110,6 +111,14 @@ module _ (file : List ℕ) (image : Image) (read : IsImage file image) (octets :
       go true e = let g : [] ≡ rs = cc in
           subst (AllByRecursion (λ (r : RuntimeFunction). r.end < 2 ^ 32)) g tt
       go false e = stored_low image.exceptions rs e
+
+-- ---- all entries
+
+pub bounded_entries : (file : List ℕ) (t : Tables) → IsTableOf file t
+    → All IsBoundedEntry (entries_of t)
+bounded_entries file t is = All-from_recursion IsBoundedEntry (entries_of t)
+    (entries_bounded file t.image is.read is.octets 0 0 t.ranges (entries_of t)
+    (directory_low file t.image is.read is.octets t.ranges is.ranges) is.whole.whole)
 
 -- ---- the entry that covers an address
 

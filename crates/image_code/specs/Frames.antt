@@ -33,7 +33,7 @@ HasCodeOf m image = (a : ℕ)
     → executable m LONGEST_INSTRUCTION a ≡ executable (mapped image) LONGEST_INSTRUCTION a
 
 -- where the verdict on an image is yes, the caller is found in every state of each entry of the
--- image as it is loaded, as it was at the entry's first byte
+-- image as it is loaded, as it was at the first byte of the entry's function
 abbrev pub YesFindsCallers : Type 0
 YesFindsCallers =
     (bytes probe : List ℕ) (t : Tables) (n : ℕ) (entry : Entry) (e s : State) (d : ℕ)
@@ -42,5 +42,5 @@ YesFindsCallers =
     → holding (distance t.image.base s.cpu.rip) (entries_of t) ≡ Some entry
     → distance t.image.base s.cpu.rip ≡ entry.range.begin + d
     → s.cpu.rip ≡ t.image.base + entry.range.begin + d
-    → IsInEntry (code_of t.image) entry.range.begin entry.range.end entry.info e s d
+    → IsInEntry (code_of t.image) (entries_of t) entry e s d
     → IsFound (caller_of t s.memory (context_of s.cpu)) (left_to (registers e) (return_address e))

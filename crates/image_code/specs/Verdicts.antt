@@ -1,7 +1,9 @@
 -- The verdict on an image, by its code and its function table.
-use Rattle.std.specs.Prelude.{◌≡◌, ℕ, List, Ok, Err}
+use Rattle.std.specs.Prelude.{◌≡◌, ℕ, List, [], Ok, Err}
 use Rattle.pe_image.specs.Image.{Image}
-use Rattle.eh_tables.specs.Tables.{Entry, tables}
+use Rattle.eh_tables.specs.declared.range.RuntimeFunction.{RuntimeFunction}
+use Rattle.eh_tables.specs.Answer.{Table}
+use Rattle.eh_tables.specs.Tables.{Entry, directory, tables}
 use Rattle.unwind_check.specs.declared.rule.EntryVerdict.{EntryVerdict}
 use Rattle.unwind_check.specs.declared.rule.Verdict.{Verdict}
 use Rattle.unwind_check.specs.EntryVerdicts.{AreEntryVerdicts}
@@ -10,9 +12,19 @@ use Rattle.image_code.specs.declared.refusal.ValidationErr.{ValidationErr}
 use Rattle.image_code.specs.declared.refusal.ValidationErr.TheVariants as refusals
 use Rattle.image_code.specs.Code.{code_of}
 
+-- none where the exception directory is refused
+abbrev pub ranges_or_none : Table (List RuntimeFunction) → List RuntimeFunction
+ranges_or_none (Ok rs) = rs
+ranges_or_none (Err e) = []
+
 -- with the bytes of the stack probe, `__chkstk`
 abbrev pub checked_code : Image → List ℕ → ImageCode
-checked_code image probe = record { memory = code_of image; probe = probe }
+checked_code image probe =
+    record {
+      memory = code_of image;
+      probe = probe;
+      ranges = ranges_or_none (directory image);
+    }
 
 -- the function table is read whole, and this is the verdict on its entries
 pub record IsImageVerdict (image : Image) (probe : List ℕ) (v : Verdict) : Type 0 where

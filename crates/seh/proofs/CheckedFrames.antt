@@ -12,6 +12,8 @@ use Rattle.frame_rules.specs.States.{registers, return_address}
 use Rattle.frame_rules.specs.Rules.{IsFound}
 use Rattle.unwind_check.specs.declared.rule.Verdict.TheVariants.{Yes}
 use Rattle.unwind_check.specs.Verdicts.{IsVerdict}
+use Rattle.unwind_check.specs.Laws.{IsInEntry}
+use Rattle.image_code.specs.Code.{code_of}
 use Rattle.image_code.specs.Verdicts.{checked_code}
 use Rattle.image_code.specs.Frames.{IsTableOf}
 use Rattle.image_code.proofs.LoadedFrames.{yes_finds_callers}
@@ -53,8 +55,10 @@ checked_callers_are_found bytes n checked entry e s d octets place code held at 
     } in
     let holds = subst (λ (es : List Entry). holding (distance image.base s.cpu.rip) es ≡ Some entry)
     same held in
+    let stands = subst (λ (es : List Entry). IsInEntry (code_of image) es entry e s d)
+    same inside in
     let found = yes_finds_callers bytes CHECK_STACK t n entry e s d table verdict code holds at rip
-    inside in
+    stands in
     subst (λ (es : List Entry). IsFound (caller_in
     (record { base = image.base; entries = es; rows = name_rows image })
     s.memory (context_of s.cpu)) (left_to (registers e) (return_address e))) (sym same) found

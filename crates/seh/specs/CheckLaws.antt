@@ -34,7 +34,7 @@ DoneIsYes =
     → (n : ℕ) × IsChecked bytes (Yes n)
 
 -- where the verdict is yes and the image has a place, the walk over the loaded image finds the
--- caller in every state of each entry, as it was at the entry's first byte (in state e)
+-- caller in every state of each entry, as it was at the first byte of its function (in state e)
 abbrev pub CheckedCallersAreFound : Type 0
 CheckedCallersAreFound =
     (bytes : List ℕ) (n : ℕ) (checked : IsChecked bytes (Yes n)) (entry : Entry) (e s : State)
@@ -45,6 +45,6 @@ CheckedCallersAreFound =
     → entry_of functions s.cpu.rip ≡ Some entry
     → distance functions.base s.cpu.rip ≡ entry.range.begin + d
     → s.cpu.rip ≡ functions.base + entry.range.begin + d
-    → IsInEntry (code_of checked.image) entry.range.begin entry.range.end entry.info e s d
+    → IsInEntry (code_of checked.image) functions.entries entry e s d
     → IsFound (caller_in functions s.memory (context_of s.cpu))
     (left_to (registers e) (return_address e))

@@ -26,7 +26,7 @@ abbrev pub image_read : (text image : List ℕ) → IsCompiled text image → Im
 image_read text image compiled = image_of (linked (lowered (resolve text compiled.whole).program))
 
 -- in every state of each entry of its function table, which spellings in its code tell, the walk
--- over the loaded image finds the caller, as it was at the entry's first byte (in state e)
+-- over the loaded image finds the caller, as it was at the first byte of its function (in state e)
 abbrev pub CompiledEntriesAreFound : Type 0
 CompiledEntriesAreFound =
     (text image : List ℕ) (compiled : IsCompiled text image) (entry : Entry) (e s : State) (d : ℕ)
@@ -35,7 +35,7 @@ CompiledEntriesAreFound =
     HasCodeOf s.memory loaded → entry_of functions s.cpu.rip ≡ Some entry
     → distance functions.base s.cpu.rip ≡ entry.range.begin + d
     → s.cpu.rip ≡ functions.base + entry.range.begin + d
-    → IsInEntry (code_of loaded) entry.range.begin entry.range.end entry.info e s d
+    → IsInEntry (code_of loaded) functions.entries entry e s d
     → IsFound (caller_in functions s.memory (context_of s.cpu))
     (left_to (registers e) (return_address e))
 

@@ -75,7 +75,8 @@ pub const RULE_NONE: u32 = 0;
 /// No instruction that the decoder knows stands there.
 pub const RULE_DECODE: u32 = 1;
 
-/// The entry is chained to another one.
+/// The entry is chained to another one, and isn't a fragment of its function without codes,
+/// prologue and frame register of its own.
 pub const RULE_CHAIN: u32 = 2;
 
 /// An unwind code is one that no code of a prologue can keep.

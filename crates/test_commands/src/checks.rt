@@ -56,6 +56,31 @@ fn foreign_code_keeps_the_rules(rt: HostRuntime) {
     all_answer(&rt, rt.alloc(), FOREIGN);
 }
 
+/// A function and two fragments of it. The info of the second has a code; a prologue; a frame
+/// register; it is chained to the first fragment, and to an entry that the table doesn't have. The
+/// first writes RSI, which the function doesn't save; the second gives back 40 bytes; the first has
+/// a byte that is no instruction; the function pushes RDX in place of RBX.
+const FRAGMENTS: &str = r"
+check | fragments | 0 yes 3
+check | fragments @ file+363 21 04 01 00 04 32 00 00 00 20 00 00 0F 20 00 00 00 30 00 00 | 16 no 2 00002013 Chain
+check | fragments @ file+364 02 | 16 no 2 00002013 Chain
+check | fragments @ file+366 05 | 16 no 2 00002013 Chain
+check | fragments @ file+367 0F 20 00 00 13 20 00 00 08 30 00 00 | 16 no 2 00002013 Chain
+check | fragments @ file+371 10 | 16 no 2 00002013 Chain
+check | fragments @ file+327 31 F6 | 16 no 1 0000200F Unsaved
+check | fragments @ file+336 28 | 16 no 2 00002015 Epilogue
+check | fragments @ file+329 06 | 16 no 1 00002011 Decode
+check | fragments @ file+327 31 E4 | 16 no 1 0000200F StackWrite
+check | fragments @ file+312 52 | 16 no 0 00002000 Prologue
+check --each | fragments @ file+327 31 F6 | 16 yes 0 00002000 / no 1 0000200F Unsaved / yes 2 00002013 / yes 2 of 3
+check --each | fragments @ file+312 52 | 16 no 0 00002000 Prologue / yes 1 0000200F / yes 2 00002013 / yes 2 of 3
+";
+
+#[test]
+fn fragments_keep_the_rules(rt: HostRuntime) {
+    all_answer(&rt, rt.alloc(), FRAGMENTS);
+}
+
 /// What is no image, and what has no function table that is read whole; and images that don't load,
 /// for their entry point and for their base, but are checked.
 const REFUSED: &str = r"

@@ -86,6 +86,28 @@ E8 00 00 00 00 89 C6 01 FE 44 89 F1 E8 00 00 00 00 01 F0
 E0 20 00 00 FB 20 00 00 2C 30 00 00
 ";
 
+/// An image of a function at 0x2000 and two fragments of it, at 0x200F and 0x2013, whose code is at
+/// 312 of the file: the first goes back, the second has an epilogue of its own. Their unwind infos
+/// are at 339, 347 and 363, and the table at 383.
+const FRAGMENTS: &str = r"
+'MZ 58*00 40 00 00 00 'PE 00 00
+64 86 02 00 12*00 90 00 23 00 // Machine, NumberOfSections, SizeOfOptionalHeader
+0B 02 22*00 00 00 00 40 01 00 00 00 24*00 00 40 00 00 48*00 // Magic, ImageBase, SizeOfImage
+04 00 00 00 24*00 2C 30 00 00 24 00 00 00 // NumberOfRvaAndSizes, the exception directory
+'.text 00 00 00 1B 00 00 00 00 20 00 00 1B 00 00 00 38 01 00 00 12*00 20 00 00 60
+'.xdata 00 00 50 00 00 00 00 30 00 00 50 00 00 00 53 01 00 00 12*00 40 00 00 40
+53 48 83 EC 20 85 C9 74 06 // push rbx; sub rsp, 32; test ecx, ecx; jz to the first fragment
+48 83 C4 20 5B C3 // add rsp, 32; pop rbx; ret
+31 DB EB F6 // xor ebx, ebx; jmp to the epilogue of the function
+31 C0 48 83 C4 20 5B C3 // xor eax, eax; add rsp, 32; pop rbx; ret
+01 05 02 00 05 32 01 30 // at 5 an allocation of 32 bytes, at 1 a push of RBX
+21 00 00 00 00 20 00 00 0F 20 00 00 00 30 00 00 // no codes, chained to the function's entry
+21 00 00 00 00 20 00 00 0F 20 00 00 00 30 00 00 4*00
+00 20 00 00 0F 20 00 00 00 30 00 00
+0F 20 00 00 13 20 00 00 08 30 00 00
+13 20 00 00 1B 20 00 00 18 30 00 00
+";
+
 /// An image of one library and five imports: the descriptors are at 0x1000, the lookup table at
 /// 0x1040, the slots at 0x1080, the names at 0x10B0 and the code at 0x1128, which puts what is in
 /// each of the five slots by a call through the last one, and returns 7.
@@ -194,6 +216,7 @@ fn unchanged(rt: &impl Abort, alloc: Global, input: &str) -> Vec<u8> {
         "tables" => spelled(rt, alloc, TABLES),
         "framed" => spelled(rt, alloc, FRAMED),
         "foreign" => spelled(rt, alloc, FOREIGN),
+        "fragments" => spelled(rt, alloc, FRAGMENTS),
         "importing" => spelled(rt, alloc, IMPORTING),
         "infos" => table_image(alloc, &spelled(rt, alloc, rest), &ENTRY).expect(rt, "memory"),
         "chain" => table_image(alloc, &chain(rt, alloc, rest), &ENTRY).expect(rt, "memory"),

@@ -6,17 +6,16 @@ use Rattle.x64_instr.specs.declared.instruction.Instr.{Instr}
 use Rattle.eh_tables.specs.declared.code.UnwindOperation.{UnwindOperation}
 use Rattle.eh_tables.specs.Infos.{Info}
 use Rattle.virtual_unwind.specs.Tail.{FetchedInstr, fetched_at}
-use Rattle.frame_rules.specs.Codes.{is_ordered}
 use Rattle.frame_rules.specs.Epilogue.{is_epilogue}
 use Rattle.frame_rules.specs.Body.{restored_by, with_restored, are_restored}
 use Rattle.frame_rules.specs.States.{HasItems}
 use Rattle.frame_rules.proofs.Tails.{items_rise}
 use Rattle.unwind_check.specs.declared.rule.Rule.{Rule}
+use Rattle.unwind_check.specs.declared.rule.Rule.TheVariants.{Chain, Codes, Prologue}
 use Rattle.unwind_check.specs.declared.rule.Fault.{Fault}
 use Rattle.unwind_check.specs.Boundaries.{fault}
-use Rattle.unwind_check.specs.Codes.{keep_codes}
 use Rattle.unwind_check.specs.Bodies.{is_own}
-use Rattle.unwind_check.specs.FailingRules.{CodeEntry, body_begin, operations_of, prologue_instrs, tail_there, HasOtherInstr, LacksInstr, loaded_by, IsOwnEpilogue, IsInOwnEpilogue, Fails, place_of, IsFirstOf}
+use Rattle.unwind_check.specs.FailingRules.{CodeEntry, body_begin, primary_of, operations_of, tail_there, loaded_by, IsOwnEpilogue, IsInOwnEpilogue, Fails, place_of, IsFirstOf}
 use Rattle.unwind_check.proofs.Reached.{StandsAt, one_there, one_more, not_inside, same_end, same_way, at_most}
 use Rattle.unwind_check.proofs.TailSteps.{TailStep, tail_step, no_load}
 
@@ -73,11 +72,9 @@ same_rest is js e = cc
 pub record HasGoodPrologue (e : CodeEntry) (stop : ℕ) (whole : Bool) : Type 0 where
   pub low : e.to < 2 ^ 63
   pub inside : body_begin e ≤ e.to
-  pub single : e.parents ≡ []
-  pub kept : keep_codes e.info (prologue_instrs e) ≡ true
-  pub ordered : is_ordered (operations_of e) ≡ true
-  pub lacks : LacksInstr e → ⊥
-  pub other : (at : ℕ) → HasOtherInstr e at → ⊥
+  pub chain : (at : ℕ) → Fails e at Chain → ⊥
+  pub codes : (at : ℕ) → Fails e at Codes → ⊥
+  pub prologue : (at : ℕ) → Fails e at Prologue → ⊥
   pub most : stop ≤ e.to
   pub none : StandsAt e.memory stop e.to → ⊥
   pub full : whole ≡ true → stop ≡ e.to
@@ -108,10 +105,12 @@ pub record Passed (e : CodeEntry) (at : ℕ) (loaded : List ℕ) (left : ℕ) : 
 
 loaded_more : (e : CodeEntry) (rs : List ℕ) (xs : List FetchedInstr) (x : FetchedInstr)
     → loaded_by e rs (xs ++ (x ∷ [])) ≡ with_restored (loaded_by e rs xs)
-    (restored_by e.info.frame_register e.info.frame_offset (operations_of e) x.instr)
+    (restored_by (primary_of e).frame_register (primary_of e).frame_offset (operations_of e)
+    x.instr)
 loaded_more e rs [] x = refl
 loaded_more e rs (w ∷ xs) x = loaded_more e (with_restored rs
-    (restored_by e.info.frame_register e.info.frame_offset (operations_of e) w.instr)) xs x
+    (restored_by (primary_of e).frame_register (primary_of e).frame_offset (operations_of e)
+    w.instr)) xs x
 
 no_items : (m : Memory) (at : ℕ) (ys : List FetchedInstr) (end : ℕ) → HasItems m at ys end
     → length ys ≡ 0 → at ≡ end
@@ -159,7 +158,7 @@ module _ (e : CodeEntry) (stop : ℕ) (whole : Bool) (good : HasGoodPrologue e s
   m = e.memory
 
   abbrev i : Info
-  i = e.info
+  i = primary_of e
 
   abbrev ops : List UnwindOperation
   ops = operations_of e

@@ -14,7 +14,7 @@ use Rattle.unwind_check.specs.declared.rule.Rule.TheVariants.{Decode, Chain, Cod
 use Rattle.unwind_check.specs.declared.rule.Fault.{Fault}
 use Rattle.unwind_check.specs.Boundaries.{fault, unless, or_next}
 use Rattle.unwind_check.specs.Bodies.{keeps_stack, keeps_saved, is_own, by_tail, body_from}
-use Rattle.unwind_check.specs.FailingRules.{CodeEntry, body_begin, operations_of, tail_there, HasInstr, Fails, place_of}
+use Rattle.unwind_check.specs.FailingRules.{CodeEntry, body_begin, primary_of, operations_of, tail_there, HasInstr, Fails, place_of}
 use Rattle.unwind_check.proofs.Reached.{Beyond, one_there}
 use Rattle.unwind_check.proofs.TailSteps.{tail_step}
 use Rattle.unwind_check.proofs.BodyPlaces.{IsBefore, is_first, fault_fails, both, HasGoodPrologue, Passed, some_items, in_epilogue, outside, opened, not_own}
@@ -24,7 +24,7 @@ module _ (e : CodeEntry) (stop : ℕ) (whole : Bool) (good : HasGoodPrologue e s
   m = e.memory
 
   abbrev i : Info
-  i = e.info
+  i = primary_of e
 
   abbrev ops : List UnwindOperation
   ops = operations_of e
@@ -38,11 +38,9 @@ module _ (e : CodeEntry) (stop : ℕ) (whole : Bool) (good : HasGoodPrologue e s
   early b le has Decode lt (inl none) = none has
   early b le has Decode lt (inr past) = let a = past.1 in let k = good.inside in
       absurd (omega (arith, a, k))
-  early b le has Chain lt h = h.1 good.single
-  early b le has Codes lt h = false≢true (sym h.1 ∙ good.kept)
-  early b le has Prologue lt (inl (h, inl out)) = false≢true (sym out ∙ good.ordered)
-  early b le has Prologue lt (inl (h, inr lacks)) = good.lacks lacks
-  early b le has Prologue lt (inr other) = good.other b other
+  early b le has Chain lt h = good.chain b h
+  early b le has Codes lt h = good.codes b h
+  early b le has Prologue lt h = good.prologue b h
   early b le has StackWrite lt h = absurd (omega (arith, lt))
   early b le has Unsaved lt h = absurd (omega (arith, lt))
   early b le has Epilogue lt h = absurd (omega (arith, lt))

@@ -1,8 +1,9 @@
 -- The first fault of an entry is the first boundary at which a rule fails, with the first rule.
-use Rattle.std.proofs.Common.{◌≡◌, ◌≢◌, ℕ, ◌+◌, ◌-◌, ◌^◌, ◌<◌, ◌≤◌, Bool, true, false, ◌&&◌, ◌||◌, eqb, leb, if◌then◌else◌, List, [], ◌∷◌, Option, Some, None, refl, sym, ap, subst, ◌∙◌, arith, inl, inr}
+use Rattle.std.proofs.Common.{◌≡◌, ℕ, ◌+◌, ◌-◌, ◌^◌, ◌<◌, ◌≤◌, Bool, true, false, ◌&&◌, ◌||◌, eqb, leb, if◌then◌else◌, List, [], ◌∷◌, Option, Some, None, refl, sym, ap, subst, ◌∙◌, arith, inl, inr}
 use Rattle.std.proofs.lemmas.Bool.{false≢true, and_parts, and_from, or_cases, eqb-true, eq-eqb, le-leb, leb-true, leb-false, or_right}
 use Rattle.flat_memory.specs.Memory.{Memory}
 use Rattle.eh_tables.specs.Infos.{Info}
+use Rattle.virtual_unwind.specs.Undone.{operations}
 use Rattle.virtual_unwind.specs.Tail.{FetchedInstr, fetched_at}
 use Rattle.frame_rules.specs.Codes.{is_ordered}
 use Rattle.frame_rules.specs.Validated.{turned}
@@ -14,43 +15,17 @@ use Rattle.unwind_check.specs.declared.rule.Fault.{Fault}
 use Rattle.unwind_check.specs.Boundaries.{IsBoundary, fault, unless, or_next, is_some}
 use Rattle.unwind_check.specs.Codes.{keep_codes}
 use Rattle.unwind_check.specs.Bodies.{body_from}
-use Rattle.unwind_check.specs.Faults.{prologue_end, prologue_of, body_of, site, begins, parts_fault, codes_fault, entry_fault}
-use Rattle.unwind_check.specs.FailingRules.{CodeEntry, body_begin, operations_of, prologue_instrs, HasInstr, Fails, FailsDecode, place_of, KeepsRules, AreFaults, FaultsAreFirst}
+use Rattle.unwind_check.specs.Chains.{names_entry, is_secondary, is_fragment, keeps_chain, primary}
+use Rattle.unwind_check.specs.Faults.{prologue_end, prologue_of, body_of, site, begins, parts_fault, codes_fault, fragment_fault, entry_fault}
+use Rattle.unwind_check.specs.FailingRules.{CodeEntry, body_begin, primary_of, prologue_instrs, HasInstr, Fails, FailsDecode, FailsPrologue, place_of, AreFaults, FaultsAreFirst}
 use Rattle.unwind_check.proofs.Boundaries.{Stopped, stopped, faults_are_at_boundaries}
-use Rattle.unwind_check.proofs.Reached.{StandsAt, beyond, within}
+use Rattle.unwind_check.proofs.Chains.{secondary}
+use Rattle.unwind_check.proofs.Reached.{StandsAt, Beyond, beyond, within}
 use Rattle.unwind_check.proofs.Stepped.{stepped}
-use Rattle.unwind_check.proofs.BodyPlaces.{IsBefore, is_first, fault_fails, at_or_below, up_to_or_above, HasGoodPrologue, Passed}
+use Rattle.unwind_check.proofs.BodyPlaces.{at_or_below, up_to_or_above, HasGoodPrologue, Passed}
+use Rattle.unwind_check.proofs.FirstAnswers.{IsAnswer, at_begin, none_fault, some_fault, no_first}
 use Rattle.unwind_check.proofs.FirstBodies.{body_first, body_fails}
 use Rattle.unwind_check.proofs.FirstPrologues.{none_at_stop, prologue_answer, other_fault, lacks_fault, IsKind, kind}
-
--- what an answer says of an entry
-pub record IsAnswer (e : CodeEntry) (o : Option Fault) : Type 0 where
-  pub fails : (f : Fault) → o ≡ Some f → Fails e f.at f.rule
-  pub first : (b : ℕ) (r : Rule) → IsBoundary e.memory e.begin e.to b → Fails e b r → IsBefore o b r
-
-at_begin : (e : CodeEntry) (rule : Rule) → Fails e e.begin rule
-    → ((r : Rule) → place_of r < place_of rule → Fails e e.begin r → ⊥)
-    → IsAnswer e (fault e.begin rule)
-at_begin e rule fails none = record {
-  fails = λ f is. fault_fails e e.begin rule f is fails;
-  first = λ b r at h. is_first e e.begin rule b r
-      (items_rise e.memory e.begin at.done b at.reached) none h;
-}
-
-none_fault : (o : Option Fault) (at : ℕ) (rule : Rule) → o ≡ None → o ≡ fault at rule → ⊥
-none_fault o at rule a b = absurd cc
-
-some_fault : (o : Option Fault) (f : Fault) (at : ℕ) (rule : Rule) → o ≡ Some f
-    → o ≡ fault at rule → f ≡ record { at = at; rule = rule }
-some_fault o f at rule a b = go f (record { at = at; rule = rule }) (sym a ∙ b)
-  where
-    go : (x y : Fault) → Some x ≡ Some y → x ≡ y
-    go x y e = cc
-
-no_first : (m : Memory) (at : ℕ) (xs : List FetchedInstr) (stop : ℕ) → HasItems m at xs stop
-    → is_some xs ≡ false → at ≡ stop
-no_first m at [] stop h n = h
-no_first m at (x ∷ xs) stop h n = absurd (false≢true (sym n))
 
 module _ (e : CodeEntry) (rise : e.begin < e.to) (low : e.to < 2 ^ 63) where
   abbrev m : Memory
@@ -140,6 +115,55 @@ module _ (e : CodeEntry) (rise : e.begin < e.to) (low : e.to < 2 ^ 63) where
       go true q = inl (λ has. false≢true (sym none ∙ has_begun (leb-true mid e.to q) has))
       go false q = inr (refl, leb-false mid e.to q)
 
+  -- ---- past a prologue in which no rule fails
+
+  good_prologue : (le : mid ≤ e.to) → ((at : ℕ) → Fails e at Chain → ⊥)
+      → ((at : ℕ) → Fails e at Codes → ⊥) → ((at : ℕ) → Fails e at Prologue → ⊥)
+      → HasGoodPrologue e (body_stop le).stop (body_of m begin e.to i).is_whole
+  good_prologue le chain codes prologue = record {
+    low = low;
+    inside = le;
+    chain = chain;
+    codes = codes;
+    prologue = prologue;
+    most = (body_stop le).most;
+    none = body_none le;
+    full = (body_stop le).full;
+  }
+
+  passed : mid ≤ e.to → Passed e end [] 0
+  passed le = record {
+    done = [];
+    reached = sym (end_is le);
+    loads = refl;
+    ahead = [];
+    end = end;
+    going = refl;
+    count = refl;
+    older = λ o before r all fin h lt t a s.
+        let up = items_rise m mid before o h in
+        let z = end_is le in
+        absurd (omega (arith, up, z, lt));
+    own = λ z. absurd (omega (arith, z));
+  }
+
+  -- where no rule fails before its first instruction
+  body_answer : (le : mid ≤ e.to)
+      → HasGoodPrologue e (body_stop le).stop (body_of m begin e.to i).is_whole
+      → ((b : ℕ) (r : Rule) → IsBoundary m begin e.to b → Fails e b r → Beyond m end b)
+      → IsAnswer e (body_from m (primary_of e) (body_of m begin e.to i).is_whole
+      (body_of m begin e.to i).items end [] 0)
+  body_answer le good past = record {
+    fails = λ f is. body_fails e (body_stop le).stop (body_of m begin e.to i).is_whole good
+        (body_of m begin e.to i).items end [] 0 (let z = end_is le in omega (arith, z)) (passed le)
+        (body_stop le).items f is;
+    first = λ b r at h.
+        let more = past b r at h in
+        body_first e (body_stop le).stop (body_of m begin e.to i).is_whole good
+        (body_of m begin e.to i).items end [] 0 (let z = end_is le in omega (arith, z)) (passed le)
+        (body_stop le).items more.left b more.items at.inside r h;
+  }
+
   -- with a prologue inside the entry and an instruction at its first byte
   module _ (le : mid ≤ e.to) (begun : begins m begin e.to i ≡ true) where
     first_of_prologue : (xs : List FetchedInstr) (stop : ℕ) → HasItems m begin xs stop → stop ≤ mid
@@ -192,8 +216,8 @@ module _ (e : CodeEntry) (rise : e.begin < e.to) (low : e.to < 2 ^ 63) where
     no_decode (inl none) = none has_first
     no_decode (inr past) = let a = past.1 in omega (arith, a, le)
 
-    at_chain : e.parents ≢ [] → IsAnswer e (fault begin Chain)
-    at_chain chained = at_begin e Chain (refl, chained) none
+    at_chain : keeps_chain e.ranges i e.parents ≡ false → IsAnswer e (fault begin Chain)
+    at_chain other = at_begin e Chain (refl, other) none
       where
         none : (r : Rule) → place_of r < 1 → Fails e begin r → ⊥
         none Decode lt h = no_decode h
@@ -205,12 +229,20 @@ module _ (e : CodeEntry) (rise : e.begin < e.to) (low : e.to < 2 ^ 63) where
         none Epilogue lt h = absurd (omega (arith, lt))
 
     module _ (single : e.parents ≡ []) where
+      unchained : keeps_chain e.ranges i e.parents ≡ false → ⊥
+      unchained other =
+          false≢true (sym other ∙ ap (keeps_chain e.ranges i) single)
+
+      -- it is judged by its own codes
+      own : primary_of e ≡ i
+      own = ap (primary i) single
+
       at_codes : keep_codes i (prologue_instrs e) ≡ false → IsAnswer e (fault begin Codes)
-      at_codes bad = at_begin e Codes (refl, bad) none
+      at_codes bad = at_begin e Codes (single, refl, bad) none
         where
           none : (r : Rule) → place_of r < 2 → Fails e begin r → ⊥
           none Decode lt h = no_decode h
-          none Chain lt h = h.1 single
+          none Chain lt h = unchained h.1
           none Codes lt h = absurd (omega (arith, lt))
           none Prologue lt h = absurd (omega (arith, lt))
           none StackWrite lt h = absurd (omega (arith, lt))
@@ -220,17 +252,17 @@ module _ (e : CodeEntry) (rise : e.begin < e.to) (low : e.to < 2 ^ 63) where
       module _ (kept : keep_codes i (prologue_instrs e) ≡ true) where
         before_prologue : (r : Rule) → place_of r < 3 → Fails e begin r → ⊥
         before_prologue Decode lt h = no_decode h
-        before_prologue Chain lt h = h.1 single
-        before_prologue Codes lt h = false≢true (sym h.1 ∙ kept)
+        before_prologue Chain lt h = unchained h.1
+        before_prologue Codes lt h = false≢true (sym h.2 ∙ kept)
         before_prologue Prologue lt h = absurd (omega (arith, lt))
         before_prologue StackWrite lt h = absurd (omega (arith, lt))
         before_prologue Unsaved lt h = absurd (omega (arith, lt))
         before_prologue Epilogue lt h = absurd (omega (arith, lt))
 
-        at_order : is_ordered (operations_of e) ≡ false → IsAnswer e (fault begin Prologue)
-        at_order bad = at_begin e Prologue (inl (refl, inl bad)) before_prologue
+        at_order : is_ordered (operations i.codes) ≡ false → IsAnswer e (fault begin Prologue)
+        at_order bad = at_begin e Prologue (single, inl (refl, inl bad)) before_prologue
 
-        module _ (ordered : is_ordered (operations_of e) ≡ true) where
+        module _ (ordered : is_ordered (operations i.codes) ≡ true) where
           -- ---- the prologue
 
           abbrev stop : ℕ
@@ -265,12 +297,12 @@ module _ (e : CodeEntry) (rise : e.begin < e.to) (low : e.to < 2 ^ 63) where
                   → (r ≡ Prologue) × (prologue_answer e ≡ fault b Prologue)
               go s Decode (inl none) = absurd (none (has s))
               go s Decode (inr past) = let a = past.1 in absurd (omega (arith, a, le))
-              go s Chain h = absurd (h.1 single)
-              go s Codes h = absurd (false≢true (sym h.1 ∙ kept))
-              go s Prologue (inl (z, inl out)) = absurd (false≢true (sym out ∙ ordered))
-              go s Prologue (inl (z, inr lacks)) =
+              go s Chain h = absurd (unchained h.1)
+              go s Codes h = absurd (false≢true (sym h.2 ∙ kept))
+              go s Prologue (single, inl (z, inl out)) = absurd (false≢true (sym out ∙ ordered))
+              go s Prologue (single, inl (z, inr lacks)) =
                   (refl, lacks_fault e lacks ∙ ap (λ k. fault k Prologue) (sym z))
-              go s Prologue (inr other) = (refl, other_fault e b other)
+              go s Prologue (single, inr other) = (refl, other_fault e b other)
               go s StackWrite h = absurd (late h.is.past)
               go s Unsaved h = absurd (late h.is.past)
               go s Epilogue h = absurd (late h.past)
@@ -296,10 +328,10 @@ module _ (e : CodeEntry) (rise : e.begin < e.to) (low : e.to < 2 ^ 63) where
 
               go : IsKind e stop f → IsAnswer e (Some f)
               go (inl (q, lacks)) = subst (λ (z : Fault). IsAnswer e (Some z)) (sym q)
-                  (at_begin e Prologue (inl (refl, inr lacks)) before_prologue)
+                  (at_begin e Prologue (single, inl (refl, inr lacks)) before_prologue)
               go (inr (inl (rule, (other, lt)))) = record {
                 fails = λ y q. subst (λ (z : Fault). Fails e z.at z.rule) (same y q)
-                    (subst (λ (r : Rule). Fails e f.at r) (sym rule) (inr other));
+                    (subst (λ (r : Rule). Fails e f.at r) (sym rule) (single, inr other));
                 first = λ b r at h. elim (up_to_or_above b f.at) [
                   | inr below ↦ inl below
                   | inl up ↦
@@ -355,57 +387,29 @@ module _ (e : CodeEntry) (rise : e.begin < e.to) (low : e.to < 2 ^ 63) where
                 (prologue_of m begin e.to i).is_whole 0 (turned [] i.codes)
                 (prologue_instrs e) none).ends
 
-            good : HasGoodPrologue e (body_stop le).stop (body_of m begin e.to i).is_whole
-            good = record {
-              low = low;
-              inside = le;
-              single = single;
-              kept = kept;
-              ordered = ordered;
-              lacks = λ l. none_fault (prologue_answer e) begin Prologue none (lacks_fault e l);
-              other = λ at o. none_fault (prologue_answer e) at Prologue none (other_fault e at o);
-              most = (body_stop le).most;
-              none = body_none le;
-              full = (body_stop le).full;
-            }
+            no_prologue : (at : ℕ) → FailsPrologue e at → ⊥
+            no_prologue at (inl (z, inl out)) = false≢true (sym out ∙ ordered)
+            no_prologue at (inl (z, inr lacks)) =
+                none_fault (prologue_answer e) begin Prologue none (lacks_fault e lacks)
+            no_prologue at (inr other) =
+                none_fault (prologue_answer e) at Prologue none (other_fault e at other)
 
-            passed : Passed e end [] 0
-            passed = record {
-              done = [];
-              reached = sym (end_is le);
-              loads = refl;
-              ahead = [];
-              end = end;
-              going = refl;
-              count = refl;
-              older = λ o before r all fin h lt t a s.
-                  let up = items_rise m mid before o h in
-                  let z = end_is le in
-                  absurd (omega (arith, up, z, lt));
-              own = λ z. absurd (omega (arith, z));
-            }
+            good : HasGoodPrologue e (body_stop le).stop (body_of m begin e.to i).is_whole
+            good = good_prologue le (λ at h. unchained h.1) (λ at h. false≢true (sym h.2 ∙ kept))
+                (λ at h. no_prologue at h.1)
 
             in_body : IsAnswer e (body_from m i (body_of m begin e.to i).is_whole
                 (body_of m begin e.to i).items end [] 0)
-            in_body = record {
-              fails = λ f is. body_fails e (body_stop le).stop
-                  (body_of m begin e.to i).is_whole good
-                  (body_of m begin e.to i).items end [] 0 (let z = end_is le in omega
-                  (arith, z)) passed
-                  (body_stop le).items f is;
-              first = λ b r at h. elim (up_to_or_above end b) [
-                | inl up ↦
-                    let more = beyond m begin (prologue_of m begin e.to i).items stop at.done b
-                    (prologue_stop le).items at.reached (let w = whole in omega (arith, w, up)) in
-                    body_first e (body_stop le).stop (body_of m begin e.to i).is_whole good
-                    (body_of m begin e.to i).items end [] 0 (let z = end_is le in omega
-                    (arith, z)) passed
-                    (body_stop le).items more.left b
-                    (subst (λ k. HasItems m k more.left b) whole more.items) at.inside r h
-                | inr lt ↦ absurd (none_fault (prologue_answer e) b Prologue none
-                    (by_prologue b r at (let w = whole in omega (arith, w, lt)) h).1)
-              ];
-            }
+            in_body = subst (λ (p : Info). IsAnswer e (body_from m p
+                (body_of m begin e.to i).is_whole (body_of m begin e.to i).items end [] 0)) own
+                (body_answer le good (λ b r at h. elim (up_to_or_above end b) [
+                  | inl up ↦
+                      let more = beyond m begin (prologue_of m begin e.to i).items stop at.done b
+                      (prologue_stop le).items at.reached (let w = whole in omega (arith, w, up)) in
+                      subst (λ k. Beyond m k b) whole more
+                  | inr lt ↦ absurd (none_fault (prologue_answer e) b Prologue none
+                      (by_prologue b r at (let w = whole in omega (arith, w, lt)) h).1)
+                ]))
 
           parts : (o : Option Fault) → prologue_answer e ≡ o → IsAnswer e (or_next o
               (body_from m i (body_of m begin e.to i).is_whole
@@ -413,17 +417,48 @@ module _ (e : CodeEntry) (rise : e.begin < e.to) (low : e.to < 2 ^ 63) where
           parts None is = in_body is
           parts (Some f) is = in_prologue f is
 
-        by_order : (b : Bool) → is_ordered (operations_of e) ≡ b
+        by_order : (b : Bool) → is_ordered (operations i.codes) ≡ b
             → IsAnswer e (or_next (unless b begin Prologue) (parts_fault m e.probe begin e.to i))
         by_order true q = parts q (prologue_answer e) refl
         by_order false q = at_order q
 
       by_codes : (b : Bool) → keep_codes i (prologue_instrs e) ≡ b
           → IsAnswer e (or_next (unless b begin Codes) (or_next
-          (unless (is_ordered (operations_of e)) begin Prologue)
+          (unless (is_ordered (operations i.codes)) begin Prologue)
           (parts_fault m e.probe begin e.to i)))
-      by_codes true q = by_order q (is_ordered (operations_of e)) refl
+      by_codes true q = by_order q (is_ordered (operations i.codes)) refl
       by_codes false q = at_codes q
+
+    -- ---- an entry that is chained
+
+    module _ (p : Info) (ps : List Info) (chained : e.parents ≡ p ∷ ps) where
+      not_single : e.parents ≡ [] → ⊥
+      not_single z = differ (sym chained ∙ z)
+        where
+          differ : (let qs : List Info = p ∷ ps in qs) ≡ [] → ⊥
+          differ z = absurd cc
+
+      -- without codes and prologue it is all body
+      no_prologue_bytes : is_fragment e.ranges i p ≡ true → end ≡ begin
+      no_prologue_bytes is =
+          let z = end_is le in
+          let s = (secondary i p (and_parts (names_entry e.ranges i.parent) (is_secondary i p)
+          is).1).prologue in
+          omega (arith, z, s)
+
+      by_fragment : (b : Bool) → is_fragment e.ranges i p ≡ b
+          → IsAnswer e (fragment_fault m begin e.to i p b)
+      by_fragment false q = at_chain (ap (keeps_chain e.ranges i) chained ∙ q)
+      by_fragment true q = subst (λ (x : Info). IsAnswer e (body_from m x
+          (body_of m begin e.to i).is_whole (body_of m begin e.to i).items end [] 0))
+          (ap (primary i) chained)
+          (body_answer le (good_prologue le
+          (λ at h. false≢true (sym h.1 ∙ ap (keeps_chain e.ranges i) chained ∙ q))
+          (λ at h. not_single h.0) (λ at h. not_single h.0))
+          (λ b r at h. record {
+            left = at.done;
+            items = subst (λ k. HasItems m k at.done b) (sym (no_prologue_bytes q)) at.reached;
+          }))
 
   -- ---- all rules
 
@@ -439,41 +474,27 @@ module _ (e : CodeEntry) (rise : e.begin < e.to) (low : e.to < 2 ^ 63) where
       (λ r lt h. absurd (omega (arith, lt)))
 
   by_parents : (ps : List Info) → e.parents ≡ ps
-      → IsAnswer e (entry_fault m e.probe begin e.to i ps)
+      → IsAnswer e (entry_fault m e.probe e.ranges begin e.to i ps)
   unfolding entry_fault
   by_parents [] q = by_decode (codes_fault m e.probe begin e.to i)
       (λ begun. by_codes (inside begun) begun q (keep_codes i (prologue_instrs e)) refl)
       (begins m begin e.to i) refl
-  by_parents (p ∷ ps) q = by_decode (fault begin Chain)
-      (λ begun. at_chain (inside begun) begun (chained q)) (begins m begin e.to i) refl
-    where
-      chained : e.parents ≡ p ∷ ps → e.parents ≢ []
-      chained q z = absurd (differ (sym q ∙ z))
-        where
-          differ : (let qs : List Info = p ∷ ps in qs) ≡ [] → ⊥
-          differ z = cc
+  by_parents (p ∷ ps) q = by_decode (fragment_fault m begin e.to i p (is_fragment e.ranges i p))
+      (λ begun. by_fragment (inside begun) begun p ps q (is_fragment e.ranges i p) refl)
+      (begins m begin e.to i) refl
 
-  pub answer : AreFaults e (entry_fault m e.probe begin e.to i e.parents)
-  answer = go (entry_fault m e.probe begin e.to i e.parents) refl (by_parents e.parents refl)
+  pub answer : AreFaults e (entry_fault m e.probe e.ranges begin e.to i e.parents)
+  answer = go (entry_fault m e.probe e.ranges begin e.to i e.parents) refl
+      (by_parents e.parents refl)
     where
-      go : (o : Option Fault) → entry_fault m e.probe begin e.to i e.parents ≡ o → IsAnswer e o
-          → AreFaults e o
+      go : (o : Option Fault) → entry_fault m e.probe e.ranges begin e.to i e.parents ≡ o
+          → IsAnswer e o → AreFaults e o
       go None q a = a.first
       go (Some f) q a = record {
-        boundary = faults_are_at_boundaries m e.probe begin e.to i e.parents f rise q;
+        boundary = faults_are_at_boundaries m e.probe e.ranges begin e.to i e.parents f rise q;
         fails = a.fails f refl;
         first = a.first;
       }
 
 pub faults_are_first : FaultsAreFirst
 faults_are_first e rise low = answer e rise low
-
--- where no rule fails no fault is given
-pub kept_none : (e : CodeEntry) → e.begin < e.to → e.to < 2 ^ 63 → KeepsRules e
-    → entry_fault e.memory e.probe e.begin e.to e.info e.parents ≡ None
-kept_none e rise low keeps = go (entry_fault e.memory e.probe e.begin e.to e.info e.parents)
-    (faults_are_first e rise low)
-  where
-    go : (o : Option Fault) → AreFaults e o → o ≡ None
-    go None a = refl
-    go (Some f) a = absurd (keeps f.at f.rule a.boundary a.fails)

@@ -3,6 +3,7 @@ use Rattle.std.proofs.Common.{◌≡◌, ℕ, ◌+◌, ◌^◌, ◌<◌, ◌≤�
 use Rattle.std.proofs.lemmas.Bool.{and_from, eq-eqb, le-leb}
 use Rattle.flat_memory.specs.Memory.{Memory}
 use Rattle.eh_tables.specs.declared.code.UnwindCode.{UnwindCode}
+use Rattle.eh_tables.specs.declared.range.RuntimeFunction.{RuntimeFunction}
 use Rattle.eh_tables.specs.Infos.{Info}
 use Rattle.virtual_unwind.specs.Undone.{operations}
 use Rattle.virtual_unwind.specs.Tail.{FetchedInstr}
@@ -27,10 +28,10 @@ use Rattle.unwind_check.proofs.RightBodies.{right_body}
 use Rattle.unwind_check.proofs.RightCodes.{right_registers, at_ends}
 use Rattle.unwind_check.proofs.RightPrologues.{decoded_whole, items_split, turned_onto, right_prologue}
 
-neither : (a b : Option Fault) → a ≡ None → b ≡ None → or_next a b ≡ None
+pub neither : (a b : Option Fault) → a ≡ None → b ≡ None → or_next a b ≡ None
 neither a b p q = ap (λ (o : Option Fault). or_next o b) p ∙ q
 
-passes : (b : Bool) (at : ℕ) (r : Rule) → b ≡ true → unless b at r ≡ None
+pub passes : (b : Bool) (at : ℕ) (r : Rule) → b ≡ true → unless b at r ≡ None
 passes b at r e = ap (λ t. unless t at r) e
 
 module _ (m : Memory) (probe : List ℕ) (begin to : ℕ) (f : FramedFunction) (r : IsRight f)
@@ -139,16 +140,17 @@ module _ (m : Memory) (probe : List ℕ) (begin to : ℕ) (f : FramedFunction) (
       (parts_fault m probe begin to i)
       (passes (is_ordered (operations i.codes)) begin Prologue r.ordered) none_in_parts)
 
-  pub right_faultless : entry_fault m probe begin to i [] ≡ None
+  pub right_faultless : (rs : List RuntimeFunction) → entry_fault m probe rs begin to i [] ≡ None
   unfolding entry_fault
-  right_faultless = neither (unless (begins m begin to i) begin Decode)
+  right_faultless rs = neither (unless (begins m begin to i) begin Decode)
       (codes_fault m probe begin to i)
       (passes (begins m begin to i) begin Decode has_begun) none_in_codes
 
 pub right_functions_keep_rules : RightFunctionsKeepRules
 right_functions_keep_rules e f r =
     subst (AreFaults e)
-    (ap (entry_fault e.memory e.probe e.begin e.to e.info) r.alone
-    ∙ ap (λ (i : Info). entry_fault e.memory e.probe e.begin e.to i []) (sym r.info)
-    ∙ right_faultless e.memory e.probe e.begin e.to f r.right r.there r.probes r.some r.low)
+    (ap (entry_fault e.memory e.probe e.ranges e.begin e.to e.info) r.alone
+    ∙ ap (λ (i : Info). entry_fault e.memory e.probe e.ranges e.begin e.to i []) (sym r.info)
+    ∙ right_faultless e.memory e.probe e.begin e.to f r.right r.there r.probes r.some r.low
+    e.ranges)
     (faults_are_first e r.some r.low)

@@ -1,55 +1,27 @@
 -- The entries of a table that was read whole, one by one.
-use Rattle.std.proofs.Common.{◌≡◌, ℕ, zero, suc, ◌+◌, ◌^◌, ◌<◌, ◌≤◌, Bool, true, false, Option, Some, None, Ok, Err, List, [], ◌∷◌, ◌++◌, length, take, drop, get_or, refl, sym, ap, subst, ◌∙◌, arith}
-use Rattle.std.specs.Prelude.{nat_le, nat_lt, option_map, IfOk, IfNone}
+use Rattle.std.proofs.Common.{◌≡◌, ℕ, zero, suc, ◌+◌, ◌^◌, ◌<◌, ◌≤◌, Option, Some, None, Ok, Err, List, [], ◌∷◌, ◌++◌, length, take, drop, get_or, refl, sym, ap, subst, ◌∙◌, arith, inl, inr}
+use Rattle.std.specs.Prelude.{◌&&◌, option_map, IfOk, IfNone}
 use Rattle.std.specs.Result.{result_ok}
-use Rattle.std.proofs.lemmas.Bool.{ltb-true}
 use Rattle.std.proofs.lemmas.List.Elements.{All-append, All-nil, All-cons}
-use Rattle.flat_memory.specs.Memory.{Memory}
-use Rattle.eh_tables.specs.Words.{Image}
 use Rattle.eh_tables.specs.declared.range.RuntimeFunction.{RuntimeFunction}
 use Rattle.eh_tables.specs.Infos.{Info, info}
 use Rattle.eh_tables.specs.declared.layout.TheConstants.{MOST_PARENTS}
-use Rattle.eh_tables.specs.declared.refusal.TableErr.TheVariants as refusals
-use Rattle.eh_tables.specs.declared.refusal.TableErr.{TableErr}
-use Rattle.seh_num.specs.Answers.{◌>>=◌, unless, prepend}
+use Rattle.seh_num.specs.Answers.{prepend}
 use Rattle.eh_tables.specs.Answer.{Table}
 use Rattle.eh_tables.specs.Tables.{Entry, Tables, entry, entry_at, parents, no_range, end_before, entries, entries_of, TablesAreWhole}
-use Rattle.unwind_check.specs.Faults.{entry_fault, info_fault}
+use Rattle.eh_tables.proofs.KnownInfos.{info_carried}
+use Rattle.unwind_check.specs.declared.rule.Fault.{Fault}
+use Rattle.unwind_check.specs.declared.rule.Rule.TheVariants.{Decode}
+use Rattle.unwind_check.specs.Boundaries.{unless, or_next}
+use Rattle.unwind_check.specs.Chains.{has_range, names_entry, is_secondary, info_named}
+use Rattle.unwind_check.specs.Faults.{begins, fragment_fault, entry_fault, info_fault}
 use Rattle.unwind_check.specs.FailingRules.{AreFaults}
 use Rattle.unwind_check.specs.Verdicts.{ImageCode, entry_in, IsKept, AllAreKept}
 use Rattle.unwind_check.specs.declared.rule.EntryVerdict.{EntryVerdict}
 use Rattle.unwind_check.specs.EntryVerdicts.{IsEntryVerdict, AreEntryVerdicts}
 use Rattle.unwind_check.proofs.FirstFaults.{faults_are_first}
-
-record Split (ts : Tables) (index last : ℕ) (r : RuntimeFunction) (rs : List RuntimeFunction)
-    (es : List Entry) : Type 0 where
-  head : Entry
-  rest : List Entry
-  is : entry ts.image index last r ≡ Ok head
-  others : entries ts.image (index + 1) r.end rs ≡ Ok rest
-  all : es ≡ head ∷ rest
-
-split : (ts : Tables) (index last : ℕ) (r : RuntimeFunction) (rs : List RuntimeFunction)
-    (es : List Entry) → entries ts.image index last (r ∷ rs) ≡ Ok es → Split ts index last r rs es
-split ts index last r rs es h = first (entry ts.image index last r) refl h
-  where
-    second : (e : Entry) (t : Table (List Entry)) → entry ts.image index last r ≡ Ok e
-        → entries ts.image (index + 1) r.end rs ≡ t → prepend e t ≡ Ok es
-        → Split ts index last r rs es
-    second e (Ok rest) is others h = record {
-      head = e;
-      rest = rest;
-      is = is;
-      others = others;
-      all = cc;
-    }
-    second e (Err x) is others h = cc
-
-    first : (t : Table Entry) → entry ts.image index last r ≡ t
-        → (t >>= λ e. prepend e (entries ts.image (index + 1) r.end rs)) ≡ Ok es
-        → Split ts index last r rs es
-    first (Ok e) is h = second e (entries ts.image (index + 1) r.end rs) is refl h
-    first (Err x) is h = cc
+use Rattle.unwind_check.proofs.NamedEntries.{Named, named}
+use Rattle.unwind_check.proofs.ReadEntries.{split, given, is_read}
 
 abbrev end_from : ℕ → List RuntimeFunction → ℕ → ℕ
 end_from last rs zero = last
@@ -70,7 +42,7 @@ entry_is_at : (ts : Tables) (index last : ℕ) (rs : List RuntimeFunction) (es :
     → IsEntryAt es k (entry ts.image j (end_from last rs k) (get_or rs k no_range))
 entry_is_at ts index last [] es k j h lt e = absurd (omega arith)
 entry_is_at ts index last (r ∷ rs) es zero j h lt e =
-    let s = split ts index last r rs es h in
+    let s = split ts.image index last r rs es h in
     let f : j ≡ index = omega arith in
     record {
       entry = s.head;
@@ -79,7 +51,7 @@ entry_is_at ts index last (r ∷ rs) es zero j h lt e =
           ∙ ap (λ (t : List Entry). s.head ∷ t) (sym (ap (drop 1) s.all));
     }
 entry_is_at ts index last (r ∷ rs) es (suc k) j h lt e =
-    let s = split ts index last r rs es h in
+    let s = split ts.image index last r rs es h in
     let rest = entry_is_at ts (index + 1) r.end rs s.rest k j s.others (omega arith)
     (omega arith) in
     record {
@@ -105,105 +77,85 @@ at t k w lt =
       all = s.all;
     }
 
--- ---- what an entry that is read says
-
-record Given {A B : Type 0} (t : Table A) (f : A → Table B) (y : B) : Type 0 where
-  value : A
-  first : t ≡ Ok value
-  then : f value ≡ Ok y
-
-given : {A B : Type 0} (t : Table A) (f : A → Table B) (y : B) → t >>= f ≡ Ok y → Given t f y
-given (Ok x) f y h = record { value = x; first = refl; then = h }
-given (Err e) f y h = cc
-
-holds_then : (b : Bool) (e : TableErr) (u : Unit {0}) → unless b e ≡ Ok u → b ≡ true
-holds_then true e u h = refl
-holds_then false e u h = cc
-
--- its range isn't empty
-some_bytes : (ts : Tables) (index last : ℕ) (r : RuntimeFunction) (e : Entry)
-    → entry ts.image index last r ≡ Ok e → r.begin < r.end
-unfolding entry
-some_bytes ts index last r e h =
-    let one = given (unless (nat_lt r.begin r.end) (refusals.EmptyRange index)) _ e h in
-    ltb-true r.begin r.end (holds_then (nat_lt r.begin r.end) (refusals.EmptyRange index) one.value
-    one.first)
-
--- the range that was read, and the infos above its own
-record IsRead (ts : Tables) (index : ℕ) (r : RuntimeFunction) (e : Entry) : Type 0 where
-  range : e.range ≡ r
-  chain : parents MOST_PARENTS ts.image index e.info.parent ≡ Ok e.parents
-
-is_read : (ts : Tables) (index last : ℕ) (r : RuntimeFunction) (e : Entry)
-    → entry ts.image index last r ≡ Ok e → IsRead ts index r e
-unfolding entry
-is_read ts index last r e h =
-    let one = given (unless (nat_lt r.begin r.end) (refusals.EmptyRange index)) _ e h in
-    let two = given (unless (nat_le last r.begin) (refusals.Unsorted index)) _ e one.then in
-    let three = given (info ts.image index r.unwind_info) _ e two.then in
-    let four = given (parents MOST_PARENTS ts.image index three.value.parent) _ e three.then in
-    go (record { range = r; info = three.value; parents = four.value }) e four.then four.first
-  where
-    go : (d e : Entry) → (let t : Table Entry = Ok d in t) ≡ Ok e
-        → parents MOST_PARENTS ts.image index d.info.parent ≡ Ok d.parents
-        → IsRead ts index d.range e
-    go d e h above =
-        let same : d ≡ e = cc in
-        record {
-          range = ap (λ (x : Entry). x.range) (sym same);
-          chain = subst (λ (x : Entry).
-              parents MOST_PARENTS ts.image index x.info.parent ≡ Ok x.parents) same above;
-        }
-
--- an info says whether it has parents, which is all that the rules ask of them
-by_chain : (m : Memory) (probe : List ℕ) (begin to : ℕ) (i : Info) (image : Image) (index n : ℕ)
-    (o : Option RuntimeFunction) (ps : List Info) → parents n image index o ≡ Ok ps
-    → info_fault m probe begin to i o ≡ entry_fault m probe begin to i ps
-unfolding info_fault entry_fault
-by_chain m probe begin to i image index zero None ps h =
-    let same : [] ≡ ps = cc in ap (entry_fault m probe begin to i) same
-by_chain m probe begin to i image index zero (Some r) ps h = absurd cc
-by_chain m probe begin to i image index (suc n) None ps h =
-    let same : [] ≡ ps = cc in ap (entry_fault m probe begin to i) same
-by_chain m probe begin to i image index (suc n) (Some r) ps h =
-    let first = given (info image index r.unwind_info) _ ps h in
-    go first.value (parents n image index first.value.parent) first.then
-  where
-    go : (j : Info) (t : Table (List Info)) → prepend j t ≡ Ok ps
-        → info_fault m probe begin to i (Some r) ≡ entry_fault m probe begin to i ps
-    go j (Ok rest) h =
-        let same : j ∷ rest ≡ ps = cc in ap (entry_fault m probe begin to i) same
-    go j (Err x) h = absurd cc
-
 -- ---- the rules, entry by entry
+
+one_answer : {x y : Info} → (let t : Table Info = Ok x in t) ≡ Ok y → x ≡ y
+one_answer e = cc
+
+-- the info of the table's entry that an info names is the first of those that it is chained to
+module _ (c : ImageCode) (t : Tables) (w : TablesAreWhole t) (listed : c.ranges ≡ t.ranges)
+    (begin to : ℕ) (i : Info) where
+  abbrev as_read : Option RuntimeFunction → Option Fault
+  as_read o = info_fault c.memory c.probe begin to i o (info_named (entries_of t) o)
+
+  abbrev as_said : List Info → Option Fault
+  as_said ps = entry_fault c.memory c.probe c.ranges begin to i ps
+
+  by_name : (index : ℕ) (r : RuntimeFunction) (p : Info) (ps : List Info) → i.parent ≡ Some r
+      → info t.image index r.unwind_info ≡ Ok p → Named t.image t.ranges (entries_of t) r
+      → as_read (Some r) ≡ as_said (p ∷ ps)
+  unfolding info_fault entry_fault
+  by_name index r p ps is own (inl (has, it)) =
+      let same : it.own ≡ p = one_answer (sym it.read
+      ∙ info_carried t.image index it.index r.unwind_info p own) in
+      ap (info_fault c.memory c.probe begin to i (Some r)) (it.found
+      ∙ ap (λ (x : Info). let o : Option Info = Some x in o) same)
+      ∙ ap (λ b. or_next (unless (begins c.memory begin to i) begin Decode)
+      (fragment_fault c.memory begin to i p (b && is_secondary i p)))
+      (sym (ap (has_range r) listed ∙ has) ∙ ap (names_entry c.ranges) (sym is))
+  by_name index r p ps is own (inr (not_there, none)) =
+      ap (info_fault c.memory c.probe begin to i (Some r)) none
+      ∙ ap (λ b. or_next (unless (begins c.memory begin to i) begin Decode)
+      (fragment_fault c.memory begin to i p (b && is_secondary i p)))
+      (sym (ap (has_range r) listed ∙ not_there) ∙ ap (names_entry c.ranges) (sym is))
+
+  by_chain : (n index : ℕ) (o : Option RuntimeFunction) (ps : List Info) → i.parent ≡ o
+      → parents n t.image index o ≡ Ok ps → as_read o ≡ as_said ps
+  unfolding info_fault entry_fault
+  by_chain zero index None ps is h = let same : [] ≡ ps = cc in ap as_said same
+  by_chain zero index (Some r) ps is h = absurd cc
+  by_chain (suc n) index None ps is h = let same : [] ≡ ps = cc in ap as_said same
+  by_chain (suc n) index (Some r) ps is h =
+      let first = given (info t.image index r.unwind_info) _ ps h in
+      go first.value (parents n t.image index first.value.parent) first.first first.then
+    where
+      go : (j : Info) (u : Table (List Info)) → info t.image index r.unwind_info ≡ Ok j
+          → prepend j u ≡ Ok ps → as_read (Some r) ≡ as_said ps
+      go j (Ok rest) own h =
+          let same : j ∷ rest ≡ ps = cc in
+          by_name index r j rest is own (named t.image t.ranges (entries_of t) r w.whole)
+          ∙ ap as_said same
+      go j (Err x) own h = absurd cc
 
 one_info : {x y : Info} → Some x ≡ Some y → x ≡ y
 one_info e = cc
 
 -- what is said of the entry of an index by its range and its own info
 pub says_of : (c : ImageCode) (t : Tables) (k : ℕ) (r : RuntimeFunction) (i : Info)
-    (v : EntryVerdict) → TablesAreWhole t → k < length t.ranges → r ≡ get_or t.ranges k no_range
+    (v : EntryVerdict) → c.ranges ≡ t.ranges → TablesAreWhole t → k < length t.ranges
+    → r ≡ get_or t.ranges k no_range
     → Some i ≡ option_map (λ e. e.info) (result_ok (entry_at t k)) → r.end < 2 ^ 63
-    → v.begin ≡ r.begin → v.fault ≡ info_fault c.memory c.probe r.begin r.end i i.parent
+    → v.begin ≡ r.begin
+    → v.fault ≡ info_fault c.memory c.probe r.begin r.end i i.parent
+    (info_named (entries_of t) i.parent)
     → IfNone v.fault (i.frame_offset < 2 ^ 8)
     → IfOk (entry_at t k) (λ e. IsEntryVerdict c e v)
-says_of c t k r i v w lt range own low begins fault near =
+says_of c t k r i v listed w lt range own low begins fault near =
     let s = at t k w lt in
     let e = s.entry in
-    let last = end_before t.ranges k in
     let q = get_or t.ranges k no_range in
-    let read = is_read t k last q e s.is in
+    let read = is_read t.image k (end_before t.ranges k) q e s.is in
     let same : i ≡ e.info = one_info (own
     ∙ ap (λ (x : Table Entry). option_map (λ (y : Entry). y.info) (result_ok x)) s.is) in
     let its : r ≡ e.range = range ∙ sym read.range in
     let rise : e.range.begin < e.range.end = subst (λ (p : RuntimeFunction). p.begin < p.end)
-    (sym read.range) (some_bytes t k last q e s.is) in
-    let here : entry_fault c.memory c.probe e.range.begin e.range.end e.info e.parents ≡ v.fault =
-    sym (fault
-    ∙ ap (λ (p : RuntimeFunction). info_fault c.memory c.probe p.begin p.end i i.parent) its
-    ∙ ap (λ (x : Info). info_fault c.memory c.probe e.range.begin e.range.end x x.parent) same
-    ∙ by_chain c.memory c.probe e.range.begin e.range.end e.info t.image k MOST_PARENTS
-    e.info.parent e.parents read.chain) in
+    (sym read.range) read.some in
+    let here : entry_fault c.memory c.probe c.ranges e.range.begin e.range.end e.info e.parents
+    ≡ v.fault = sym (fault
+    ∙ ap (λ (p : RuntimeFunction). as_read c t w listed p.begin p.end i i.parent) its
+    ∙ ap (λ (x : Info). as_read c t w listed e.range.begin e.range.end x x.parent) same
+    ∙ by_chain c t w listed e.range.begin e.range.end e.info MOST_PARENTS k e.info.parent e.parents
+    refl read.chain) in
     subst (λ (x : Table Entry). IfOk x (λ y. IsEntryVerdict c y v)) (sym s.is) (record {
       begin = begins ∙ ap (λ (p : RuntimeFunction). p.begin) its;
       faults = subst (AreFaults (entry_in c e)) here (faults_are_first (entry_in c e) rise
@@ -284,7 +236,7 @@ as_many : (ts : Tables) (index last : ℕ) (rs : List RuntimeFunction) (es : Lis
     → entries ts.image index last rs ≡ Ok es → length es ≡ length rs
 as_many ts index last [] es h = let e : es ≡ [] = cc in ap length e
 as_many ts index last (r ∷ rs) es h =
-    let s = split ts index last r rs es h in
+    let s = split ts.image index last r rs es h in
     ap length s.all ∙ ap (λ k. suc k) (as_many ts (index + 1) r.end rs s.rest s.others)
 
 pub all_keep : (c : ImageCode) (t : Tables) (k : ℕ) → TablesAreWhole t → length t.ranges ≤ k

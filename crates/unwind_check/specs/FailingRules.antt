@@ -1,8 +1,9 @@
 -- The rules on an entry, each by the boundaries at which it fails.
-use Rattle.std.specs.Prelude.{◌≡◌, ◌≢◌, ◌⊎◌, ℕ, ◌+◌, ◌^◌, ◌<◌, ◌≤◌, true, false, List, [], ◌∷◌, length, Option, Some, None}
+use Rattle.std.specs.Prelude.{◌≡◌, ◌⊎◌, ℕ, ◌+◌, ◌^◌, ◌<◌, ◌≤◌, true, false, List, [], ◌∷◌, length, Option, Some, None}
 use Rattle.flat_memory.specs.Memory.{Memory}
 use Rattle.x64_instr.specs.declared.instruction.Instr.{Instr}
 use Rattle.eh_tables.specs.declared.code.UnwindCode.{UnwindCode}
+use Rattle.eh_tables.specs.declared.range.RuntimeFunction.{RuntimeFunction}
 use Rattle.eh_tables.specs.declared.code.UnwindOperation.{UnwindOperation}
 use Rattle.eh_tables.specs.Infos.{Info}
 use Rattle.virtual_unwind.specs.Undone.{operations}
@@ -19,13 +20,15 @@ use Rattle.unwind_check.specs.Boundaries.{IsBoundary}
 use Rattle.unwind_check.specs.Codes.{keep_codes}
 use Rattle.unwind_check.specs.Prologues.{Site, is_probed}
 use Rattle.unwind_check.specs.Bodies.{keeps_stack, keeps_saved}
+use Rattle.unwind_check.specs.Chains.{keeps_chain, primary}
 use Rattle.unwind_check.specs.Faults.{prologue_of, site, entry_fault}
 
--- an entry: the memory of its code, the bytes of the stack probe, its range, its unwind info, and
--- those that it is chained to
+-- an entry: the memory of its code, the bytes of the stack probe, the ranges of its table, its own
+-- range, its unwind info, and those that it is chained to
 pub record CodeEntry : Type 0 where
   pub memory : Memory
   pub probe : List ℕ
+  pub ranges : List RuntimeFunction
   pub begin : ℕ
   pub to : ℕ
   pub info : Info
@@ -35,14 +38,19 @@ pub record CodeEntry : Type 0 where
 abbrev pub body_begin : CodeEntry → ℕ
 body_begin e = e.begin + e.info.prologue_size
 
+-- the info by which its code is judged past the prologue: its own, or in a fragment that of the
+-- function
+abbrev pub primary_of : CodeEntry → Info
+primary_of e = primary e.info e.parents
+
 abbrev pub operations_of : CodeEntry → List UnwindOperation
-operations_of e = operations e.info.codes
+operations_of e = operations (primary_of e).codes
 
 abbrev pub prologue_instrs : CodeEntry → List FetchedInstr
 prologue_instrs e = (prologue_of e.memory e.begin e.to e.info).items
 
 abbrev pub tail_there : CodeEntry → ℕ → Option (List Instr)
-tail_there e at = tail_at e.info.frame_register e.memory at
+tail_there e at = tail_at (primary_of e).frame_register e.memory at
 
 -- ---- Decode
 
@@ -58,7 +66,7 @@ pub record HasInstr (e : CodeEntry) (at : ℕ) : Type 0 where
 abbrev pub FailsDecode : CodeEntry → ℕ → Type 0
 FailsDecode e at = (HasInstr e at → ⊥) ⊎ ((at ≡ e.begin) × (e.to < body_begin e))
 
--- ---- Prologue
+-- ---- Prologue, which isn't asked of an entry that is chained
 
 -- codes in the order of execution and the instructions of a prologue, at a distance from its first
 -- byte, lead to others: past the one instruction of a code, or past the three of an allocation by
@@ -105,7 +113,8 @@ pub record LacksInstr (e : CodeEntry) : Type 0 where
 
 abbrev pub FailsPrologue : CodeEntry → ℕ → Type 0
 FailsPrologue e at =
-    ((at ≡ e.begin) × ((is_ordered (operations_of e) ≡ false) ⊎ LacksInstr e)) ⊎ HasOtherInstr e at
+    ((at ≡ e.begin) × ((is_ordered (operations e.info.codes) ≡ false) ⊎ LacksInstr e))
+    ⊎ HasOtherInstr e at
 
 -- ---- StackWrite and Unsaved
 
@@ -118,7 +127,7 @@ pub record IsOutside (e : CodeEntry) (at : ℕ) (x : FetchedInstr) : Type 0 wher
 pub record FailsStackWrite (e : CodeEntry) (at : ℕ) : Type 0 where
   pub item : FetchedInstr
   pub is : IsOutside e at item
-  pub writes : keeps_stack e.info.frame_register (written item.instr) ≡ false
+  pub writes : keeps_stack (primary_of e).frame_register (written item.instr) ≡ false
 
 pub record FailsUnsaved (e : CodeEntry) (at : ℕ) : Type 0 where
   pub item : FetchedInstr
@@ -132,7 +141,8 @@ abbrev pub loaded_by : CodeEntry → List ℕ → List FetchedInstr → List ℕ
 loaded_by e rs [] = rs
 loaded_by e rs (x ∷ xs) =
     loaded_by e (with_restored rs
-    (restored_by e.info.frame_register e.info.frame_offset (operations_of e) x.instr)) xs
+    (restored_by (primary_of e).frame_register (primary_of e).frame_offset (operations_of e)
+    x.instr)) xs
 
 -- an epilogue of the function from one place up to another: it gives back the allocation and the
 -- pushes, the registers that are saved by movs have been loaded by the instructions straight before
@@ -143,7 +153,8 @@ pub record IsOwnEpilogue (e : CodeEntry) (opening end : ℕ) : Type 0 where
   pub rest : List Instr
   pub there : tail_there e opening ≡ Some rest
   pub restored : are_restored (loaded_by e [] done) (operations_of e) ≡ true
-  pub whole : is_epilogue e.info.frame_register e.info.frame_offset (operations_of e) rest ≡ true
+  pub whole : is_epilogue (primary_of e).frame_register (primary_of e).frame_offset
+      (operations_of e) rest ≡ true
   pub all : List FetchedInstr
   pub ends : HasItems e.memory opening all end
   pub count : length all ≡ length rest
@@ -166,9 +177,10 @@ pub record FailsEpilogue (e : CodeEntry) (at : ℕ) : Type 0 where
 
 abbrev pub Fails : CodeEntry → ℕ → Rule → Type 0
 Fails e at Decode = FailsDecode e at
-Fails e at Chain = (at ≡ e.begin) × (e.parents ≢ [])
-Fails e at Codes = (at ≡ e.begin) × (keep_codes e.info (prologue_instrs e) ≡ false)
-Fails e at Prologue = FailsPrologue e at
+Fails e at Chain = (at ≡ e.begin) × (keeps_chain e.ranges e.info e.parents ≡ false)
+Fails e at Codes =
+    (e.parents ≡ []) × (at ≡ e.begin) × (keep_codes e.info (prologue_instrs e) ≡ false)
+Fails e at Prologue = (e.parents ≡ []) × FailsPrologue e at
 Fails e at StackWrite = FailsStackWrite e at
 Fails e at Unsaved = FailsUnsaved e at
 Fails e at Epilogue = FailsEpilogue e at
@@ -206,4 +218,4 @@ AreFaults e (Some f) = IsLeastFault e f
 abbrev pub FaultsAreFirst : Type 0
 FaultsAreFirst =
     (e : CodeEntry) → e.begin < e.to → e.to < 2 ^ 63
-    → AreFaults e (entry_fault e.memory e.probe e.begin e.to e.info e.parents)
+    → AreFaults e (entry_fault e.memory e.probe e.ranges e.begin e.to e.info e.parents)

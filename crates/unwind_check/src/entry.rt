@@ -4,9 +4,11 @@ ghost use Rattle.std.specs.Prelude.{◌≡◌, ◌≤◌, ◌+◌, ◌<◌, ◌^
 ghost use Rattle.frame_rules.specs.Prologue.{bytes};
 ghost use Rattle.frame_rules.specs.States.{HasItems};
 ghost use Rattle.frame_rules.specs.Validated.{turned};
+ghost use Rattle.unwind_check.specs.Chains as chains;
 ghost use Rattle.unwind_check.specs.Faults as spec;
 
 use crate::body::body_fault;
+use crate::chain::is_secondary;
 use crate::code_order::is_ordered;
 use crate::codes::keep_codes;
 use crate::decoded::{DecodedInstrs, decoded_between, ends};
@@ -109,9 +111,42 @@ fn codes_fault<S: CodeSpace>(
     Ok(Some(Fault { at: begin, rule }))
 }
 
+/// The first fault of an entry that is chained to one with the info `primary`, by whose codes what
+/// follows its prologue is judged, from `middle` on.
+fn fragment_fault<S: CodeSpace>(
+    alloc: Global,
+    space: &S,
+    begin: u64,
+    middle: u64,
+    end: u64,
+    info: &Info,
+    primary: &Info,
+    body: &DecodedInstrs,
+) -> Result<Option<Fault>, AllocError>
+    requires order { middle ≤ end }
+    requires low { end < 2 ^ 63 }
+    requires middle { middle ≡ spec.prologue_end begin end info.now }
+    requires body { body.now ≡ spec.body_of (S.memory space.now) begin end info.now }
+    ensures fault { IfOk result (λ o. o ≡ spec.fragment_fault (S.memory space.now) begin end
+        info.now primary.now (chains.is_secondary info.now primary.now)) }
+    ensures near { info.now.frame_offset < 2 ^ 8 }
+{
+    if !is_secondary(info, primary) {
+        return Ok(Some(Fault {
+            at: begin,
+            rule: Rule::Chain,
+        }));
+    }
+    let all = ordered_codes(alloc, primary)?;
+    let whole = body.is_whole();
+    let items = body.items();
+    body_fault(alloc, space, primary, &all.codes, whole, middle, items)
+}
+
 /// The first fault of an entry: at its first boundary at which a rule fails, the first rule that
-/// does. The entry's code is from `begin` to `end`, `info` is its unwind info, and `probe` has the
-/// bytes of the stack probe. Refused for want of memory alone.
+/// does. The entry's code is from `begin` to `end`, `info` is its unwind info, `named` that of the
+/// table's entry that it is chained to, if there is one, and `probe` has the bytes of the stack
+/// probe. Refused for want of memory alone.
 #[tactic(auto, unfolding(crate::specs::Faults::info_fault))]
 pub fn entry_fault<S: CodeSpace>(
     alloc: Global,
@@ -120,11 +155,13 @@ pub fn entry_fault<S: CodeSpace>(
     begin: u64,
     end: u64,
     info: &Info,
+    named: &Option<Info>,
 ) -> Result<Option<Fault>, AllocError>
     requires begin { begin < 2 ^ 63 }
     requires low { end < 2 ^ 63 }
     ensures fault { IfOk result (λ o. o
-        ≡ spec.info_fault (S.memory space.now) probe.now begin end info.now info.now.parent) }
+        ≡ spec.info_fault (S.memory space.now) probe.now begin end info.now info.now.parent
+        named.now) }
     ensures near { IfOk result (λ o. IfNone o (info.now.frame_offset < 2 ^ 8)) }
 {
     let size = info.prologue_size() as u64;
@@ -147,9 +184,12 @@ pub fn entry_fault<S: CodeSpace>(
         None => codes_fault(
             alloc, space, probe, begin, middle, end, info, &prologue, &body,
         ),
-        Some(_) => Ok(Some(Fault {
-            at: begin,
-            rule: Rule::Chain,
-        })),
+        Some(_) => match named {
+            Some(primary) => fragment_fault(alloc, space, begin, middle, end, info, primary, &body),
+            None => Ok(Some(Fault {
+                at: begin,
+                rule: Rule::Chain,
+            })),
+        },
     }
 }

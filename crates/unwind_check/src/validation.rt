@@ -6,14 +6,15 @@ ghost use Rattle.eh_tables.specs.Tables.{TablesAreWhole, entries_of, entry_at};
 ghost use Rattle.unwind_check.specs.EntryVerdicts.{IsEntryVerdict, AreEntryVerdicts};
 ghost use Rattle.unwind_check.specs.Verdicts.{IsVerdict};
 
+use crate::chain::info_named;
 use crate::entry::entry_fault;
 use crate::rule::{EntryVerdict, Verdict};
 use eh_tables::{Info, Tables};
 use std::alloc::{AllocError, Global};
 use x64_memory::space::CodeSpace;
 
-/// The verdict on the entry of an index, of which `info` is the unwind info. The infos that this is
-/// chained to aren't read, since no rule asks for more than whether there are any.
+/// The verdict on the entry of an index, of which `info` is the unwind info. Of the infos that this
+/// is chained to none is read but that of the table's entry which it names.
 fn entry_verdict<S: CodeSpace>(
     alloc: Global,
     space: &S,
@@ -29,12 +30,14 @@ fn entry_verdict<S: CodeSpace>(
     ensures { IfOk result (λ v. IfOk (entry_at tables.now index) (λ e. IsEntryVerdict (record {
       memory = S.memory space.now;
       probe = probe.now;
+      ranges = tables.now.ranges;
     }) e v)) }
 {
     let range = tables.range(index);
     let begin = range.begin as u64;
     let end = range.end as u64;
-    let fault = entry_fault(alloc, space, probe, begin, end, info)?;
+    let named = info_named(tables, info);
+    let fault = entry_fault(alloc, space, probe, begin, end, info, &named)?;
     Ok(EntryVerdict { begin, fault })
 }
 
@@ -52,6 +55,7 @@ pub fn validate<S: CodeSpace>(
     ensures { IfOk result (λ v. IsVerdict (record {
       memory = S.memory space.now;
       probe = probe.now;
+      ranges = tables.now.ranges;
     }) (entries_of tables.now) v) }
 {
     for index in 0..tables.len() {
@@ -81,6 +85,7 @@ pub fn validate_entries<S: CodeSpace>(
     ensures { IfOk result (λ v. AreEntryVerdicts (record {
       memory = S.memory space.now;
       probe = probe.now;
+      ranges = tables.now.ranges;
     }) (entries_of tables.now) v.items) }
 {
     let mut verdicts = Vec::new(alloc);

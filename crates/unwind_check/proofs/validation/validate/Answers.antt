@@ -19,6 +19,7 @@ returns-in-Some-fault g c =
     let code : ImageCode = record {
       memory = g.S.CodeSpace.memory c.args.space.now;
       probe = c.args.probe.now;
+      ranges = c.args.tables.now.ranges;
     } in
     let t = c.args.tables.now in
     let k = c.loop-index.index in
@@ -40,6 +41,7 @@ loop-index-preserved g c =
     let code : ImageCode = record {
       memory = g.S.CodeSpace.memory c.args.space.now;
       probe = c.args.probe.now;
+      ranges = c.args.tables.now.ranges;
     } in
     let t = c.args.tables.now in
     let k = c.loop-index.index in
@@ -60,6 +62,7 @@ returns g c =
     let code : ImageCode = record {
       memory = g.S.CodeSpace.memory c.args.space.now;
       probe = c.args.probe.now;
+      ranges = c.args.tables.now.ranges;
     } in
     let t = c.args.tables.now in
     let k = c.loop-index.index in

@@ -17,6 +17,7 @@ loop-index-preserved g c =
     let code : ImageCode = record {
       memory = g.S.CodeSpace.memory c.args.space.now;
       probe = c.args.probe.now;
+      ranges = c.args.tables.now.ranges;
     } in
     let t = c.args.tables.now in
     let k = c.loop-index.index in
@@ -36,6 +37,7 @@ returns g c =
     let code : ImageCode = record {
       memory = g.S.CodeSpace.memory c.args.space.now;
       probe = c.args.probe.now;
+      ranges = c.args.tables.now.ranges;
     } in
     let over : length c.args.tables.now.ranges ≤ c.loop-index.index = omega
     (arith, c.loop-index-test.false, c.len-index-end.ensures) in

@@ -7,6 +7,6 @@ abbrev pub invariant-loop-index : goal.invariant-loop-index
 invariant-loop-index g l = record {
   most : l.index ≤ length l.tables.ranges;
   are : AreEntryVerdicts
-      (record { memory = g.S.CodeSpace.memory l.space; probe = l.probe })
+      (record { memory = g.S.CodeSpace.memory l.space; probe = l.probe; ranges = l.tables.ranges })
       (take l.index (entries_of l.tables)) l.verdicts.items;
 }
