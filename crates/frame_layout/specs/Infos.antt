@@ -1,8 +1,9 @@
 -- The unwind info of a frame.
-use Rattle.std.specs.Prelude.{◌≡◌, ℕ, List}
+use Rattle.std.specs.Prelude.{◌≡◌, ℕ, Bool, List, []}
 use Rattle.eh_tables.specs.declared.code.UnwindCode.{UnwindCode}
+use Rattle.eh_tables.specs.declared.range.RuntimeFunction.{RuntimeFunction}
 use Rattle.eh_tables.specs.declared.unwind_info.Trailer.{Trailer}
-use Rattle.eh_tables.specs.declared.unwind_info.Trailer.TheVariants.{Nothing}
+use Rattle.eh_tables.specs.declared.unwind_info.Trailer.TheVariants.{Nothing, Parent}
 use Rattle.eh_tables.specs.declared.unwind_info.UnwindInfo.{UnwindInfo}
 use Rattle.eh_tables.specs.Infos.{Info}
 use Rattle.frame_rules.specs.Prologue.{bytes}
@@ -35,4 +36,15 @@ info_of f trailer = record {
   frame_offset = frame_distance_if f.framed;
   codes = record { items = codes_of f };
   trailer = trailer;
+}
+
+-- the info of code that is apart from the function of a frame, with that function's entry (Microsoft
+-- x64 ABI, "Chained unwind info structures")
+abbrev pub chained_info : Bool → RuntimeFunction → UnwindInfo
+chained_info framed parent = record {
+  prologue_size = 0;
+  frame_register = frame_register_if framed;
+  frame_offset = frame_distance_if framed;
+  codes = record { items = [] };
+  trailer = Parent parent;
 }

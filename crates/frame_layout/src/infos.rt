@@ -8,13 +8,13 @@ ghost use Rattle.frame_rules.specs.Prologue.{bytes};
 ghost use Rattle.frame_layout.specs.Layout.{IsFrame};
 ghost use Rattle.frame_layout.specs.declared.frame.FrameLayout as frames;
 ghost use Rattle.frame_layout.specs.Plans as spec;
-ghost use Rattle.frame_layout.specs.Infos.{info_of, Describes};
+ghost use Rattle.frame_layout.specs.Infos.{info_of, chained_info, Describes};
 
 use crate::frame::FrameLayout;
 use crate::instructions::PROBE_FREE;
 use crate::operations::operations;
 use arrayvec::ArrayVec;
-use eh_tables::{Trailer, UnwindCode, UnwindInfo, UnwindOperation};
+use eh_tables::{RuntimeFunction, Trailer, UnwindCode, UnwindInfo, UnwindOperation};
 use template_code::layout::{FRAME_DISTANCE, FRAME_REGISTER};
 
 /// The bytes of what takes a fixed allocation: SUB with an immediate of 8 or 32 bits, or MOV, CALL
@@ -91,5 +91,20 @@ pub fn unwind_of(frame: &FrameLayout) -> UnwindInfo
         frame_offset: frame_distance(frame.framed),
         codes,
         trailer: Trailer::Nothing,
+    }
+}
+
+/// What unwinding needs to know of code that is apart from the function of a frame: the function's
+/// entry, to which it is chained.
+pub fn chained_of(framed: bool, parent: RuntimeFunction) -> UnwindInfo
+    ensures value { result ≡ chained_info framed parent }
+    ensures written { CanBeWritten result }
+{
+    UnwindInfo {
+        prologue_size: 0,
+        frame_register: frame_register(framed),
+        frame_offset: frame_distance(framed),
+        codes: ArrayVec::new(),
+        trailer: Trailer::Parent(parent),
     }
 }

@@ -15,5 +15,5 @@ mod instructions;
 mod operations;
 
 pub use frame::{Facts, FrameLayout, plan};
-pub use infos::unwind_of;
+pub use infos::{chained_of, unwind_of};
 pub use instructions::{epilogue, probe_end, prologue};

@@ -1,7 +1,11 @@
 -- How many bytes come before a body, and where its instructions are.
-use Rattle.std.proofs.Common.{◌≡◌, ℕ, zero, suc, ◌+◌, ◌*◌, ◌<◌, ◌≤◌, Bool, true, false, cond, ltb, List, [], ◌∷◌, ◌++◌, length, get_or, drop, drop-cons, Option, Some, None, refl, sym, ap, ◌∙◌, arith, append_assoc, length-append}
+use Rattle.std.proofs.Common.{◌≡◌, ℕ, zero, suc, ◌+◌, ◌*◌, ◌<◌, ◌≤◌, Bool, true, false, cond, ltb, List, [], ◌∷◌, ◌++◌, length, get_or, map, take, drop, drop-cons, Option, Some, None, refl, sym, ap, ◌∙◌, arith, append_assoc, length-append}
 use Rattle.std.specs.List.{AllByRecursion}
-use Rattle.image_link.specs.Words.{W32, Local, Instruction, FrameLayout, plan_of, Layout, spelled, size, sizes, template_size, AreNear, IsInstructionNear, IsNear, keep_base, code_room, LinearFunction, prologue_bytes, FitsFrame, RoutineView, function_facts, function_frame, framed, IsFrameNear, IsEntryNear, IsRoutineNear, SiteView, routine_bytes, routines_bytes, room, routine_room, routine_size, bounds, frame_code, base_of, argument_code, entry_code, entry_size}
+use Rattle.std.specs.Prelude.{if◌then◌else◌}
+use Rattle.linear_code.specs.declared.program.LabelRange.{LabelRange}
+use Rattle.template_code.specs.ColdParts.{is_cold}
+use Rattle.template_code.proofs.ColdParts.{sides_sum}
+use Rattle.image_link.specs.Words.{W32, Local, Instruction, FrameLayout, plan_of, Layout, spelled, size, sizes, template_size, AreNear, IsInstructionNear, IsNear, keep_base, code_room, LinearFunction, prologue_bytes, FitsFrame, RoutineView, function_facts, function_frame, framed, IsFrameNear, IsEntryNear, IsRoutineNear, SiteView, routine_bytes, routines_bytes, apart_bytes, all_apart_bytes, room, routine_room, routine_size, cold_size, total, cold_total, bounds, frame_code, base_of, argument_code, entry_code, entry_size}
 use Rattle.x64_instr.specs.declared.instruction.Instr.{Instr}
 use Rattle.seh_num.specs.declared.width.Width.TheVariants.{W64}
 use Rattle.x64_instr.specs.declared.register.Reg.{Reg}
@@ -122,18 +126,33 @@ entry_small r near =
 
 -- ---- bodies
 
-pub labels_near : (y : Layout) (at : ℕ) (body : List Instruction)
-    → AllByRecursion (IsInstructionNear y) body → IsNear (at + code_room body)
-    → AreNear (label_list y at body)
-labels_near y at [] near lt = tt
-labels_near y at (i ∷ is) near lt = let s = instruction_in_room y i near.0 in
-    (omega arith, labels_near y (at + template_size y i) is near.1 (omega arith))
+pub labels_near : (y : Layout) (rs : List LabelRange) (at hot cold : ℕ) (body : List Instruction)
+    → AllByRecursion (IsInstructionNear y) body → IsNear (hot + code_room body)
+    → IsNear (cold + code_room body) → AreNear (label_list y rs at hot cold body)
+labels_near y rs at hot cold [] near lt lt' = tt
+labels_near y rs at hot cold (i ∷ is) near lt lt' =
+    let s = instruction_in_room y i near.0 in
+    by (is_cold rs at) (labels_near y rs (suc at) hot (cold + template_size y i) is near.1
+    (omega arith) (omega arith))
+    (labels_near y rs (suc at) (hot + template_size y i) cold is near.1 (omega arith) (omega arith))
+  where
+    by : (b : Bool)
+        → AreNear (label_list y rs (suc at) hot (cold + template_size y i) is)
+        → AreNear (label_list y rs (suc at) (hot + template_size y i) cold is)
+        → AreNear (if b then cold ∷ label_list y rs (suc at) hot (cold + template_size y i) is
+        else hot ∷ label_list y rs (suc at) (hot + template_size y i) cold is)
+    by true a b = (omega arith, a)
+    by false a b = (omega arith, b)
 
 -- ---- routines
 
-pub routine_small : (r : RoutineView) → IsRoutineNear r → routine_size r ≤ routine_room r
-routine_small r near = let e = entry_small r near in
-    let b = code_in_room r.layout r.body.code near.code in omega arith
+pub routine_small : (r : RoutineView) → IsRoutineNear r
+    → routine_size r + cold_size r + 215 ≤ routine_room r
+routine_small r near =
+    let e = entry_small r near in
+    let b = code_in_room r.layout r.body.code near.code in
+    let s = sides_sum r.layout r.body.cold 0 r.body.code in
+    omega arith
 
 after : (i : ℕ) → suc i ≡ i + 1
 after i = omega arith
@@ -142,6 +161,21 @@ pub room_next : (rs : List RoutineView) (i : ℕ) (d : RoutineView) → i < leng
     → room (drop i rs) ≡ routine_room (get_or rs i d) + room (drop (i + 1) rs)
 room_next rs i d lt = ap room (drop-cons rs i d lt)
     ∙ ap (λ (n : ℕ). routine_room (get_or rs i d) + room (drop n rs)) (after i)
+
+pub entries_next : (rs : List RoutineView) (i : ℕ) (d : RoutineView) → i < length rs
+    → map entry_size (drop i rs) ≡ entry_size (get_or rs i d) ∷ map entry_size (drop (i + 1) rs)
+entries_next rs i d lt = ap (map entry_size) (drop-cons rs i d lt)
+    ∙ ap (λ (n : ℕ). entry_size (get_or rs i d) ∷ map entry_size (drop n rs)) (after i)
+
+pub total_next : (rs : List RoutineView) (i : ℕ) (d : RoutineView) → i < length rs
+    → total (drop i rs) ≡ routine_size (get_or rs i d) + total (drop (i + 1) rs)
+total_next rs i d lt = ap total (drop-cons rs i d lt)
+    ∙ ap (λ (n : ℕ). routine_size (get_or rs i d) + total (drop n rs)) (after i)
+
+pub cold_total_next : (rs : List RoutineView) (i : ℕ) (d : RoutineView) → i < length rs
+    → cold_total (drop i rs) ≡ cold_size (get_or rs i d) + cold_total (drop (i + 1) rs)
+cold_total_next rs i d lt = ap cold_total (drop-cons rs i d lt)
+    ∙ ap (λ (n : ℕ). cold_size (get_or rs i d) + cold_total (drop n rs)) (after i)
 
 pub bounds_next : (at : ℕ) (rs : List RoutineView) (i : ℕ) (d : RoutineView) → i < length rs
     → bounds at (drop i rs) ≡ at ∷ bounds (at + routine_size (get_or rs i d)) (drop (i + 1) rs)
@@ -161,13 +195,45 @@ entry_alone at check r old new near none e =
       sizes_spelled (entry_code at check r),
     )
 
-pub text_next : (s : SiteView) (at : ℕ) (rs : List RoutineView) (i : ℕ) (d : RoutineView)
-    → i < length rs → routines_bytes s at (drop i rs)
-    ≡ routine_bytes s at (get_or rs i d) ++ routines_bytes s (at + routine_size (get_or rs i d))
+pub text_next : (s : SiteView) (at cold : ℕ) (rs : List RoutineView) (i : ℕ) (d : RoutineView)
+    → i < length rs → routines_bytes s at cold (drop i rs)
+    ≡ routine_bytes s at cold (get_or rs i d)
+    ++ routines_bytes s (at + routine_size (get_or rs i d)) (cold + cold_size (get_or rs i d))
     (drop (i + 1) rs)
-text_next s at rs i d lt = ap (routines_bytes s at) (drop-cons rs i d lt)
-    ∙ ap (λ (n : ℕ). routine_bytes s at (get_or rs i d)
-    ++ routines_bytes s (at + routine_size (get_or rs i d)) (drop n rs)) (after i)
+text_next s at cold rs i d lt = ap (routines_bytes s at cold) (drop-cons rs i d lt)
+    ∙ ap (λ (n : ℕ). routine_bytes s at cold (get_or rs i d)
+    ++ routines_bytes s (at + routine_size (get_or rs i d)) (cold + cold_size (get_or rs i d))
+    (drop n rs)) (after i)
+
+pub apart_next : (s : SiteView) (at cold : ℕ) (rs : List RoutineView) (i : ℕ) (d : RoutineView)
+    → i < length rs → all_apart_bytes s at cold (drop i rs)
+    ≡ apart_bytes s at cold (get_or rs i d)
+    ++ all_apart_bytes s (at + routine_size (get_or rs i d)) (cold + cold_size (get_or rs i d))
+    (drop (i + 1) rs)
+apart_next s at cold rs i d lt = ap (all_apart_bytes s at cold) (drop-cons rs i d lt)
+    ∙ ap (λ (n : ℕ). apart_bytes s at cold (get_or rs i d)
+    ++ all_apart_bytes s (at + routine_size (get_or rs i d)) (cold + cold_size (get_or rs i d))
+    (drop n rs)) (after i)
+
+-- where the cold parts of a routine begin among those of all
+abbrev pub cold_after : ℕ → List RoutineView → ℕ → ℕ
+cold_after cold rs i = cold + cold_total (take i rs)
+
+pub cold_after_next : (cold : ℕ) (rs : List RoutineView) (i : ℕ) (d : RoutineView) → i < length rs
+    → cold_after cold rs (i + 1) ≡ cold_after cold rs i + cold_size (get_or rs i d)
+cold_after_next cold rs i d lt = let s = sum rs i lt in
+    ap (λ (n : ℕ). cold + cold_total (take n rs)) (sym (after i))
+    ∙ (let e : cold + cold_total (take (suc i) rs)
+    ≡ cold + cold_total (take i rs) + cold_size (get_or rs i d) = omega arith in e)
+  where
+    sum : (rs : List RoutineView) (i : ℕ) → i < length rs
+        → cold_total (take (suc i) rs) ≡ cold_total (take i rs) + cold_size (get_or rs i d)
+    sum [] i lt = absurd (omega arith)
+    sum (r ∷ rs) zero lt = omega arith
+    sum (r ∷ rs) (suc i) lt = let s = sum rs i (omega arith) in omega arith
+
+pub cold_after_first : (cold : ℕ) (rs : List RoutineView) → cold_after cold rs 0 ≡ cold
+cold_after_first cold rs = omega arith
 
 -- what is whole grows by the first part of what is to come
 pub appended : {A : Type 0} (old new whole a more all : List A) → new ≡ old ++ a → all ≡ a ++ more

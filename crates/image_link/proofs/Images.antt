@@ -4,15 +4,15 @@ use Rattle.std.proofs.Common.{◌≡◌, ℕ, zero, suc, ◌+◌, ◌-◌, ◌*�
 use Rattle.std.specs.Prelude.{◌&&◌, IfOk}
 use Rattle.std.specs.List.{AllByRecursion}
 use Rattle.std.proofs.lemmas.Bool.{eq-eqb}
-use Rattle.image_link.specs.Words.{ImportedService, LinearBody, LinearFunction, LinearFunclet, LinearProgram, CanBeImage, ImageContents, RoutineView, is_leaf, framed, leaf_if, functions_from, funclet, no_function, function_of_index, routines, IsRoutineNear, IsSiteNear, AreFew, HasRoom, HasNames, HasPlaces, table_bytes, SiteView, room, routine_size, bounds, first_routine_at, text_bytes, infos_room, infos, ranges, first, total, text_size, xdata_begin, IsPlacement, site, image_of, NameRow, names_size, name_table_size, calls_walk, named_if, named_functions, function_rows, names_room, services_of, linked, FitsProgram, tables_room, function_bodies, funclet_bodies, program_tables_room}
-use Rattle.image_link.proofs.Lemmas.{code_in_room}
+use Rattle.image_link.specs.Words.{ImportedService, LinearBody, LinearFunction, LinearFunclet, LinearProgram, CanBeImage, ImageContents, RoutineView, is_leaf, framed, leaf_if, functions_from, funclet, no_function, function_of_index, routines, IsRoutineNear, IsSiteNear, AreFew, HasRoom, HasNames, HasPlaces, table_bytes, SiteView, room, routine_size, bounds, first_routine_at, text_bytes, infos_room, all_infos, all_ranges, first, first_cold, names_of, total, cold_size, xdata_begin, IsPlacement, site, image_of, nothing, CodeRange, parts_at, part_rows, cold_rows, NameRow, names_size, name_table_size, calls_walk, named_if, named_functions, function_rows, names_room, services_of, linked, FitsProgram, tables_room, function_bodies, funclet_bodies, program_tables_room}
 use Rattle.image_link.specs.declared.placement.Placement.{Placement}
 use Rattle.image_link.specs.declared.routine.Entry.TheVariants as entries
 use Rattle.image_link.specs.Laws.{ImagesAreSmall}
-use Rattle.image_link.proofs.Entries.{entry_small, framed_some}
+use Rattle.image_link.proofs.Entries.{framed_some}
 use Rattle.image_link.proofs.Front.{imports_small, services_few}
 use Rattle.image_link.proofs.Nearness.{function_facts_fit, function_at, routines_near, routines_room}
-use Rattle.image_link.proofs.Bounds.{bounds_length, bounds_end, bounds_least, bounds_below, total_small, bounds_near, take_near, drop_near, text_length, infos_length, tables_small, count_small}
+use Rattle.image_link.proofs.Infos.{parts_length}
+use Rattle.image_link.proofs.Bounds.{bounds_length, bounds_least, bounds_below, total_small, bounds_near, take_near, drop_near, text_length, cold_count, cold_count_taken, all_infos_length, tables_small, count_small}
 use Rattle.seh_num.specs.declared.limit.TheConstants.{MOST_GLOBALS}
 
 pub if_ok : {A E : Type 0} (P Q : A → Type 0) (r : Result A E) → ((x : A) → P x → Q x) → IfOk r P
@@ -30,12 +30,6 @@ pub past : (b : List ℕ) (at : ℕ) (rs : List RoutineView) (i text : ℕ) → 
     → i ≤ length rs → text ≤ at → text ≤ get_or b i 0
 past b at rs i text e le lt = let l = bounds_least at rs i 0 le in
     let s = ap (λ (xs : List ℕ). get_or xs i 0) e in omega arith
-
-pub text_between : (imports : List ImportedService) (b : List ℕ) (at text : ℕ)
-    (rs : List RoutineView) → b ≡ bounds at rs → at ≡ first_routine_at imports text
-    → get_or b (length rs) 0 - text ≡ text_size imports rs
-text_between imports b at text rs e is = let l = bounds_end at rs 0 in
-    let s = ap (λ (xs : List ℕ). get_or xs (length rs) 0) e in omega arith
 
 pub site_near : (imports : List ImportedService) (g : List ℕ) (rs : List RoutineView)
     (functions main : ℕ) → AreFew imports → length g ≤ MOST_GLOBALS
@@ -59,10 +53,44 @@ rows_small : (index : ℕ) (b : List ℕ) (fs : List LinearFunction)
 rows_small index b [] = refl
 rows_small index b (f ∷ fs) = let r = rows_small (index + 1) b fs in omega arith
 
-table_small : (index : ℕ) (b : List ℕ) (fs : List LinearFunction)
-    → name_table_size (function_rows index b fs) ≤ 4 + names_room fs
-table_small index b [] = omega arith
-table_small index b (f ∷ fs) = let r = rows_small index b (f ∷ fs) in omega arith
+-- those of cold parts have no name
+part_rows_small : (number : ℕ) (ps : List CodeRange)
+    → 16 * length (part_rows number ps) + names_size (part_rows number ps) ≡ 17 * length ps
+part_rows_small number [] = refl
+part_rows_small number (p ∷ ps) = let r = part_rows_small number ps in omega arith
+
+names_both : (a b : List NameRow) → names_size (a ++ b) ≡ names_size a + names_size b
+names_both [] b = omega arith
+names_both (r ∷ a) b = let n = names_both a b in omega arith
+
+cold_rows_small : (number cold : ℕ) (rs : List RoutineView)
+    → 16 * length (cold_rows number cold rs) + names_size (cold_rows number cold rs)
+    ≡ 17 * cold_count rs
+cold_rows_small number cold [] = refl
+cold_rows_small number cold (r ∷ rs) =
+    let first = part_rows number (parts_at cold r) in
+    let more = cold_rows (number + 1) (cold + cold_size r) rs in
+    let p = part_rows_small number (parts_at cold r) in
+    let l = parts_length cold r in
+    let c = cold_rows_small (number + 1) (cold + cold_size r) rs in
+    omega (arith, length-append first more, names_both first more)
+
+table_by : (rows : List NameRow)
+    → name_table_size rows ≤ 4 + (16 * length rows + names_size rows)
+table_by [] = omega arith
+table_by (r ∷ rs) = omega arith
+
+table_small : (imports : List ImportedService) (g : List ℕ) (rs : List RoutineView)
+    (named : List LinearFunction)
+    → name_table_size (names_of imports g rs named) ≤ 4 + names_room named + 17 * cold_count rs
+table_small imports g rs named =
+    let own = function_rows 0 (bounds (first imports g) rs) named in
+    let apart = cold_rows 1 (first_cold imports g rs) (take (length named) rs) in
+    let a = rows_small 0 (bounds (first imports g) rs) named in
+    let b = cold_rows_small 1 (first_cold imports g rs) (take (length named) rs) in
+    let c = cold_count_taken (length named) rs in
+    let t = table_by (own ++ apart) in
+    omega (arith, length-append own apart, names_both own apart)
 
 -- the tables end below 2^31
 pub tables_fit : (imports : List ImportedService) (g : List ℕ) (rs : List RoutineView)
@@ -83,10 +111,12 @@ is_program imports g rs functions main named services few near places names d =
     let t = total_small rs near in
     let r = names.room in
     let n = count_small rs in
-    let table = table_small 0 (bounds (first imports g) rs) named in
+    let at = first imports g in
+    let cold = first_cold imports g rs in
+    let table = table_small imports g rs named in
     let text = text_length s rs near in
-    let xdata = infos_length s (first imports g) rs near in
-    let pdata = tables_small s (xdata_begin imports g rs) (first imports g) rs in
+    let xdata = all_infos_length s (xdata_begin imports g rs) at cold rs near in
+    let pdata = tables_small s (xdata_begin imports g rs) at cold rs in
     let some = places.some d in
     let below = bounds_below (first imports g) rs main 0 d places.there in
     record {
@@ -131,8 +161,10 @@ module _ (imports : List ImportedService) (g b : List ℕ) (rs : List RoutineVie
 
   pub image_is : (main entry at : ℕ) (text xdata pdata : List ℕ) (rows : List NameRow)
       (named : List LinearFunction) → entry ≡ get_or b main 0 - p.text
-      → at ≡ first_routine_at imports p.text → text ≡ text_bytes s rs → xdata ≡ infos s at rs
-      → pdata ≡ table_bytes (ranges s p.xdata at rs) → rows ≡ function_rows 0 b named
+      → at ≡ first_routine_at imports p.text → text ≡ text_bytes s rs
+      → xdata ≡ all_infos s p.xdata at (at + total rs) rs
+      → pdata ≡ table_bytes (all_ranges s p.xdata at (at + total rs) rs)
+      → rows ≡ names_of imports g rs named
       → record {
         imports = imports;
         data_size = p.data_size;
@@ -151,16 +183,10 @@ module _ (imports : List ImportedService) (g b : List ℕ) (rs : List RoutineVie
       let text' = k ∙ ap (λ (s : SiteView). text_bytes s rs) site_is in
       let entry' = n ∙ ap (λ (xs : List ℕ). get_or xs main 0 - p.text) between
       ∙ ap (λ (n : ℕ). get_or (bounds (first imports g) rs) main 0 - n) begin in
-      let xdata' = i ∙ ap (λ (n : ℕ). infos s n rs) e
-      ∙ ap (λ (s : SiteView). infos s (first_routine_at imports p.text) rs) site_is
-      ∙ ap (λ (n : ℕ). infos of (first_routine_at imports n) rs) begin in
-      let pdata' = q ∙ ap (λ (n : ℕ). table_bytes (ranges s p.xdata n rs)) e
-      ∙ ap (λ (s : SiteView). table_bytes
-      (ranges s p.xdata (first_routine_at imports p.text) rs)) site_is
-      ∙ ap (λ (n : ℕ). table_bytes (ranges of n (first_routine_at imports p.text) rs)) table
-      ∙ ap (λ (n : ℕ). table_bytes
-      (ranges of (xdata_begin imports g rs) (first_routine_at imports n) rs)) begin in
-      let rows' = w ∙ ap (λ (xs : List ℕ). function_rows 0 xs named) between in
+      let here = e ∙ ap (first_routine_at imports) begin in
+      let xdata' = i ∙ (λ j. all_infos (site_is j) (table j) (here j) (here j + total rs) rs) in
+      let pdata' = q ∙ (λ j. table_bytes (all_ranges (site_is j) (table j) (here j)
+      (here j + total rs) rs)) in
       λ i. record {
         imports = imports;
         data_size = d i;
@@ -169,7 +195,7 @@ module _ (imports : List ImportedService) (g b : List ℕ) (rs : List RoutineVie
         entry = entry' i;
         xdata = xdata' i;
         pdata = pdata' i;
-        names = rows' i;
+        names = w i;
       }
 
 abbrev pub no_routine : RoutineView
@@ -190,7 +216,7 @@ no_routine = record {
     saves = 0;
     framed = false;
   };
-  body = record { locals = 0; temporaries = 0; passed = 0; code = []; regions = [] };
+  body = nothing;
 }
 
 -- ---- programs
@@ -234,8 +260,9 @@ functions_tables : (main index : ℕ) (fs : List LinearFunction)
 functions_tables main index [] = refl
 functions_tables main index (f ∷ fs) =
     let r = functions_tables main (suc index) fs in
-    let s = ap (λ (b : LinearBody). length b.regions)
-    (same_body (not (index == main) && is_leaf f) f) in
+    let same = same_body (not (index == main) && is_leaf f) f in
+    let s = ap (λ (b : LinearBody). length b.regions) same in
+    let t = ap (λ (b : LinearBody). length b.cold) same in
     omega arith
 
 funclets_tables : (p : LinearProgram) (fs : List LinearFunclet)
@@ -300,16 +327,6 @@ pub linked_is : (p : LinearProgram) (image : ImageContents) (imports : List Impo
 linked_is p image imports g rs functions main named e i n r f m a =
     e ∙ (λ k. image_of (i k) (n k) (r k) (f k) (m k) (a k))
 
--- its entries take no more than what no entry of a routine needs of its room
-entries_small : (rs : List RoutineView) → AllByRecursion IsRoutineNear rs
-    → total rs + 12 * length rs ≤ room rs
-entries_small [] near = omega arith
-entries_small (r ∷ rs) near =
-    let e = entry_small r near.0 in
-    let b = code_in_room r.layout r.body.code near.0.code in
-    let t = entries_small rs near.1 in
-    omega arith
-
 -- the image of a program that fits takes at most 256 MiB
 pub images_are_small : ImagesAreSmall
 images_are_small p fits =
@@ -319,14 +336,16 @@ images_are_small p fits =
     let near = routines_near p fits in
     let s = site imports g rs (length p.functions) in
     let tables = imports_small imports (services_few p) in
-    let t = entries_small rs near in
+    let t = total_small rs near in
+    let at = first imports g in
+    let cold = first_cold imports g rs in
     let v = routines_room p in
     let u = tables_are p in
     let few = fits.globals in
     let small = fits.small in
     let names = named_within (calls_walk p) p.functions in
-    let table = table_small 0 (bounds (first imports g) rs) (named_functions p) in
+    let table = table_small imports g rs (named_functions p) in
     let text = text_length s rs near in
-    let xdata = infos_length s (first imports g) rs near in
-    let pdata = tables_small s (xdata_begin imports g rs) (first imports g) rs in
+    let xdata = all_infos_length s (xdata_begin imports g rs) at cold rs near in
+    let pdata = tables_small s (xdata_begin imports g rs) at cold rs in
     omega arith

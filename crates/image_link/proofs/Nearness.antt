@@ -130,6 +130,7 @@ leaf_near f fits =
       entry = (few, record { locals = omega arith; stack = omega arith });
       code = code_near (leaf_layout f) f.body f.body.code low fits.body fits.body.code;
       regions = fits.body.regions;
+      cold = fits.body.cold;
     }
 
 framed_near : (f : LinearFunction) → FitsFunction f → IsRoutineNear (framed f)
@@ -153,6 +154,7 @@ framed_near f fits =
       entry = (few, record { locals = omega arith; stack = omega arith });
       code = code_near y f.body f.body.code low fits.body fits.body.code;
       regions = fits.body.regions;
+      cold = fits.body.cold;
     }
 
 function_near : (b : Bool) (f : LinearFunction) → FitsFunction f → IsRoutineNear (leaf_if b f)
@@ -233,6 +235,7 @@ funclet_near p f fits h =
       entry = entry_near p f f.kind fits h h.kind;
       code = code_near y f.body f.body.code (funclet_low p f fits h) h.body h.body.code;
       regions = h.body.regions;
+      cold = h.body.cold;
     }
 
 funclets_near : (p : LinearProgram) (fs : List LinearFunclet) → FitsProgram p

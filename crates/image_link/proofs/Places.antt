@@ -1,16 +1,32 @@
 -- The places of routines, one after another.
-use Rattle.std.proofs.Common.{◌≡◌, ℕ, suc, ◌+◌, ◌<◌, List, ◌∷◌, length, get_or, drop, drop-cons, length-drop, sym, ap, ◌∙◌, arith}
-use Rattle.image_link.specs.Words.{RoutineView, place_at, places_from, routine_size}
+use Rattle.std.proofs.Common.{◌≡◌, ℕ, zero, suc, ◌+◌, ◌<◌, List, [], ◌∷◌, length, get_or, map, take, drop, drop-cons, length-drop, refl, sym, ap, ◌∙◌, arith}
+use Rattle.image_link.specs.Words.{RoutineView, parts_at, place_at, places_from, parts_from, parts_of, routine_size, cold_size}
 
 after : (i : ℕ) → suc i ≡ i + 1
 after i = omega arith
 
-pub places_next : (at : ℕ) (rs : List RoutineView) (i : ℕ) (d : RoutineView) → i < length rs
-    → places_from at (drop i rs) ≡ place_at at (get_or rs i d)
-    ∷ places_from (at + routine_size (get_or rs i d)) (drop (i + 1) rs)
-places_next at rs i d lt = ap (places_from at) (drop-cons rs i d lt)
-    ∙ ap (λ (n : ℕ). place_at at (get_or rs i d)
-    ∷ places_from (at + routine_size (get_or rs i d)) (drop n rs)) (after i)
+pub places_next : (at cold : ℕ) (rs : List RoutineView) (i : ℕ) (d : RoutineView) → i < length rs
+    → places_from at cold (drop i rs) ≡ place_at at cold (get_or rs i d)
+    ∷ places_from (at + routine_size (get_or rs i d)) (cold + cold_size (get_or rs i d))
+    (drop (i + 1) rs)
+places_next at cold rs i d lt = ap (places_from at cold) (drop-cons rs i d lt)
+    ∙ ap (λ (n : ℕ). place_at at cold (get_or rs i d)
+    ∷ places_from (at + routine_size (get_or rs i d)) (cold + cold_size (get_or rs i d))
+    (drop n rs)) (after i)
+
+pub places_count : (at cold : ℕ) (rs : List RoutineView)
+    → length (places_from at cold rs) ≡ length rs
+places_count at cold [] = refl
+places_count at cold (r ∷ rs) =
+    let c = places_count (at + routine_size r) (cold + cold_size r) rs in omega arith
+
+-- the cold parts of the first of them
+pub parts_are : (n at cold : ℕ) (rs : List RoutineView)
+    → map parts_of (take n (places_from at cold rs)) ≡ parts_from cold (take n rs)
+parts_are zero at cold rs = refl
+parts_are (suc n) at cold [] = refl
+parts_are (suc n) at cold (r ∷ rs) =
+    ap (λ ps. parts_at cold r ∷ ps) (parts_are n (at + routine_size r) (cold + cold_size r) rs)
 
 -- ---- a list whose rest has a first element
 

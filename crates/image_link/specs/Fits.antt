@@ -1,6 +1,6 @@
 -- Programs that can be linked: the limits that keep every frame and the image within the largest
 -- ones (own).
-use Rattle.std.specs.Prelude.{ℕ, ◌+◌, ◌*◌, ◌/◌, ◌^◌, ◌<◌, ◌≤◌, List, [], ◌∷◌, length}
+use Rattle.std.specs.Prelude.{◌≡◌, false, ℕ, ◌+◌, ◌*◌, ◌/◌, ◌^◌, ◌<◌, ◌≤◌, List, [], ◌∷◌, length}
 use Rattle.std.specs.List.{AllByRecursion}
 use Rattle.seh_num.specs.declared.limit.TheConstants.{MOST_PARAMETERS, MOST_GLOBALS}
 use Rattle.linear_code.specs.declared.slot.Slot.{Slot}
@@ -11,6 +11,7 @@ use Rattle.linear_code.specs.declared.program.FuncletKind.{FuncletKind}
 use Rattle.linear_code.specs.declared.program.FuncletKind.TheVariants.{Filter, Finally}
 use Rattle.linear_code.specs.Program.{LinearBody, LinearFunction, LinearFunclet, LinearProgram, weight}
 use Rattle.template_code.specs.declared.layout.TheConstants.{MOST_REGISTERS, FRAME_BY_WEIGHT, MOST_WEIGHT}
+use Rattle.template_code.specs.ColdParts.{AreParts, is_cold}
 use Rattle.x64_emit.specs.Near.{IsFieldNear}
 use Rattle.x64_emit.specs.Rooms.{code_room}
 use Rattle.image_link.specs.Routines.{HasParent}
@@ -51,11 +52,14 @@ pub record FitsBody (b : LinearBody) : Type 0 where
   pub code : AllByRecursion (FitsInstruction b) b.code
   -- the bytes of their scope records
   pub regions : 16 * length b.regions ≤ MOST_IMAGE
+  -- its cold parts are apart
+  pub cold : AreParts 0 b.cold (length b.code)
 
 pub record FitsFunction (f : LinearFunction) : Type 0 where
   pub parameters : f.parameters ≤ MOST_PARAMETERS
   pub registers : length f.registers ≤ MOST_REGISTERS
   pub some : 0 < length f.body.code
+  pub first : is_cold f.body.cold 0 ≡ false
   pub weight : weight f ≤ MOST_WEIGHT
   pub words : f.body.passed + f.body.temporaries + f.body.locals
       ≤ most_words + words_by_weight * f.surplus
@@ -86,10 +90,11 @@ abbrev pub funclet_bodies : List LinearFunclet → List LinearBody
 funclet_bodies [] = []
 funclet_bodies (f ∷ fs) = f.body ∷ funclet_bodies fs
 
--- how many bytes their unwind infos and scope tables take at most
+-- how many bytes their unwind infos and scope tables take at most, with what tables have for cold
+-- parts: a chained info, an entry, and a row in the table of names
 abbrev pub tables_room : List LinearBody → ℕ
 tables_room [] = 0
-tables_room (b ∷ bs) = 64 + 16 * length b.regions + tables_room bs
+tables_room (b ∷ bs) = 64 + 16 * length b.regions + 45 * length b.cold + tables_room bs
 
 abbrev pub text_room : LinearProgram → ℕ
 text_room p = room (function_bodies p.functions) + room (funclet_bodies p.funclets)

@@ -1,8 +1,9 @@
--- The image of a program: the services that it imports, its globals, its routines, their tables,
--- and the names of its functions.
-use Rattle.std.specs.Prelude.{◌≡◌, ℕ, ◌+◌, ◌-◌, List, [], ◌∷◌, length, get_or, max, take, drop}
+-- The image of a program: the services that it imports, its globals, its routines and their cold
+-- parts, their tables, and the names of its functions.
+use Rattle.std.specs.Prelude.{◌≡◌, ℕ, ◌+◌, ◌-◌, List, ◌++◌, length, get_or, max, take, drop}
 use Rattle.host_layout.specs.declared.range.TheConstants.{DATA_AT}
 use Rattle.eh_tables.specs.Written.{table_bytes}
+use Rattle.pe_write.specs.NameTable.{NameRow}
 use Rattle.pe_write.specs.Program.{ImageContents, rdata_after, xdata_after}
 use Rattle.pe_write.specs.Written.{pages}
 use Rattle.linear_code.specs.Program.{LinearFunction, LinearProgram}
@@ -10,9 +11,9 @@ use Rattle.host_layout.specs.declared.imported.ImportedService.{ImportedService}
 use Rattle.pe_write.specs.ImportTables.{tables_size}
 use Rattle.image_link.specs.declared.placement.Placement.{Placement}
 use Rattle.image_link.specs.Routines.{RoutineView, routines}
-use Rattle.image_link.specs.Text.{SiteView, routine_size, bounds, front_size, first_routine_at, text_bytes}
-use Rattle.image_link.specs.Tables.{infos, ranges}
-use Rattle.image_link.specs.Walks.{services_of, named_functions, function_rows}
+use Rattle.image_link.specs.Text.{SiteView, total, cold_total, bounds, front_size, first_routine_at, text_bytes}
+use Rattle.image_link.specs.Tables.{all_infos, all_ranges}
+use Rattle.image_link.specs.Walks.{services_of, named_functions, function_rows, cold_rows}
 
 -- ---- where things are
 
@@ -30,12 +31,12 @@ text_begin globals = DATA_AT + data_size globals
 abbrev pub first : List ImportedService → List ℕ → ℕ
 first imports globals = first_routine_at imports (text_begin globals)
 
-abbrev pub total : List RoutineView → ℕ
-total [] = 0
-total (r ∷ rs) = routine_size r + total rs
+-- the cold parts of routines stand behind all of them
+abbrev pub first_cold : List ImportedService → List ℕ → List RoutineView → ℕ
+first_cold imports globals rs = first imports globals + total rs
 
 abbrev pub text_size : List ImportedService → List RoutineView → ℕ
-text_size imports rs = front_size imports + total rs
+text_size imports rs = front_size imports + total rs + cold_total rs
 
 abbrev pub rdata_begin : List ImportedService → List ℕ → List RoutineView → ℕ
 rdata_begin imports globals rs = rdata_after (data_size globals) (text_size imports rs)
@@ -61,6 +62,14 @@ site imports globals rs functions = record {
   funclets = drop functions (bounds (first imports globals) rs);
 }
 
+-- the rows of the table of names: those of functions, which are the first of the routines, and then
+-- those of their cold parts
+abbrev pub names_of : List ImportedService → List ℕ → List RoutineView → List LinearFunction
+    → List NameRow
+names_of imports globals rs named =
+    function_rows 0 (bounds (first imports globals) rs) named
+    ++ cold_rows 1 (first_cold imports globals rs) (take (length named) rs)
+
 -- ---- the image, which begins at the routine of this index, and has the names of these functions
 
 abbrev pub image_of : List ImportedService → List ℕ → List RoutineView → ℕ → ℕ
@@ -72,10 +81,13 @@ image_of imports globals rs functions main named =
       data_bytes = globals;
       text = text_bytes s rs;
       entry = get_or (bounds (first imports globals) rs) main 0 - text_begin globals;
-      xdata = infos s (first imports globals) rs;
+      xdata =
+          all_infos s (xdata_begin imports globals rs) (first imports globals)
+          (first_cold imports globals rs) rs;
       pdata =
-          table_bytes (ranges s (xdata_begin imports globals rs) (first imports globals) rs);
-      names = function_rows 0 (bounds (first imports globals) rs) named;
+          table_bytes (all_ranges s (xdata_begin imports globals rs) (first imports globals)
+          (first_cold imports globals rs) rs);
+      names = names_of imports globals rs named;
     }
 
 abbrev pub linked : LinearProgram → ImageContents

@@ -6,6 +6,7 @@ use Rattle.linear_code.specs.declared.slot.Slot.TheVariants.{Local}
 use Rattle.frame_layout.specs.declared.frame.FrameLayout.{FrameLayout}
 use Rattle.frame_layout.specs.Layout.{IsFrame}
 use Rattle.template_code.specs.declared.layout.Layout.{Layout}
+use Rattle.template_code.specs.ColdParts.{AreParts}
 use Rattle.x64_emit.specs.Near.{AreNear, IsSlotNear, AreParametersNear, ArePointersNear, IsInstructionNear}
 use Rattle.x64_emit.specs.Entries.{IsKeptNear}
 use Rattle.host_layout.specs.declared.imported.ImportedService.{ImportedService}
@@ -36,6 +37,7 @@ pub record IsRoutineNear (r : RoutineView) : Type 0 where
   pub entry : IsEntryNear r.layout r.entry
   pub code : AllByRecursion (IsInstructionNear r.layout) r.body.code
   pub regions : 16 * length r.body.regions ≤ MOST_IMAGE
+  pub cold : AreParts 0 r.body.cold (length r.body.code)
 
 -- at most so many services are imported (own)
 abbrev pub AreFew : List ImportedService → Type 0

@@ -157,7 +157,8 @@ funclet_frame b = frame_of (funclet_facts b)
 
 -- a body without any
 abbrev pub nothing : LinearBody
-nothing = record { locals = 0; temporaries = 0; passed = 0; code = []; regions = [] }
+nothing =
+    record { locals = 0; temporaries = 0; passed = 0; code = []; regions = []; cold = [] }
 
 -- a function without a name or a body
 abbrev pub no_function : LinearFunction

@@ -1,5 +1,6 @@
 -- The tables of a program: an unwind info for each routine with a frame, its scope table where it
--- has regions, and its entry in the function table.
+-- has regions, and its entry in the function table; and after all these a chained info and an entry
+-- for each cold part.
 use Rattle.std.specs.Prelude.{ℕ, ◌+◌, ◌*◌, Bool, true, false, not, ◌||◌, List, [], ◌∷◌, ◌++◌, length, map, Option, Some, None}
 use Rattle.eh_tables.specs.declared.layout.TheConstants.{EXCEPTION_EXECUTE_HANDLER}
 use Rattle.eh_tables.specs.declared.range.RuntimeFunction.{RuntimeFunction}
@@ -7,15 +8,20 @@ use Rattle.eh_tables.specs.declared.scope.ScopeRecord.{ScopeRecord}
 use Rattle.eh_tables.specs.declared.unwind_info.Trailer.{Trailer}
 use Rattle.eh_tables.specs.declared.unwind_info.Trailer.TheVariants.{Nothing, Handler}
 use Rattle.eh_tables.specs.Written.{unwind_bytes, scope_bytes}
+use Rattle.std.specs.List.{flat_map}
 use Rattle.linear_code.specs.declared.program.Region.{Region}
 use Rattle.linear_code.specs.declared.program.RegionKind.{RegionKind}
 use Rattle.linear_code.specs.declared.program.RegionKind.TheVariants as kinds
 use Rattle.frame_layout.specs.declared.frame.FrameLayout.{FrameLayout}
-use Rattle.frame_layout.specs.Infos.{info_of}
+use Rattle.frame_layout.specs.Infos.{info_of, chained_info}
 use Rattle.host_layout.specs.declared.imported.ImportedService.TheVariants.{CSpecificHandler}
+use Rattle.x64_emit.specs.declared.body.CodeRange.{CodeRange}
 use Rattle.x64_emit.specs.Linking.{address_or}
+use Rattle.image_link.specs.declared.fragments.TheConstants.{CHAINED_SIZE}
+use Rattle.image_link.specs.declared.fragments.Fragment.{Fragment}
 use Rattle.image_link.specs.Routines.{RoutineView}
-use Rattle.image_link.specs.Text.{SiteView, own_addresses, routine_size, thunk_at}
+use Rattle.image_link.specs.Text.{SiteView, own_addresses, routine_size, cold_size, thunk_at}
+use Rattle.image_link.specs.Places.{parts_at}
 
 -- ---- scope records, one for each region (Microsoft x64 ABI, "Language-specific handler data";
 -- winnt.h, SCOPE_TABLE_AMD64)
@@ -78,16 +84,20 @@ abbrev pub info_if : SiteView → List ℕ → ℕ → RoutineView → Option Fr
 info_if s labels end r None = []
 info_if s labels end r (Some f) = info_bytes_of s labels end r f
 
-unfoldable pub info_bytes : SiteView → ℕ → RoutineView → List ℕ
-info_bytes s at r = info_if s (own_addresses at r).labels (own_addresses at r).end r r.frame
+-- of a routine at an address, with its cold parts at another
+unfoldable pub info_bytes : SiteView → (at cold : ℕ) → RoutineView → List ℕ
+info_bytes s at cold r =
+    info_if s (own_addresses at cold r).labels (own_addresses at cold r).end r r.frame
 
-abbrev pub infos : SiteView → ℕ → List RoutineView → List ℕ
-infos s at [] = []
-infos s at (r ∷ rs) = info_bytes s at r ++ infos s (at + routine_size r) rs
+abbrev pub infos : SiteView → (at cold : ℕ) → List RoutineView → List ℕ
+infos s at cold [] = []
+infos s at cold (r ∷ rs) =
+    info_bytes s at cold r ++ infos s (at + routine_size r) (cold + cold_size r) rs
 
--- how many bytes they take at most
+-- how many bytes they take at most, with what tables have for cold parts: a chained info, an entry,
+-- and a row in the table of names
 abbrev pub info_room : RoutineView → ℕ
-info_room r = 64 + 16 * length r.body.regions
+info_room r = 64 + 16 * length r.body.regions + 45 * length r.body.cold
 
 abbrev pub infos_room : List RoutineView → ℕ
 infos_room [] = 0
@@ -99,13 +109,69 @@ abbrev pub range_if : Option FrameLayout → RuntimeFunction → List RuntimeFun
 range_if None range = []
 range_if (Some f) range = range ∷ []
 
--- the entry of a routine with a frame, whose info is at an address
-abbrev pub range_of : ℕ → ℕ → RoutineView → List RuntimeFunction
-range_of info at r =
-    range_if r.frame (record { begin = at; end = at + routine_size r; unwind_info = info })
+-- the entry of a routine, whose info is at an address
+abbrev pub range_at : (info at : ℕ) → RoutineView → RuntimeFunction
+range_at info at r = record { begin = at; end = at + routine_size r; unwind_info = info }
+
+-- if it has a frame
+abbrev pub range_of : (info at : ℕ) → RoutineView → List RuntimeFunction
+range_of info at r = range_if r.frame (range_at info at r)
 
 -- the infos are at addresses from one on
-abbrev pub ranges : SiteView → ℕ → ℕ → List RoutineView → List RuntimeFunction
-ranges s info at [] = []
-ranges s info at (r ∷ rs) =
-    range_of info at r ++ ranges s (info + length (info_bytes s at r)) (at + routine_size r) rs
+abbrev pub ranges : SiteView → (info at cold : ℕ) → List RoutineView → List RuntimeFunction
+ranges s info at cold [] = []
+ranges s info at cold (r ∷ rs) =
+    range_of info at r
+    ++ ranges s (info + length (info_bytes s at cold r)) (at + routine_size r) (cold + cold_size r)
+    rs
+
+-- ---- cold parts: each is a fragment that is chained to its function (Microsoft x64 ABI, "Chained
+-- unwind info structures")
+
+-- one of a function with a frame and an entry
+abbrev pub fragment : FrameLayout → RuntimeFunction → CodeRange → Fragment
+fragment f parent part = record {
+  begin = part.begin;
+  end = part.end;
+  parent = parent;
+  framed = f.framed;
+}
+
+abbrev pub fragments_if : Option FrameLayout → RuntimeFunction → List CodeRange → List Fragment
+fragments_if None parent parts = []
+fragments_if (Some f) parent parts = map (fragment f parent) parts
+
+-- those of a routine, whose info is at an address
+abbrev pub fragments_of : (info at cold : ℕ) → RoutineView → List Fragment
+fragments_of info at cold r = fragments_if r.frame (range_at info at r) (parts_at cold r)
+
+abbrev pub fragments : SiteView → (info at cold : ℕ) → List RoutineView → List Fragment
+fragments s info at cold [] = []
+fragments s info at cold (r ∷ rs) =
+    fragments_of info at cold r
+    ++ fragments s (info + length (info_bytes s at cold r)) (at + routine_size r)
+    (cold + cold_size r) rs
+
+abbrev pub chained_bytes : Fragment → List ℕ
+chained_bytes f = unwind_bytes (chained_info f.framed f.parent)
+
+abbrev pub chained_infos : List Fragment → List ℕ
+chained_infos fs = flat_map chained_bytes fs
+
+-- their entries, with infos at addresses from one on
+abbrev pub fragment_ranges : ℕ → List Fragment → List RuntimeFunction
+fragment_ranges info [] = []
+fragment_ranges info (f ∷ fs) =
+    record { begin = f.begin; end = f.end; unwind_info = info }
+    ∷ fragment_ranges (info + CHAINED_SIZE) fs
+
+-- ---- all infos, and all entries, where the infos begin at an address
+
+abbrev pub all_infos : SiteView → (info at cold : ℕ) → List RoutineView → List ℕ
+all_infos s info at cold rs =
+    infos s at cold rs ++ chained_infos (fragments s info at cold rs)
+
+abbrev pub all_ranges : SiteView → (info at cold : ℕ) → List RoutineView → List RuntimeFunction
+all_ranges s info at cold rs =
+    ranges s info at cold rs
+    ++ fragment_ranges (info + length (infos s at cold rs)) (fragments s info at cold rs)

@@ -1,4 +1,5 @@
--- The text of a program: the thunks of its services, `__chkstk`, and its routines.
+-- The text of a program: the thunks of its services, `__chkstk`, its routines, and then their cold
+-- parts.
 use Rattle.std.specs.Prelude.{ℕ, ◌+◌, ◌*◌, List, [], ◌∷◌, ◌++◌, length, map, Option, Some, None}
 use Rattle.seh_num.specs.declared.width.Width.TheVariants.{W32}
 use Rattle.x64_instr.specs.declared.register.Reg.TheVariants.{Rax, Rcx}
@@ -20,6 +21,7 @@ use Rattle.template_code.specs.Frames.{probing}
 use Rattle.template_code.specs.Bytes.{spelled, thunk}
 use Rattle.template_code.specs.Probing.{check_stack}
 use Rattle.template_code.specs.Template.{Links, body_size, code_from}
+use Rattle.template_code.specs.ColdParts.{hot_code, cold_code}
 use Rattle.x64_emit.specs.declared.entry.TheConstants.{CHECK_STACK_SIZE, THUNK_SIZE}
 use Rattle.x64_emit.specs.declared.links.Thunks.{Thunks}
 use Rattle.x64_emit.specs.Rooms.{code_room}
@@ -56,9 +58,21 @@ unfoldable pub entry_size : RoutineView → ℕ
 entry_size r = sizes (entry_code 0 0 r)
 
 abbrev pub routine_size : RoutineView → ℕ
-routine_size r = entry_size r + body_size r.layout r.body.code
+routine_size r = entry_size r + body_size r.layout (hot_code r.body)
 
--- how many bytes they take at most
+-- of its cold parts
+abbrev pub cold_size : RoutineView → ℕ
+cold_size r = body_size r.layout (cold_code r.body)
+
+abbrev pub total : List RoutineView → ℕ
+total [] = 0
+total (r ∷ rs) = routine_size r + total rs
+
+abbrev pub cold_total : List RoutineView → ℕ
+cold_total [] = 0
+cold_total (r ∷ rs) = cold_size r + cold_total rs
+
+-- how many bytes they take at most, with their cold parts
 abbrev pub routine_room : RoutineView → ℕ
 routine_room r = 512 + code_room r.body.code
 
@@ -105,15 +119,16 @@ first_routine_at imports text = text + front_size imports
 
 -- ---- the text
 
--- where the instructions of a routine begin, and where it ends
+-- where the instructions of a routine begin, and where it ends without its cold parts
 pub record OwnAddresses : Type 0 where
   pub labels : List ℕ
   pub end : ℕ
 
-abbrev pub own_addresses : ℕ → RoutineView → OwnAddresses
-own_addresses at r =
+-- of one that begins at an address, with its cold parts at another
+abbrev pub own_addresses : (at cold : ℕ) → RoutineView → OwnAddresses
+own_addresses at cold r =
     record {
-      labels = label_list r.layout (at + entry_size r) r.body.code;
+      labels = label_list r.layout r.body.cold 0 (at + entry_size r) cold r.body.code;
       end = at + routine_size r;
     }
 
@@ -126,32 +141,50 @@ pub record SiteView : Type 0 where
   pub functions : List ℕ
   pub funclets : List ℕ
 
-abbrev pub addresses : SiteView → ℕ → RoutineView → Addresses
-addresses s at r =
+abbrev pub addresses : SiteView → (at cold : ℕ) → RoutineView → Addresses
+addresses s at cold r =
     record {
-      labels = (own_addresses at r).labels;
-      end = (own_addresses at r).end;
+      labels = (own_addresses at cold r).labels;
+      end = (own_addresses at cold r).end;
       functions = s.functions;
       funclets = s.funclets;
       thunks = thunks_at s.imports s.text;
     }
 
--- a routine at an address, with `__chkstk` and all else where the links say
+-- a routine at an address without its cold parts, with `__chkstk` and all else where the links say
 abbrev pub code_at : ℕ → Links → ℕ → RoutineView → List Instr
 code_at check links at r =
-    entry_code at check r ++ code_from links r.layout (at + entry_size r) r.body.code
+    entry_code at check r ++ code_from links r.layout (at + entry_size r) (hot_code r.body)
 
-abbrev pub routine_code : SiteView → ℕ → RoutineView → List Instr
-routine_code s at r = code_at (check_stack_at s.imports s.text) (links_of (addresses s at r)) at r
+abbrev pub routine_code : SiteView → (at cold : ℕ) → RoutineView → List Instr
+routine_code s at cold r =
+    code_at (check_stack_at s.imports s.text) (links_of (addresses s at cold r)) at r
 
-unfoldable pub routine_bytes : SiteView → ℕ → RoutineView → List ℕ
-routine_bytes s at r = spelled (routine_code s at r)
+unfoldable pub routine_bytes : SiteView → (at cold : ℕ) → RoutineView → List ℕ
+routine_bytes s at cold r = spelled (routine_code s at cold r)
 
-abbrev pub routines_bytes : SiteView → ℕ → List RoutineView → List ℕ
-routines_bytes s at [] = []
-routines_bytes s at (r ∷ rs) = routine_bytes s at r ++ routines_bytes s (at + routine_size r) rs
+-- the cold parts of a routine
+abbrev pub apart_code : SiteView → (at cold : ℕ) → RoutineView → List Instr
+apart_code s at cold r = code_from (links_of (addresses s at cold r)) r.layout cold (cold_code r.body)
 
+unfoldable pub apart_bytes : SiteView → (at cold : ℕ) → RoutineView → List ℕ
+apart_bytes s at cold r = spelled (apart_code s at cold r)
+
+-- all routines, and the cold parts of all
+abbrev pub routines_bytes : SiteView → (at cold : ℕ) → List RoutineView → List ℕ
+routines_bytes s at cold [] = []
+routines_bytes s at cold (r ∷ rs) =
+    routine_bytes s at cold r ++ routines_bytes s (at + routine_size r) (cold + cold_size r) rs
+
+abbrev pub all_apart_bytes : SiteView → (at cold : ℕ) → List RoutineView → List ℕ
+all_apart_bytes s at cold [] = []
+all_apart_bytes s at cold (r ∷ rs) =
+    apart_bytes s at cold r ++ all_apart_bytes s (at + routine_size r) (cold + cold_size r) rs
+
+-- the cold parts follow the routines
 abbrev pub text_bytes : SiteView → List RoutineView → List ℕ
 text_bytes s rs =
+    let first = first_routine_at s.imports s.text in
     spelled (front_code s.imports s.text s.rdata)
-    ++ routines_bytes s (first_routine_at s.imports s.text) rs
+    ++ routines_bytes s first (first + total rs) rs
+    ++ all_apart_bytes s first (first + total rs) rs

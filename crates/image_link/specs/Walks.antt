@@ -1,6 +1,6 @@
 -- What the image of a program has where the program calls `walk`: the import of that service, and
 -- the names of its functions with the ranges of their code.
-use Rattle.std.specs.Prelude.{◌≡◌, ℕ, ◌+◌, ◌<◌, Bool, true, false, ◌||◌, List, [], ◌∷◌, length, get_or}
+use Rattle.std.specs.Prelude.{◌≡◌, ℕ, ◌+◌, ◌<◌, Bool, true, false, ◌||◌, List, [], ◌∷◌, ◌++◌, length, get_or}
 use Rattle.std.specs.List.{AllByRecursion}
 use Rattle.host_layout.specs.declared.imported.ImportedService.{ImportedService}
 use Rattle.host_layout.specs.declared.imported.ImportedService.TheVariants as imports
@@ -10,6 +10,9 @@ use Rattle.linear_code.specs.declared.instruction.Instruction.{Instruction}
 use Rattle.linear_code.specs.declared.instruction.Instruction.TheVariants as instructions
 use Rattle.linear_code.specs.Program.{LinearFunction, LinearFunclet, LinearProgram}
 use Rattle.pe_write.specs.NameTable.{NameRow}
+use Rattle.x64_emit.specs.declared.body.CodeRange.{CodeRange}
+use Rattle.image_link.specs.Routines.{RoutineView}
+use Rattle.image_link.specs.Places.{parts_from}
 
 -- ---- whether a program calls `walk`
 
@@ -72,6 +75,21 @@ function_rows index bounds (f ∷ fs) =
       number = index + 1;
       name = f.name;
     } ∷ function_rows (index + 1) bounds fs
+
+-- rows for the parts of a function's code after the first: its number has a name by then
+abbrev pub part_rows : ℕ → List CodeRange → List NameRow
+part_rows number [] = []
+part_rows number (p ∷ ps) =
+    record { begin = p.begin; end = p.end; number = number; name = [] } ∷ part_rows number ps
+
+-- for the parts of functions, of which the first has this number
+abbrev pub all_part_rows : ℕ → List (List CodeRange) → List NameRow
+all_part_rows number [] = []
+all_part_rows number (ps ∷ pss) = part_rows number ps ++ all_part_rows (number + 1) pss
+
+-- for the cold parts of routines, which stand from an address on
+abbrev pub cold_rows : (number cold : ℕ) → List RoutineView → List NameRow
+cold_rows number cold rs = all_part_rows number (parts_from cold rs)
 
 -- a name has bytes, and no 0
 abbrev pub IsName : List ℕ → Type 0

@@ -8,6 +8,7 @@
 #![tactic(auto)]
 
 pub mod entry;
+pub mod fragments;
 pub mod laws;
 pub mod link;
 pub mod place;

@@ -1,6 +1,6 @@
 //! The image of a program.
 
-ghost use Rattle.std.specs.Prelude.{◌≡◌, ℕ, ◌<◌, ◌≤◌, length, map, take, drop, IfOk};
+ghost use Rattle.std.specs.Prelude.{◌≡◌, ℕ, ◌+◌, ◌<◌, ◌≤◌, length, map, take, drop, IfOk};
 ghost use Rattle.std.specs.List.{AllByRecursion};
 ghost use Rattle.linear_code.specs.Program.{linear_function, linear_program};
 ghost use Rattle.pe_image.specs.Reading.{IsImage};
@@ -12,12 +12,12 @@ ghost use Rattle.image_link.specs.Near.{AreFew, IsRoutineNear, HasNames, HasPlac
 ghost use Rattle.image_link.specs.Places.{places_from};
 ghost use Rattle.image_link.specs.Text as texts;
 
-use crate::place::{Place, front_size, places_of};
+use crate::place::{Places, front_size, places_of};
 use crate::placement::{offset_of, placement_of, text_begin};
 use crate::routine::{Routine, routines};
 use crate::tables::{Tables, tables_of};
 use crate::text::{Site, text_of};
-use crate::walks::{calls_walk, function_rows, named_if, services_if};
+use crate::walks::{calls_walk, name_rows, named_if, services_if};
 use host_layout::imported::ImportedService;
 use linear_code::program::{IrFunction, IrProgram};
 use pe_write::{Image, NamedRange, write};
@@ -100,15 +100,14 @@ fn image_with<'a>(
     ))
 }
 
-/// The image of routines at their places between bounds, of which the first so many are functions,
+/// The image of routines at their places, of which the first so many are functions,
 /// and which begins at the one of the index `main`. It has the names of the functions `named`.
 fn linked<'a>(
     alloc: Global,
     imports: &[ImportedService],
     globals: &[u8],
     routines: &[Routine<'_>],
-    bounds: &[u32],
-    places: &[Place],
+    places: &Places,
     functions: usize,
     main: usize,
     named: &'a [IrFunction],
@@ -118,26 +117,30 @@ fn linked<'a>(
     requires near { AllByRecursion IsRoutineNear routines.now }
     requires places { HasPlaces routines.now functions main }
     requires names { HasNames routines.now (map linear_function named.now) }
-    requires bounds { bounds.now ≡ texts.bounds (spec.first imports.now globals.now) routines.now }
-    requires placed { places.now ≡ places_from (spec.first imports.now globals.now) routines.now }
+    requires bounds { places.now.bounds.items
+        ≡ texts.bounds (spec.first imports.now globals.now) routines.now }
+    requires placed { places.now.each.items ≡ places_from (spec.first imports.now globals.now)
+        (spec.first_cold imports.now globals.now routines.now) routines.now }
+    requires end { places.now.end
+        ≡ spec.first_cold imports.now globals.now routines.now + texts.cold_total routines.now }
     ensures { IfOk result
         (λ image. image ≡ spec.image_of imports.now globals.now routines.now functions main
         (map linear_function named.now)) }
 {
-    let placement = placement_of(imports, globals, routines, bounds);
+    let placement = placement_of(imports, globals, routines, places.end);
     let text = placement.text;
-    let site = site_of(imports, text, placement.rdata, bounds, functions);
-    let code = text_of(alloc, &site, routines, places)?;
+    let site = site_of(imports, text, placement.rdata, &places.bounds, functions);
+    let code = text_of(alloc, &site, routines, &places.each)?;
     let tables = tables_of(
         alloc,
         &site,
         routines,
-        places,
+        &places.each,
         text + front_size(imports),
         placement.xdata,
     )?;
-    let entry = offset_of(bounds, main, text);
-    let names = function_rows(alloc, bounds, named)?;
+    let entry = offset_of(&places.bounds, main, text);
+    let names = name_rows(alloc, &places.bounds, &places.each, named)?;
     image_with(
         alloc,
         imports,
@@ -173,15 +176,7 @@ fn image_of<'a>(
     let first = text_begin(globals) + front_size(imports);
     let places = places_of(alloc, routines, first)?;
     linked(
-        alloc,
-        imports,
-        globals,
-        routines,
-        &places.bounds,
-        &places.each,
-        functions,
-        main,
-        named,
+        alloc, imports, globals, routines, &places, functions, main, named,
     )
 }
 

@@ -53,44 +53,27 @@ pub fn offset_of(bounds: &[u32], index: usize, text: u32) -> u32
     bounds[index] - text
 }
 
-/// How many bytes the text takes in which the routines lie between those bounds.
-fn text_size(
-    imports: &[ImportedService],
-    globals: &[u8],
-    routines: &[Routine<'_>],
-    bounds: &[u32],
-    text: u32,
-) -> u32
-    requires text { text ≡ spec.text_begin globals.now }
-    requires bounds { bounds.now
-        ≡ texts.bounds (spec.first imports.now globals.now) routines.now }
-    ensures { result ≡ spec.text_size imports.now routines.now }
-{
-    offset_of(bounds, routines.len(), text)
-}
-
-/// Where the sections of the image lie that imports these services and whose routines begin and end
-/// at those bounds.
+/// Where the sections of the image lie that imports these services and whose text ends at `end`.
 #[tactic(auto, using(crate::proofs::Bounds::total_small, crate::proofs::Front::imports_small))]
 pub fn placement_of(
     imports: &[ImportedService],
     globals: &[u8],
     routines: &[Routine<'_>],
-    bounds: &[u32],
+    end: u32,
 ) -> Placement
     requires imports { AreFew imports.now }
     requires globals { length globals.now ≤ MOST_GLOBALS }
     requires near { AllByRecursion IsRoutineNear routines.now }
     requires room { HasRoom routines.now }
-    requires bounds { bounds.now
-        ≡ texts.bounds (spec.first imports.now globals.now) routines.now }
+    requires end { end ≡ spec.first_cold imports.now globals.now routines.now
+        + texts.cold_total routines.now }
     ensures placed { spec.IsPlacement imports.now globals.now routines.now result }
     ensures small { result.text ≤ DATA_AT + MOST_GLOBALS + PAGE }
     ensures tables { result.xdata + tables.infos_room routines.now < 2 ^ 31 }
 {
     let data_size = data_pages(globals.len() as u64);
     let text = text_begin(globals);
-    let text_size = text_size(imports, globals, routines, bounds, text);
+    let text_size = end - text;
     Placement {
         data_size,
         text,

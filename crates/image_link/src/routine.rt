@@ -7,7 +7,9 @@ ghost use Rattle.image_link.specs.Routines as spec;
 
 use frame_layout::{Facts, FrameLayout, plan};
 use linear_code::instruction::Instruction;
-use linear_code::program::{FuncletKind, IrBody, IrFunclet, IrFunction, IrProgram, Region};
+use linear_code::program::{
+    FuncletKind, IrBody, IrFunclet, IrFunction, IrProgram, LabelRange, Region,
+};
 use linear_code::slot::Slot;
 use std::alloc::{AllocError, Global};
 use std::marker::Model;
@@ -66,6 +68,13 @@ impl<'a> Routine<'a> {
         ensures { result.now ≡ self.now.body.code }
     {
         &self.body.code
+    }
+
+    /// The cold parts of its body.
+    pub fn cold(&self) -> &'a [LabelRange]
+        ensures { result.now ≡ self.now.body.cold }
+    {
+        &self.body.cold
     }
 
     /// The regions of its body.

@@ -1,6 +1,6 @@
 //! The unwind infos, scope tables and function table of a program.
 
-ghost use Rattle.std.specs.Prelude.{◌≡◌, ◌+◌, ◌<◌, ◌≤◌, ◌^◌, ◌++◌, length, OnOk, IfOk};
+ghost use Rattle.std.specs.Prelude.{◌≡◌, ◌+◌, ◌*◌, ◌<◌, ◌≤◌, ◌^◌, ◌++◌, length, OnOk, IfOk};
 ghost use Rattle.std.specs.List.{AllByRecursion};
 ghost use Rattle.eh_tables.specs.Written.{CanBeWritten, IsTrailer, table_bytes};
 ghost use Rattle.frame_layout.specs.Layout.{IsFrame};
@@ -9,7 +9,9 @@ ghost use Rattle.x64_emit.specs.Linking.{address_or};
 ghost use Rattle.image_link.specs.Near.{IsFrameNear, IsRoutineNear, IsSiteNear};
 ghost use Rattle.image_link.specs.Places.{place_at, places_from};
 ghost use Rattle.image_link.specs.Tables as spec;
+ghost use Rattle.image_link.specs.Text.{total};
 
+use crate::fragments::{Fragment, put_chains, put_fragments};
 use crate::place::Place;
 use crate::routine::Routine;
 use crate::text::{Site, thunk_at};
@@ -171,11 +173,13 @@ fn put_info(
     write_scopes(&scopes_of(alloc, regions, labels, site.funclets)?, xdata)
 }
 
-/// Adds the unwind info of a routine at `range`, and its entry, where it has a frame.
+/// Adds the unwind info of a routine at `range`, its entry, and its cold parts, where it has a
+/// frame.
 fn put_tables(
     alloc: Global,
     xdata: &mut Vec<u8>,
     ranges: &mut Vec<RuntimeFunction>,
+    fragments: &mut Vec<Fragment>,
     site: &Site<'_>,
     routine: &Routine<'_>,
     frame: &Option<FrameLayout>,
@@ -189,22 +193,26 @@ fn put_tables(
         ++ spec.info_if site.now labels.now.starts.items labels.now.end routine.now frame.now) }
     ensures ranges { OnOk result
         (ranges.new.items ≡ ranges.old.items ++ spec.range_if frame.now range) }
+    ensures fragments { OnOk result (fragments.new.items
+        ≡ fragments.old.items ++ spec.fragments_if frame.now range labels.now.parts.items) }
 {
     match frame {
         None => Ok(()),
         Some(frame) => {
             ranges.push(range)?;
+            put_fragments(fragments, frame, range, &labels.parts)?;
             put_info(alloc, xdata, site, routine, frame, labels)
         }
     }
 }
 
-/// Adds the unwind info of a routine that begins at an address, and its entry, where it has a
-/// frame.
+/// Adds the unwind info of a routine that begins at an address, its entry, and its cold parts,
+/// where it has a frame.
 fn put_routine(
     alloc: Global,
     xdata: &mut Vec<u8>,
     ranges: &mut Vec<RuntimeFunction>,
+    fragments: &mut Vec<Fragment>,
     site: &Site<'_>,
     routine: &Routine<'_>,
     begin: u32,
@@ -213,12 +221,15 @@ fn put_routine(
 ) -> Result<(), AllocError>
     requires site { IsSiteNear site.now }
     requires near { IsRoutineNear routine.now }
-    requires placed { place.now ≡ place_at begin routine.now }
+    requires placed { place.now ≡ place_at begin place.now.cold routine.now }
     requires xdata { xdata_at + length xdata.old.items < 2 ^ 31 }
-    ensures infos { OnOk result
-        (xdata.new.items ≡ xdata.old.items ++ spec.info_bytes site.now begin routine.now) }
+    ensures infos { OnOk result (xdata.new.items
+        ≡ xdata.old.items ++ spec.info_bytes site.now begin place.now.cold routine.now) }
     ensures ranges { OnOk result (ranges.new.items ≡ ranges.old.items
         ++ spec.range_of (xdata_at + length xdata.old.items) begin routine.now) }
+    ensures fragments { OnOk result (fragments.new.items ≡ fragments.old.items
+        ++ spec.fragments_of (xdata_at + length xdata.old.items) begin place.now.cold
+        routine.now) }
 {
     let range = RuntimeFunction {
         begin,
@@ -229,12 +240,75 @@ fn put_routine(
         alloc,
         xdata,
         ranges,
+        fragments,
         site,
         routine,
         &routine.frame,
         &place.labels,
         range,
     )
+}
+
+/// The tables of routines.
+#[derive(Debug, Drop)]
+struct RoutineTables {
+    /// The unwind infos, each with its scope table after it.
+    infos: Vec<u8>,
+    /// The entries.
+    ranges: Vec<RuntimeFunction>,
+    /// The cold parts, which have neither yet.
+    fragments: Vec<Fragment>,
+}
+
+/// The tables of routines at their places, of which the first begins at `first`, with unwind infos
+/// from `xdata_at` on.
+fn routine_tables(
+    alloc: Global,
+    site: &Site<'_>,
+    routines: &[Routine<'_>],
+    places: &[Place],
+    first: u32,
+    xdata_at: u32,
+) -> Result<RoutineTables, AllocError>
+    requires site { IsSiteNear site.now }
+    requires near { AllByRecursion IsRoutineNear routines.now }
+    requires places { places.now ≡ places_from first (first + total routines.now) routines.now }
+    requires tables { xdata_at + spec.infos_room routines.now < 2 ^ 31 }
+    ensures infos { IfOk result (λ t. t.infos.items
+        ≡ spec.infos site.now first (first + total routines.now) routines.now) }
+    ensures ranges { IfOk result (λ t. t.ranges.items
+        ≡ spec.ranges site.now xdata_at first (first + total routines.now) routines.now) }
+    ensures fragments { IfOk result (λ t. t.fragments.items
+        ≡ spec.fragments site.now xdata_at first (first + total routines.now) routines.now) }
+    ensures small { IfOk result (λ t. length t.infos.items + 16 * length t.fragments.items
+        ≤ spec.infos_room routines.now) }
+{
+    let mut infos = Vec::new(alloc);
+    let mut ranges = Vec::new(alloc);
+    let mut fragments = Vec::new(alloc);
+    let mut at = first;
+    let mut index = 0;
+    for routine in routines {
+        let place = &places[index];
+        put_routine(
+            alloc,
+            &mut infos,
+            &mut ranges,
+            &mut fragments,
+            site,
+            routine,
+            at,
+            place,
+            xdata_at,
+        )?;
+        at = place.labels.end;
+        index += 1;
+    }
+    Ok(RoutineTables {
+        infos,
+        ranges,
+        fragments,
+    })
 }
 
 /// The tables of a program: the unwind infos, and the function table as bytes.
@@ -246,8 +320,8 @@ pub struct Tables {
     pub pdata: Vec<u8>,
 }
 
-/// The tables of routines at their places, of which the first begins at `first`, with unwind infos
-/// from `xdata_at` on.
+/// The tables of routines at their places and of their cold parts, where the first routine begins
+/// at `first`, with unwind infos from `xdata_at` on.
 pub fn tables_of(
     alloc: Global,
     site: &Site<'_>,
@@ -258,31 +332,19 @@ pub fn tables_of(
 ) -> Result<Tables, AllocError>
     requires site { IsSiteNear site.now }
     requires near { AllByRecursion IsRoutineNear routines.now }
-    requires places { places.now ≡ places_from first routines.now }
+    requires places { places.now ≡ places_from first (first + total routines.now) routines.now }
     requires tables { xdata_at + spec.infos_room routines.now < 2 ^ 31 }
-    ensures xdata { IfOk result (λ t. t.xdata.items ≡ spec.infos site.now first routines.now) }
-    ensures pdata { IfOk result
-        (λ t. t.pdata.items ≡ table_bytes (spec.ranges site.now xdata_at first routines.now)) }
+    ensures xdata { IfOk result (λ t. t.xdata.items
+        ≡ spec.all_infos site.now xdata_at first (first + total routines.now) routines.now) }
+    ensures pdata { IfOk result (λ t. t.pdata.items
+        ≡ table_bytes (spec.all_ranges site.now xdata_at first (first + total routines.now)
+        routines.now)) }
 {
-    let mut xdata = Vec::new(alloc);
-    let mut ranges = Vec::new(alloc);
-    let mut at = first;
-    let mut index = 0;
-    for routine in routines {
-        let place = &places[index];
-        put_routine(
-            alloc,
-            &mut xdata,
-            &mut ranges,
-            site,
-            routine,
-            at,
-            place,
-            xdata_at,
-        )?;
-        at = place.labels.end;
-        index += 1;
-    }
+    let tables = routine_tables(alloc, site, routines, places, first, xdata_at)?;
+    let mut xdata = tables.infos;
+    let mut ranges = tables.ranges;
+    let next = xdata_at + xdata.len() as u32;
+    put_chains(&mut xdata, &mut ranges, &tables.fragments, next)?;
     let mut pdata = Vec::new(alloc);
     write_pdata(&ranges, &mut pdata)?;
     Ok(Tables { xdata, pdata })

@@ -1,7 +1,9 @@
 //! The text of a program.
 
-ghost use Rattle.std.specs.Prelude.{◌≡◌, ◌+◌, ◌≤◌, [], ◌∷◌, ◌++◌, map, OnOk, IfOk};
+ghost use Rattle.std.specs.Prelude.{◌≡◌, ◌+◌, ◌*◌, ◌≤◌, [], ◌∷◌, ◌++◌, map, OnOk, IfOk};
 ghost use Rattle.std.specs.List.{AllByRecursion};
+ghost use Rattle.template_code.specs.ColdParts.{cold_code};
+ghost use Rattle.template_code.specs.Template.{code_from};
 ghost use Rattle.x64_emit.specs.Appending.{Appended};
 ghost use Rattle.x64_emit.specs.Bodies.{EndsNear};
 ghost use Rattle.x64_emit.specs.Linking as linking;
@@ -18,7 +20,7 @@ use host_layout::limit::MOST_IMAGE;
 use pe_write::{place_of, slot_of};
 use std::alloc::{AllocError, Global};
 use std::marker::Model;
-use x64_emit::body::put_body;
+use x64_emit::body::{put_cold, put_hot};
 use x64_emit::entry::{THUNK_SIZE, put_check_stack, put_thunk};
 use x64_emit::links::{Links, Thunks};
 
@@ -154,7 +156,7 @@ fn links_of<'a>(
     Links::new(labels, end, functions, funclets, thunks_at(imports, text))
 }
 
-/// Adds a routine that begins at an address, with its body at `start`.
+/// Adds a routine that begins at an address, with its body at `start`, without its cold parts.
 fn put_code(
     code: &mut Vec<u8>,
     links: &Links<'_>,
@@ -173,12 +175,43 @@ fn put_code(
         (spec.code_at check_stack (linking.links_of links.now) begin routine.now) code.new) }
 {
     put_entry(code, routine, u64::from(begin), u64::from(check_stack))?;
-    put_body(code, links, &routine.layout, start, routine.code())
+    put_hot(
+        code,
+        links,
+        &routine.layout,
+        start,
+        routine.code(),
+        routine.cold(),
+    )
 }
 
-/// Adds a routine that begins at an address, where it is placed.
+/// Adds the cold parts of a routine, which begin at an address.
+fn put_apart(
+    code: &mut Vec<u8>,
+    links: &Links<'_>,
+    routine: &Routine<'_>,
+    cold: u32,
+) -> Result<(), AllocError>
+    requires near { IsRoutineNear routine.now }
+    requires room { EndsNear cold routine.now.body.code }
+    ensures { OnOk result
+        (Appended code.old (code_from (linking.links_of links.now) routine.now.layout cold
+        (cold_code routine.now.body)) code.new) }
+{
+    put_cold(
+        code,
+        links,
+        &routine.layout,
+        cold,
+        routine.code(),
+        routine.cold(),
+    )
+}
+
+/// Adds a routine that begins at an address, where it is placed, and its cold parts to `apart`.
 fn put_routine(
     code: &mut Vec<u8>,
+    apart: &mut Vec<u8>,
     site: &Site<'_>,
     routine: &Routine<'_>,
     begin: u32,
@@ -187,9 +220,12 @@ fn put_routine(
     requires site { IsSiteNear site.now }
     requires near { IsRoutineNear routine.now }
     requires room { IsNear (begin + spec.routine_room routine.now) }
-    requires placed { place.now ≡ place_at begin routine.now }
-    ensures { OnOk result
-        (code.new.items ≡ code.old.items ++ spec.routine_bytes site.now begin routine.now) }
+    requires cold { IsNear (place.now.cold + spec.routine_room routine.now) }
+    requires placed { place.now ≡ place_at begin place.now.cold routine.now }
+    ensures code { OnOk result (code.new.items
+        ≡ code.old.items ++ spec.routine_bytes site.now begin place.now.cold routine.now) }
+    ensures apart { OnOk result (apart.new.items
+        ≡ apart.old.items ++ spec.apart_bytes site.now begin place.now.cold routine.now) }
 {
     let links = links_of(
         site.imports,
@@ -200,10 +236,12 @@ fn put_routine(
         place.labels.end,
     );
     let check_stack = site.text + THUNK_SIZE * site.imports.len() as u32;
-    put_code(code, &links, routine, begin, place.body, check_stack)
+    put_code(code, &links, routine, begin, place.body, check_stack)?;
+    put_apart(apart, &links, routine, place.cold)
 }
 
-/// The text of a program: the thunks, `__chkstk`, and the routines at their places.
+/// The text of a program: the thunks, `__chkstk`, and the routines at their places, with all cold
+/// parts behind them.
 pub fn text_of(
     alloc: Global,
     site: &Site<'_>,
@@ -213,20 +251,24 @@ pub fn text_of(
     requires site { IsSiteNear site.now }
     requires near { AllByRecursion IsRoutineNear routines.now }
     requires room { IsNear
-        (spec.first_routine_at site.now.imports site.now.text + spec.room routines.now) }
+        (spec.first_routine_at site.now.imports site.now.text + 2 * spec.room routines.now) }
     requires places { places.now
-        ≡ places_from (spec.first_routine_at site.now.imports site.now.text) routines.now }
+        ≡ places_from (spec.first_routine_at site.now.imports site.now.text)
+        (spec.first_routine_at site.now.imports site.now.text + spec.total routines.now)
+        routines.now }
     ensures { IfOk result (λ v. v.items ≡ spec.text_bytes site.now routines.now) }
 {
     let mut code = Vec::new(alloc);
+    let mut apart = Vec::new(alloc);
     put_front(&mut code, site.imports, site.text, site.rdata)?;
     let mut at = site.text + front_size(site.imports);
     let mut index = 0;
     for routine in routines {
         let place = &places[index];
-        put_routine(&mut code, site, routine, at, place)?;
+        put_routine(&mut code, &mut apart, site, routine, at, place)?;
         at = place.labels.end;
         index += 1;
     }
+    code.extend_from_slice(&apart)?;
     Ok(code)
 }

@@ -9,7 +9,8 @@ use Rattle.eh_tables.specs.Written.{slot, is_short, is_small, operation_bytes, c
 use Rattle.eh_tables.specs.declared.unwind_info.Trailer.{Trailer}
 use Rattle.eh_tables.specs.declared.unwind_info.Trailer.TheVariants.{Nothing, Handler, Parent}
 use Rattle.frame_layout.specs.declared.frame.FrameLayout.{FrameLayout}
-use Rattle.frame_layout.specs.Infos.{info_of, codes_of}
+use Rattle.frame_layout.specs.Infos.{info_of, chained_info, codes_of}
+use Rattle.eh_tables.specs.declared.range.RuntimeFunction.{RuntimeFunction}
 use Rattle.frame_layout.proofs.Planned.{frame_small}
 use Rattle.frame_layout.proofs.Steps.{HasRegisters, IsShort}
 use Rattle.frame_layout.proofs.Sizes.{prologue_few}
@@ -98,3 +99,13 @@ info_octets f t h =
     (codes_octets f.framed (codes_of f) (codes_short f h) (codes_offsets f h))
     (repeated (length slots % 4))))
     (trailer_octets t)
+
+-- that of a cold part, with its function's entry
+pub chained_octets : (framed : Bool) (parent : RuntimeFunction)
+    → AreOctets (unwind_bytes (chained_info framed parent))
+unfolding unwind_bytes
+chained_octets framed parent =
+    let frame = frame_small framed in
+    joined (header (chained_info framed parent) 0 ++ padded []) (trailer_bytes (Parent parent))
+    (omega arith, (omega arith, (omega arith, (omega arith, tt))))
+    (trailer_octets (Parent parent))

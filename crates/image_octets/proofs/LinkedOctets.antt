@@ -1,7 +1,7 @@
 -- The bytes of the image of a linked program are octets, where its globals are.
 use Rattle.std.specs.List.{AllByRecursion}
 use Rattle.std.specs.Prelude.{not, ◌&&◌, ◌==◌}
-use Rattle.std.proofs.Common.{ℕ, suc, ◌+◌, Bool, true, false, List, [], ◌∷◌, length, map, Option, Some, None, arith}
+use Rattle.std.proofs.Common.{ℕ, suc, ◌+◌, Bool, true, false, List, [], ◌∷◌, ◌++◌, length, map, take, Option, Some, None, arith}
 use Rattle.host_layout.specs.declared.imported.ImportedService.TheVariants.{CSpecificHandler}
 use Rattle.linear_code.specs.declared.program.Region.{Region}
 use Rattle.eh_tables.specs.Written.{unwind_bytes}
@@ -13,37 +13,59 @@ use Rattle.frame_layout.proofs.Frames.{registers_few}
 use Rattle.template_code.specs.Bytes.{spelled}
 use Rattle.image_link.specs.Fits.{FitsFunction}
 use Rattle.image_link.specs.Routines.{RoutineView, is_leaf, function_facts, leaf_if, functions_from, funclet_facts, funclet, routines}
-use Rattle.image_link.specs.Text.{SiteView, own_addresses, routine_size, front_code, first_routine_at, routine_code, routine_bytes, routines_bytes, text_bytes, thunk_at, bounds}
-use Rattle.image_link.specs.Tables.{trailer, scope_records, scope_table, info_if, info_bytes, infos, ranges}
-use Rattle.image_link.specs.Linked.{first, site, xdata_begin, linked}
-use Rattle.image_link.specs.Walks.{services_of, calls_walk, named_if, named_functions, IsName, IsNamed, function_rows}
+use Rattle.image_link.specs.Text.{SiteView, own_addresses, routine_size, cold_size, total, front_code, first_routine_at, routine_code, routine_bytes, routines_bytes, apart_code, apart_bytes, all_apart_bytes, text_bytes, thunk_at, bounds}
+use Rattle.image_link.specs.declared.fragments.Fragment.{Fragment}
+use Rattle.image_link.specs.Places.{parts_from}
+use Rattle.image_link.specs.Words.{CodeRange}
+use Rattle.image_link.specs.Tables.{trailer, scope_records, scope_table, info_if, info_bytes, infos, fragments, chained_bytes, chained_infos, all_infos, all_ranges}
+use Rattle.image_link.specs.Linked.{first, first_cold, site, xdata_begin, linked}
+use Rattle.image_link.specs.Walks.{services_of, calls_walk, named_if, named_functions, IsName, IsNamed, function_rows, part_rows, all_part_rows, cold_rows}
 use Rattle.linear_code.specs.Program.{LinearFunction, LinearFunclet, LinearProgram}
 use Rattle.image_octets.specs.OctetLaws.{AreOctets, LinkedAreOctets}
-use Rattle.image_octets.proofs.Octets.{joined}
+use Rattle.image_octets.proofs.Octets.{joined, mapped}
 use Rattle.image_octets.proofs.InstructionOctets.{spelled_octets}
 use Rattle.image_octets.proofs.TableOctets.{table_octets, scope_octets}
-use Rattle.image_octets.proofs.InfoOctets.{info_octets}
+use Rattle.image_octets.proofs.InfoOctets.{info_octets, chained_octets}
 use Rattle.image_octets.proofs.NameOctets.{HasOctetName}
 use Rattle.image_octets.proofs.ProgramOctets.{program_octets}
 
 -- ---- code
 
-routine_octets : (s : SiteView) (at : ℕ) (r : RoutineView) → AreOctets (routine_bytes s at r)
+routine_octets : (s : SiteView) (at cold : ℕ) (r : RoutineView)
+    → AreOctets (routine_bytes s at cold r)
 unfolding routine_bytes
-routine_octets s at r = spelled_octets (routine_code s at r)
+routine_octets s at cold r = spelled_octets (routine_code s at cold r)
 
-routines_octets : (s : SiteView) (at : ℕ) (rs : List RoutineView)
-    → AreOctets (routines_bytes s at rs)
-routines_octets s at [] = tt
-routines_octets s at (r ∷ rs) =
-    joined (routine_bytes s at r) (routines_bytes s (at + routine_size r) rs)
-    (routine_octets s at r) (routines_octets s (at + routine_size r) rs)
+routines_octets : (s : SiteView) (at cold : ℕ) (rs : List RoutineView)
+    → AreOctets (routines_bytes s at cold rs)
+routines_octets s at cold [] = tt
+routines_octets s at cold (r ∷ rs) =
+    joined (routine_bytes s at cold r)
+    (routines_bytes s (at + routine_size r) (cold + cold_size r) rs)
+    (routine_octets s at cold r) (routines_octets s (at + routine_size r) (cold + cold_size r) rs)
+
+apart_octets : (s : SiteView) (at cold : ℕ) (r : RoutineView)
+    → AreOctets (apart_bytes s at cold r)
+unfolding apart_bytes
+apart_octets s at cold r = spelled_octets (apart_code s at cold r)
+
+all_apart_octets : (s : SiteView) (at cold : ℕ) (rs : List RoutineView)
+    → AreOctets (all_apart_bytes s at cold rs)
+all_apart_octets s at cold [] = tt
+all_apart_octets s at cold (r ∷ rs) =
+    joined (apart_bytes s at cold r)
+    (all_apart_bytes s (at + routine_size r) (cold + cold_size r) rs)
+    (apart_octets s at cold r) (all_apart_octets s (at + routine_size r) (cold + cold_size r) rs)
 
 text_octets : (s : SiteView) (rs : List RoutineView) → AreOctets (text_bytes s rs)
 text_octets s rs =
     let first = first_routine_at s.imports s.text in
-    joined (spelled (front_code s.imports s.text s.rdata)) (routines_bytes s first rs)
-    (spelled_octets (front_code s.imports s.text s.rdata)) (routines_octets s first rs)
+    let cold = first + total rs in
+    let front = spelled (front_code s.imports s.text s.rdata) in
+    joined (front ++ routines_bytes s first cold rs) (all_apart_bytes s first cold rs)
+    (joined front (routines_bytes s first cold rs)
+    (spelled_octets (front_code s.imports s.text s.rdata)) (routines_octets s first cold rs))
+    (all_apart_octets s first cold rs)
 
 -- ---- unwind infos and scope tables
 
@@ -69,18 +91,27 @@ framed_octets s labels end r (Some f) few =
 abbrev RoutineHasFew : RoutineView → Type 0
 RoutineHasFew r = HasFew r.frame
 
-one_octets : (s : SiteView) (at : ℕ) (r : RoutineView) → RoutineHasFew r
-    → AreOctets (info_bytes s at r)
+one_octets : (s : SiteView) (at cold : ℕ) (r : RoutineView) → RoutineHasFew r
+    → AreOctets (info_bytes s at cold r)
 unfolding info_bytes
-one_octets s at r few =
-    framed_octets s (own_addresses at r).labels (own_addresses at r).end r r.frame few
+one_octets s at cold r few =
+    framed_octets s (own_addresses at cold r).labels (own_addresses at cold r).end r r.frame few
 
-infos_octets : (s : SiteView) (at : ℕ) (rs : List RoutineView) → AllByRecursion RoutineHasFew rs
-    → AreOctets (infos s at rs)
-infos_octets s at [] all = tt
-infos_octets s at (r ∷ rs) all =
-    joined (info_bytes s at r) (infos s (at + routine_size r) rs)
-    (one_octets s at r all.0) (infos_octets s (at + routine_size r) rs all.1)
+infos_octets : (s : SiteView) (at cold : ℕ) (rs : List RoutineView)
+    → AllByRecursion RoutineHasFew rs → AreOctets (infos s at cold rs)
+infos_octets s at cold [] all = tt
+infos_octets s at cold (r ∷ rs) all =
+    joined (info_bytes s at cold r) (infos s (at + routine_size r) (cold + cold_size r) rs)
+    (one_octets s at cold r all.0)
+    (infos_octets s (at + routine_size r) (cold + cold_size r) rs all.1)
+
+all_infos_octets : (s : SiteView) (info at cold : ℕ) (rs : List RoutineView)
+    → AllByRecursion RoutineHasFew rs → AreOctets (all_infos s info at cold rs)
+all_infos_octets s info at cold rs all =
+    joined (infos s at cold rs) (chained_infos (fragments s info at cold rs))
+    (infos_octets s at cold rs all)
+    (mapped chained_bytes (fragments s info at cold rs)
+    (λ (f : Fragment). chained_octets f.framed f.parent))
 
 function_few : (b : Bool) (f : LinearFunction) → FitsFunction f → RoutineHasFew (leaf_if b f)
 function_few true f fits = tt
@@ -121,6 +152,19 @@ row_names : (index : ℕ) (b : List ℕ) (fs : List LinearFunction) → AllByRec
 row_names index b [] all = tt
 row_names index b (f ∷ fs) all = (name_octets f.name all.0, row_names (index + 1) b fs all.1)
 
+-- the rows of cold parts have none
+part_names : (number : ℕ) (ps : List CodeRange)
+    → AllByRecursion HasOctetName (part_rows number ps)
+part_names number [] = tt
+part_names number (p ∷ ps) = (tt, part_names number ps)
+
+all_part_names : (number : ℕ) (pss : List (List CodeRange))
+    → AllByRecursion HasOctetName (all_part_rows number pss)
+all_part_names number [] = tt
+all_part_names number (ps ∷ pss) =
+    all_both HasOctetName (part_rows number ps) (all_part_rows (number + 1) pss)
+    (part_names number ps) (all_part_names (number + 1) pss)
+
 -- ---- the image
 
 pub linked_are_octets : LinkedAreOctets
@@ -128,8 +172,13 @@ linked_are_octets p fits globals =
     let rs = routines p in
     let s = site (services_of p) p.globals rs (length p.functions) in
     let at = first (services_of p) p.globals in
+    let cold = first_cold (services_of p) p.globals rs in
+    let info = xdata_begin (services_of p) p.globals rs in
+    let named = named_functions p in
     program_octets (linked p) globals (text_octets s rs)
-    (infos_octets s at rs (routines_few p fits.functions))
-    (table_octets (ranges s (xdata_begin (services_of p) p.globals rs) at rs))
-    (row_names 0 (bounds at rs) (named_functions p)
-    (named_octets (calls_walk p) p.functions fits.names))
+    (all_infos_octets s info at cold rs (routines_few p fits.functions))
+    (table_octets (all_ranges s info at cold rs))
+    (all_both HasOctetName (function_rows 0 (bounds at rs) named)
+    (cold_rows 1 cold (take (length named) rs))
+    (row_names 0 (bounds at rs) named (named_octets (calls_walk p) p.functions fits.names))
+    (all_part_names 1 (parts_from cold (take (length named) rs))))

@@ -2,7 +2,7 @@
 use Rattle.image_runs.specs.Words.{lowered}
 use Rattle.image_runs.proofs.Lemmas.{lowered_has_regions}
 use Rattle.image_tables.specs.FrameLaws.{IsFramed}
-use Rattle.image_tables.proofs.Callers.{frames_are_found, leaves_are_found', thunks_are_found, probes_are_found}
+use Rattle.image_tables.proofs.Callers.{frames_are_found, parts_are_found, leaves_are_found', thunks_are_found, probes_are_found}
 use Rattle.image_runs.specs.FrameCallers.{LoweredFindsCallers}
 
 pub lowered_finds_callers : LoweredFindsCallers
@@ -14,6 +14,11 @@ lowered_finds_callers program fits =
           let is_framed : IsFramed p index x f =
           record { fits = fits; there = there; framed = framed } in
           frames_are_found p index x f e s distance is_framed regions entry text here is_there;
+      cold_parts = λ index n x f q e s distance there framed part entry text here is_there.
+          let is_framed : IsFramed p index x f =
+          record { fits = fits; there = there; framed = framed } in
+          parts_are_found p index n x f q e s distance is_framed regions part entry text here
+          is_there;
       leaves = λ index x e s there frameless inside.
           leaves_are_found' p index x e s fits regions there frameless inside;
       thunks = λ service e s inside. thunks_are_found p service e s fits regions inside;

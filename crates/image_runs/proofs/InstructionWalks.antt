@@ -1,15 +1,15 @@
 -- Within an instruction the walk gives the frames that it gave where the instruction
 -- began.
-use Rattle.std.proofs.Common.{◌≡◌, ℕ, ◌+◌, ◌^◌, ◌<◌, ◌≤◌, false, Some, List, [], ◌∷◌, length, refl, sym, ap, subst, ◌∙◌, arith}
+use Rattle.std.proofs.Common.{◌≡◌, ℕ, ◌+◌, ◌^◌, ◌<◌, ◌≤◌, false, Some, List, [], ◌∷◌, length, refl, sym, ap, subst, arith}
 use Rattle.std.specs.List.{AllByRecursion}
 use Rattle.virtual_unwind.specs.Contexts.{get}
-use Rattle.image_runs.specs.Words.{STACK_START, Memory, Context, context_of, State, rsp, Functions, Funclet, LinearProgram, LinearBody, Frame, body_of, Item, Waits, Configuration, StackItem, Framed, Leaf, FrameIsAt, IsStack, StackFrame, ImagePlan, InCode, Activation, BodyWaits, Linked, HasSpace, below_end, Sites, HasProgram, IsResumed, IsProgramImage, IsWithinInstruction, WalkGives, WalksGiveTheFramesWithin, frame_of, frame_at_label}
+use Rattle.image_runs.specs.Words.{STACK_START, Memory, Context, context_of, State, rsp, Functions, Funclet, LinearProgram, LinearBody, Frame, body_of, Item, Waits, Configuration, StackItem, Framed, Leaf, FrameIsAt, IsStack, StackFrame, ImagePlan, InCode, Activation, BodyWaits, Linked, temporaries_end, activations_below, after_frame, HasSpace, below_end, Sites, HasProgram, IsResumed, IsProgramImage, IsWithinInstruction, WalkGives, WalksGiveTheFramesWithin, frame_of, frame_at_label}
 use Rattle.linear_code.specs.declared.program.Region.{Region}
 use Rattle.linear_machine.specs.Regions.{holds, regions_of}
+use Rattle.match_stack.specs.ItemMatches.{HasPointers}
 use Rattle.match_stack.specs.ListLaws as linked
 use Rattle.match_stack.proofs.ListKeeping.{kept_by_other_memories}
-use Rattle.match_stack.specs.Stack.{IsAsTold}
-use Rattle.image_runs.proofs.Lemmas.{frame_size, frame_is, told_with}
+use Rattle.image_runs.proofs.Lemmas.{frame_size, frame_told, told_with}
 use Rattle.image_runs.proofs.LiveFrames.{as_many, are_frames}
 use Rattle.image_runs.proofs.WalkFrames.{frames, gives}
 use Rattle.image_runs.proofs.StateWalks.{IsTop, tops}
@@ -58,67 +58,87 @@ module _ (t : Functions) (fs : List Funclet) (program : LinearProgram) (p : Imag
       space = w.space;
     }
 
-    -- all instructions of the body have the same entry
-    one_entry : (label other : ℕ) → p.entry b.body label ≡ p.entry b.body other
-    one_entry = (image.pieces b.body code there).entries
+    -- the body's frame, with the entry of the instruction
+    abbrev framed_now : StackFrame → StackFrame
+    framed_now f = frame_at_label p b.body b.next f.return_address f.others
 
     frame_there : (f : StackFrame) (label : ℕ) → p.leaf b.body ≡ false
         → f.entry ≡ p.entry b.body label
-        → f.slots ≡ (p.layout b.body).slots → FrameIsAt t m c f → FrameIsAt t m to f
+        → f.slots ≡ (p.layout b.body).slots → FrameIsAt t m c f → FrameIsAt t m to (framed_now f)
     frame_there f label framed entry slots s =
-        let same = frame_is t fs program p q image m c f b.body code label there framed entry slots
-        s in
         let size = frame_size t fs program p q image m c f b.body code label there framed entry s in
         let own = frame_of p b.body f.return_address f.others in
-        let here : f ≡ frame_at_label p b.body b.next f.return_address f.others =
-        same ∙ (λ i. record own { entry = one_entry 0 b.next i }) in
-        subst (FrameIsAt t m to) (sym here)
-        (image.frames m b.body code b.next to f.return_address f.others there framed has resumed
+        image.frames m b.body code b.next to f.return_address f.others there framed has resumed
         (record {
           kept = s.kept;
           eight = s.eight;
           room = subst (λ n. rsp c + n + 8 < 2 ^ 64) size s.room;
-          is_told = told_with m c to own refl (subst (IsAsTold m c) same s.is_told);
-        }))
+          is_told = told_with m c to own refl
+              (frame_told t fs program p q image m c f b.body code label there framed entry slots
+              s);
+        })
 
-    -- the same list from another address of the instruction
+    -- a list from another address of the instruction, and of as many items
+    record IsThere : Type 0 where
+      pub is : List StackItem
+      pub list : linked.IsLinkedStack t fs program p m to is (Waits b ∷ below) acts
+
     there_too : (is : List StackItem) → IsStack t m c is
-        → Linked t fs program p m c is (Waits b ∷ below) acts
-        → linked.IsLinkedStack t fs program p m to is (Waits b ∷ below) acts
-    there_too (Framed f ∷ is) s l = record {
-      stack = (frame_there f l.0.waits.label l.0.framed l.0.entry l.0.slots s.0, s.1);
-      linked = (
+        → Linked t fs program p m c is (Waits b ∷ below) acts → IsThere
+    there_too (Framed f ∷ is) s l =
+        let y = p.layout b.body in
+        let w = l.0.waits in
+        let size = frame_size t fs program p q image m c f b.body code w.label there l.0.framed
+        l.0.entry s.0 in
+        let next : after_frame c f ≡ after_frame to (framed_now f) =
+        ap (λ (n : ℕ). after_frame c (record f { size = n })) size in
         record {
-          framed = l.0.framed;
-          slots = l.0.slots;
-          small = l.0.small;
-          waits = waits_there (get c) f.slots _ l.0.waits;
-          entry = l.0.entry ∙ one_entry l.0.waits.label b.next;
-          pointers = l.0.pointers;
-          returns = l.0.returns;
-        },
-        l.1,
-        l.2,
-      );
-    }
+          is = Framed (framed_now f) ∷ is;
+          list = record {
+            stack = (
+              frame_there f w.label l.0.framed l.0.entry l.0.slots s.0,
+              subst (λ (x : Context). IsStack t m x is) next s.1,
+            );
+            linked = (
+              record {
+                framed = l.0.framed;
+                slots = refl;
+                small = l.0.small;
+                waits = waits_there (get c) y.slots (temporaries_end y b.body y.slots)
+                    (subst (λ n. BodyWaits t fs program p m c (get c) n (temporaries_end y b.body n)
+                    b acts) l.0.slots w);
+                entry = refl;
+                pointers = subst (λ n. HasPointers t fs program p m y (rsp c) n below) size
+                    l.0.pointers;
+                returns = l.0.returns;
+              },
+              l.1,
+              subst (λ (x : Context). Linked t fs program p m x is below
+                  (activations_below b.body acts)) next l.2,
+            );
+          };
+        }
     there_too (Leaf back ∷ is) s l = record {
-      stack = (
-        image.leaves m b.body code b.next to back there l.0.leaf resumed s.0.kept s.0.room
-            s.0.returns,
-        s.1,
-      );
-      linked = (
-        record {
-          leaf = l.0.leaf;
-          home = l.0.home;
-          none = l.0.none;
-          now = l.0.now;
-          waits = waits_there l.0.now _ _ l.0.waits;
-          returns = l.0.returns;
-        },
-        l.1,
-        l.2,
-      );
+      is = Leaf back ∷ is;
+      list = record {
+        stack = (
+          image.leaves m b.body code b.next to back there l.0.leaf resumed s.0.kept s.0.room
+              s.0.returns,
+          s.1,
+        );
+        linked = (
+          record {
+            leaf = l.0.leaf;
+            home = l.0.home;
+            none = l.0.none;
+            now = l.0.now;
+            waits = waits_there l.0.now _ _ l.0.waits;
+            returns = l.0.returns;
+          },
+          l.1,
+          l.2,
+        );
+      };
     }
     there_too is s l = absurd l
 
@@ -134,19 +154,20 @@ module _ (t : Functions) (fs : List Funclet) (program : LinearProgram) (p : Imag
       w.stack low was in
       let moved = there_too u.memory from u.cpu.rip c.frame c.below h.acts w.code w.body w.resumed
       w.inside w.small w.program_there top.is now.stack now.linked in
+      let is = moved.is in
       let same : context_of u.cpu ≡ record { rip = u.cpu.rip; kept = from.kept } = ap
       (λ (ks : List ℕ). let x : Context = record { rip = u.cpu.rip; kept = ks } in x) w.kept in
-      let here : linked.IsLinkedStack t fs program p u.memory (context_of u.cpu) top.is items
-      h.acts = subst (λ (x : Context). linked.IsLinkedStack t fs program p u.memory x top.is items
-      h.acts) (sym same) moved in
-      let n = as_many t fs program p u.memory (context_of u.cpu) top.is items h.acts here.linked in
+      let here : linked.IsLinkedStack t fs program p u.memory (context_of u.cpu) is items
+      h.acts = subst (λ (x : Context). linked.IsLinkedStack t fs program p u.memory x is items
+      h.acts) (sym same) moved.list in
+      let n = as_many t fs program p u.memory (context_of u.cpu) is items h.acts here.linked in
       record {
         acts = h.acts;
         store = h.store;
-        frames = frames (context_of u.cpu) top.is;
-        live = are_frames t fs program p q image u.memory (context_of u.cpu) top.is items h.acts
+        frames = frames (context_of u.cpu) is;
+        live = are_frames t fs program p q image u.memory (context_of u.cpu) is items h.acts
             here.stack here.linked;
-        walks = λ k le. gives t u.memory (context_of u.cpu) 0 top.is k here.stack (omega arith);
+        walks = λ k le. gives t u.memory (context_of u.cpu) 0 is k here.stack (omega arith);
       }
 
 pub walks_give_the_frames_within : WalksGiveTheFramesWithin

@@ -9,16 +9,17 @@ pub use Rattle.x64_templates.proofs.PlacedCode.{same_number, bytes_kept, enters_
 pub use Rattle.match_runs.proofs.Steps.{at_instruction, matched_step, steps_are_matched}
 pub use Rattle.match_runs.proofs.Taken.{Takes, taken}
 pub use Rattle.match_stack.proofs.ItemVisits.{set_head, frame_is_visited, leaf_is_visited, search_is_passed, unwinding_is_passed, stack_is_over}
-pub use Rattle.match_bodies.proofs.BodyFrames.{told_with}
-pub use Rattle.match_bodies.proofs.BodyResumption.{frame_size, frame_is}
+pub use Rattle.match_bodies.proofs.BodyFrames.{told_by, told_with}
+pub use Rattle.match_bodies.proofs.BodyResumption.{frame_size, frame_told}
 pub use Rattle.match_bodies.proofs.ChainKeeping.{Keeps, enters_keeps, stays_well_formed}
 pub use Rattle.match_bodies.proofs.FrameMaking.{making_steps}
+pub use Rattle.match_bodies.proofs.LabelPlaces.{label_near, template_there, code_ends}
 pub use Rattle.match_bodies.proofs.SlotPlaces.{stack_is_reserved}
-pub use Rattle.match_bodies.proofs.StackTop.{leaf_layout, OnTop, leaf_frame, framed_here, framed_top, leaf_top, body_on_top}
+pub use Rattle.match_bodies.proofs.StackTop.{leaf_layout, OnTop, leaf_frame, framed_here, framed_top, leaf_top, body_on_top, one_entry}
 pub use Rattle.match_bodies.proofs.StackWords.{word_is, may_read_written, word_of}
 pub use Rattle.match_bodies.proofs.StepNeeds.{label_in}
 pub use Rattle.match_bodies.proofs.TemplateRuns.{get_or_is}
-pub use Rattle.match_bodies.proofs.TemplateSizes.{template_some, first_in_code, code_ends}
+pub use Rattle.match_bodies.proofs.TemplateSizes.{template_some, first_in_code}
 pub use Rattle.match_turns.proofs.FunctionLocals.{argument_is}
 pub use Rattle.match_turns.proofs.FunctionParameters.{parameters_stay, arguments_arrive, number_unarrived, own_frame, IsOwn, roomy_own, fresh_own, parameters_soon}
 pub use Rattle.match_turns.proofs.FunctionPrologue.{Made, planned_frame}

@@ -4,8 +4,7 @@ use Rattle.std.specs.Prelude.{slice_set}
 use Rattle.std.proofs.lemmas.Bool.{false≢true}
 use Rattle.virtual_unwind.specs.Contexts.{get}
 use Rattle.image_runs.specs.Words.{Memory, Context, context_of, rsp, Functions, Funclet, LinearProgram, Item, Waits, Searches, Unwinds, StackItem, Framed, Leaf, Searching, Unwinding, IsStack, after_frame, after_leaf, ImagePlan, Activation, activations_below, BodyWaits, Linked, temporaries_end, ReturnsTo, Sites, IsProgramImage, slots_end, last_temporary, back_to, AreFrames}
-use Rattle.image_runs.proofs.Lemmas.{set_head, leaf_layout, frame_size, frame_is}
-use Rattle.match_stack.specs.Stack.{IsAsTold}
+use Rattle.image_runs.proofs.Lemmas.{set_head, leaf_layout, frame_size, frame_told}
 use Rattle.image_runs.specs.LiveFrames.{KeepsCaller}
 use Rattle.image_runs.proofs.WalkFrames.{frames}
 
@@ -64,9 +63,9 @@ module _ (t : Functions) (fs : List Funclet) (program : LinearProgram) (p : Imag
                 l.0.returns;
             after = ap (λ n. rsp c + n + 8) size;
             kept = subst (λ (leaf : Bool). KeepsCaller t fs program p m c b.body leaf caller)
-                (sym l.0.framed) (subst (IsAsTold m c)
-                (frame_is t fs program p q image m c f b.body w.code w.label w.body l.0.framed
-                l.0.entry l.0.slots s.0) s.0.is_told);
+                (sym l.0.framed)
+                (frame_told t fs program p q image m c f b.body w.code w.label w.body l.0.framed
+                l.0.entry l.0.slots s.0);
           },
           are_frames m (after_frame c f) is below (activations_below b.body acts) s.1 l.2,
         )

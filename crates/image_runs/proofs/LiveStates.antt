@@ -3,6 +3,8 @@ use Rattle.std.proofs.Common.{◌≡◌, ◌<◌, inl, inr, arith}
 use Rattle.std.proofs.lemmas.Bool.{ne_eqb}
 use Rattle.std.specs.Prelude.{List}
 use Rattle.image_runs.specs.Words.{State, Functions, Funclet, LinearProgram, Configuration, ImagePlan, Sites, IsProgramImage, InBody, Represents, IsLive}
+use Rattle.match_bodies.specs.Setting.{setting_of}
+use Rattle.image_runs.proofs.Lemmas.{label_near}
 
 module _ (t : Functions) (fs : List Funclet) (program : LinearProgram) (p : ImagePlan) (q : Sites)
     (image : IsProgramImage t fs program p q) where
@@ -10,9 +12,9 @@ module _ (t : Functions) (fs : List Funclet) (program : LinearProgram) (p : Imag
   above : (s : State) (c : Configuration) → InBody t fs program p q s c
       → 0 < p.address c.frame.body c.frame.next
   above s c b =
-      let a = image.addresses c.frame.body b.slots.code b.slots.body in
-      let low = a.inside.low in
-      omega (arith, a.first, a.labels c.frame.next)
+      let low = (label_near (setting_of t fs program p q image) c.frame.body b.slots.code
+      b.slots.body c.frame.next).0 in
+      omega arith
 
   is_live : (s : State) → 0 < s.cpu.rip → IsLive s
   is_live s h = ne_eqb s.cpu.rip 0 (λ e. (let z : s.cpu.rip ≡ 0 = e in omega arith))

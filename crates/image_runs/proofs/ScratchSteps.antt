@@ -1,7 +1,7 @@
 -- After a machine instruction that writes no memory a state is still within its instruction.
 use Rattle.std.proofs.Common.{◌≡◌, ℕ, ◌+◌, ◌%◌, ◌^◌, ◌≤◌, true, false, eqb, ◌||◌, Ok, List, [], ◌∷◌, ◌++◌, length, refl, sym, ap, subst, ◌∙◌, arith, append_assoc}
 use Rattle.std.proofs.lemmas.Bool.{ne_eqb}
-use Rattle.image_runs.specs.Words.{Memory, Rax, Rsp, Rcx, Rdx, RegisterOrMemory, Instr, chosen, is_encodable, State, register, effect, with_rip, step, Functions, Funclet, LinearProgram, Configuration, sizes, spelled, size, HasCode, ImagePlan, InCode, Sites, links_of, HasProgram, IsResumed, IsProgramImage, is_free_place, scratch_only, is_free, IsWithinInstruction, ScratchOnlyHere, kept_of, template_size, ScratchStepsStayWithin}
+use Rattle.image_runs.specs.Words.{Memory, Rax, Rsp, Rcx, Rdx, RegisterOrMemory, Instr, chosen, is_encodable, State, register, effect, with_rip, step, Functions, Funclet, LinearProgram, Configuration, sizes, spelled, size, HasCode, ImagePlan, InCode, Sites, links_of, HasProgram, IsResumed, IsProgramImage, is_free_place, scratch_only, is_free, IsWithinInstruction, ScratchOnlyHere, kept_of, ScratchStepsStayWithin}
 use Rattle.x64_instr.specs.declared.register.Reg.{Reg}
 use Rattle.x64_instr.specs.declared.operand.RegisterOrMemory.TheVariants as places
 use Rattle.x64_instr.specs.declared.instruction.Operation.TheVariants as operations
@@ -10,8 +10,8 @@ use Rattle.x64_instr.specs.Registers.{number}
 use Rattle.x64_encode.proofs.Lengths.{longest}
 use Rattle.frame_rules.specs.Body.{written, written_place, has, is_a_call}
 use Rattle.frame_rules.proofs.Writing.{writes_no_other}
-use Rattle.linear_code.specs.declared.instruction.Instruction.TheVariants as instructions
-use Rattle.image_runs.proofs.Lemmas.{sizes_append, template_sizes, outside_page, bytes_split, spells, reads, code_ends, get_or_is, template_is_at}
+use Rattle.image_runs.proofs.Lemmas.{sizes_append, template_sizes, outside_page, bytes_split, spells, reads, code_ends, template_is_at}
+use Rattle.match_bodies.specs.Setting.{setting_of}
 use Rattle.x64_templates.proofs.Computes.{code_split}
 use Rattle.match_stack.specs.ListLaws.{KeepsStack}
 use Rattle.image_runs.proofs.ScratchInstructions.{leaves}
@@ -113,9 +113,8 @@ module _ (t : Functions) (fs : List Funclet) (program : LinearProgram) (p : Imag
   inside =
       let here = r.here in
       let to = goes_to in
-      let g = get_or_is w.code.code c.frame.next r.instruction instructions.Separator r.there in
-      let n = code_ends t fs program p q image c.frame.body w.code c.frame.next w.body g.1 in
-      let z = ap (template_size (p.layout c.frame.body)) g.0 in
+      let n = code_ends (setting_of t fs program p q image) c.frame.body w.code w.body c.frame.next
+      r.instruction r.there in
       let l = template_sizes (links_of p q c.frame.body) (p.layout c.frame.body)
       (p.address c.frame.body c.frame.next) r.instruction in
       let k = ap sizes r.parts in

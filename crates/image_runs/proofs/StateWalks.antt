@@ -3,7 +3,7 @@ use Rattle.std.proofs.Common.{◌≡◌, ◌⊎◌, inl, inr, ℕ, ◌+◌, ◌^
 use Rattle.std.specs.Prelude.{slice_get}
 use Rattle.image_runs.specs.Words.{Rsp, Instr, context_of, State, register, Functions, Funclet, Slot, Temporary, Instruction, LinearProgram, Waits, Configuration, instruction_in, instruction_at, sizes, template, IsReturn, context_below, ImagePlan, Activation, activations_below, locals_of, Sites, links_of, HasProgram, IsResumed, IsProgramImage, InBody, RepresentsAt, IsKnown, Represents, WorksOn, IsReturning, ReturnsWait, WalkGives, operands_code, finish_code, WalksGiveTheFrames}
 use Rattle.linear_code.specs.declared.instruction.Instruction.TheVariants as instructions
-use Rattle.image_runs.proofs.Lemmas.{template_sizes, template_some, OnTop, leaf_frame, framed_here, framed_top, leaf_top, body_on_top, some_finish, is_some}
+use Rattle.image_runs.proofs.Lemmas.{template_sizes, template_some, OnTop, leaf_frame, framed_here, framed_top, leaf_top, body_on_top, one_entry, some_finish, is_some}
 use Rattle.match_stack.proofs.ListEnds.{in_stack}
 use Rattle.image_runs.proofs.WalkFrames.{frames, gives}
 use Rattle.image_runs.proofs.LiveFrames.{as_many, are_frames}
@@ -64,10 +64,11 @@ module _ (t : Functions) (fs : List Funclet) (program : LinearProgram) (p : Imag
 
       returning_top : (leaf : Bool) → p.leaf c.frame.body ≡ leaf
           → OnTop t fs program p q s c at.acts
-      returning_top false e = framed_top t fs program p q s c c.frame.next at
-          ((image.pieces c.frame.body at.slots.code at.slots.body).entries c.frame.next) e
-          (still.frames s.memory c.frame.body at.slots.code c.frame.next (context_of s.cpu) at.back
-          at.others at.slots.body e has r (framed_here t fs program p q s c at e))
+      returning_top false e =
+          let f = still.frames s.memory c.frame.body at.slots.code c.frame.next (context_of s.cpu)
+          at.back at.others at.slots.body e has r (framed_here t fs program p q s c at e) in
+          framed_top t fs program p q s c c.frame.next at
+          (one_entry t fs program p q image s c c.frame.next at e f.found) e f
       returning_top true e =
           let lt = below_end in
           leaf_top t fs program p q image s c at e

@@ -2,8 +2,9 @@
 use Rattle.std.specs.Prelude.{◌≡◌, ℕ, ◌+◌, slice_get, Some, None}
 use Rattle.x64_machine.specs.Effect.{State}
 use Rattle.frame_rules.specs.Codes.{depth}
-use Rattle.frame_rules.specs.Rules.{IsInFunction, ops}
+use Rattle.frame_rules.specs.Rules.{ops}
 use Rattle.frame_rules.specs.States.{IsEntry}
+use Rattle.unwind_check.specs.Fragments.{IsInPart}
 use Rattle.host_layout.specs.declared.imported.ImportedService.{ImportedService}
 use Rattle.c_checked.specs.Program.{Program}
 use Rattle.linear_code.specs.Program.{LinearProgram}
@@ -11,20 +12,28 @@ use Rattle.seh_ir.specs.Lowered.{lowered}
 use Rattle.x64_emit.specs.declared.entry.TheConstants.{CHECK_STACK_SIZE}
 use Rattle.frame_layout.specs.declared.frame.FrameLayout.{FrameLayout}
 use Rattle.image_link.specs.Fits.{FitsProgram}
-use Rattle.image_tables.specs.RoutinePlaces.{Placed, end_of, placed, thunk_begin, probe_begin}
+use Rattle.image_tables.specs.RoutinePlaces.{Placed, PlacedPart, end_of, parts_of, placed, thunk_begin, probe_begin}
 use Rattle.image_tables.specs.CodeInMemory.{image_base, HasText}
-use Rattle.image_tables.specs.Functions.{function_of, leaf, thunk_of, probe}
-use Rattle.image_tables.specs.FrameLaws.{FindsCaller, IsInRange}
+use Rattle.image_tables.specs.Functions.{function_of, part, parts, leaf, thunk_of, probe}
+use Rattle.image_tables.specs.FrameLaws.{FindsCaller, IsInRoutine, IsInRange}
 
 -- from each state of a routine the walk finds its caller, as it was at the routine's first byte (in
--- state e): in a function or funclet with a frame, prologue and epilogues included; in a leaf
--- function; in the thunk of a service; in `__chkstk`
+-- state e): in a function or funclet with a frame, prologue and epilogues included; in each of its
+-- cold parts; in a leaf function; in the thunk of a service; in `__chkstk`
 pub record FindsCallers (p : LinearProgram) : Type 0 where
   pub functions :
       (index : ℕ) (x : Placed) (f : FrameLayout) (e s : State) (distance : ℕ)
       → slice_get (placed p) index ≡ Some x → x.routine.frame ≡ Some f
       → IsEntry (depth (ops (function_of p x f))) e → HasText s.memory p
-      → s.cpu.rip ≡ image_base + x.begin + distance → IsInFunction (function_of p x f) e s distance
+      → s.cpu.rip ≡ image_base + x.begin + distance → IsInRoutine p x f e s distance
+      → FindsCaller p e s
+  pub cold_parts :
+      (index n : ℕ) (x : Placed) (f : FrameLayout) (q : PlacedPart) (e s : State) (distance : ℕ)
+      → slice_get (placed p) index ≡ Some x → x.routine.frame ≡ Some f
+      → slice_get (parts_of x) n ≡ Some q
+      → IsEntry (depth (ops (function_of p x f))) e → HasText s.memory p
+      → s.cpu.rip ≡ image_base + q.begin + distance
+      → IsInPart (function_of p x f) (parts p x f) (part p x q) e s distance
       → FindsCaller p e s
   pub leaves :
       (index : ℕ) (x : Placed) (e s : State)

@@ -5,8 +5,9 @@ use Rattle.image_states.specs.Plans.{functions_of, funclets_of, plan_of, sites_o
 use Rattle.image_states.specs.Compiled.{HasWholeImage}
 use Rattle.image_runs.specs.SoundImages.{IsLinkable, IsSoundImage}
 
--- regions are ranges and name each funclet once; the function of a funclet has a frame with the
--- locals that the funclet works on, and those that it names are in that frame
+-- regions are ranges and name each funclet once; cold parts can stand apart; the function of a
+-- funclet has a frame with the locals that the funclet works on, and those that it names are in
+-- that frame
 abbrev pub LoweredIsCompiled : Type 0
 LoweredIsCompiled = (program : Program) → IsLinkable program → HasWholeImage (lowered program)
 

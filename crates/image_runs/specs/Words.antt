@@ -44,8 +44,7 @@ pub use Rattle.template_code.specs.Bytes.{sizes, spelled}
 unfoldable pub use Rattle.template_code.specs.Bytes.{size}
 pub use Rattle.template_code.specs.Calls.{parameters_code, stack_parameter}
 pub use Rattle.template_code.specs.Slots.{fetch_local, local_at, fetch, operands_code, finish_code}
-pub use Rattle.template_code.specs.Template.{template, code_from}
-unfoldable pub use Rattle.template_code.specs.Template.{template_size}
+pub use Rattle.template_code.specs.Template.{template}
 pub use Rattle.template_code.specs.declared.layout.Layout.{Layout}
 pub use Rattle.template_code.specs.declared.layout.TheConstants.{FRAME_BY_WEIGHT, MOST_WEIGHT}
 pub use Rattle.x64_templates.specs.EntryStates.{InRegisters, with_arguments, OnStack, IsFunctionFrame, body_in_memory}
@@ -75,7 +74,7 @@ pub use Rattle.match_stack.specs.Stack.{StackItem, Framed, Leaf, FrameIsAt, IsSt
 pub use Rattle.match_stack.specs.WalkLaws.{context_below}
 pub use Rattle.match_bodies.specs.Bodies.{turns_left, RepresentsAt, held_below, slots_end, last_temporary, InBody}
 pub use Rattle.match_bodies.specs.BodyViews.{seen_by_templates, counts_of}
-pub use Rattle.match_bodies.specs.CodeSites.{Sites, arguments_code, function_arguments, links_of, begin_of, code_of}
+pub use Rattle.match_bodies.specs.CodeSites.{Sites, arguments_code, function_arguments, links_of}
 pub use Rattle.match_bodies.specs.ConfigurationFacts.{IsKnown, KnownNext, IsWellMade}
 pub use Rattle.match_bodies.specs.Layouts.{IsLayoutIf, IsFunctionLayout, IsLeafLayout}
 pub use Rattle.match_bodies.specs.ProgramImages.{IsMachineMemory, IsProgramImage, HasProgram, IsResumed, IsFramed, frame_of, frame_at_label}
@@ -84,8 +83,7 @@ pub use Rattle.match_turns.specs.CallOutcome.{CallBegins, begun, FunctionsApart}
 pub use Rattle.match_turns.specs.DispatchOutcome.{Represents, WorksOn}
 pub use Rattle.image_link.specs.Linked.{text_begin, linked}
 pub use Rattle.image_link.specs.Routines.{RoutineView, routines, all_spare, is_leaf, no_function}
-pub use Rattle.image_link.specs.Text.{bounds, entry_code, check_stack_at, routine_code}
-unfoldable pub use Rattle.image_link.specs.Text.{entry_size}
+pub use Rattle.image_link.specs.Text.{bounds}
 pub use Rattle.image_tables.specs.FrameLaws.{stack_frame}
 pub use Rattle.text_bounds.specs.StepsPerTurnLaws.{steps_per_turn_in, program_of}
 pub use Rattle.image_states.specs.Compiled.{HasWholeImage, IsMember, IsFuncletSized}

@@ -1,11 +1,15 @@
 -- Where the bodies of a program's image are.
-use Rattle.std.proofs.Common.{◌≡◌, ◌≢◌, ℕ, zero, suc, ◌+◌, ◌-◌, ◌<◌, ◌≤◌, true, false, not, leb, ltb, List, [], ◌∷◌, ◌++◌, length, get_or, Some, refl, ap, subst, ◌∙◌, arith, inl, inr, length-append}
-use Rattle.std.specs.Prelude.{◌&&◌}
+use Rattle.std.proofs.Common.{◌≡◌, ◌≢◌, ◌⊎◌, ℕ, ◌+◌, ◌-◌, ◌^◌, ◌<◌, ◌≤◌, Bool, true, false, not, leb, ltb, List, length, get_or, take, Option, Some, None, refl, sym, ap, subst, ◌∙◌, arith, inl, inr}
+use Rattle.std.specs.Prelude.{◌&&◌, if◌then◌else◌, slice_get}
+use Rattle.std.proofs.lemmas.Option.{slice_get_within}
 use Rattle.std.proofs.lemmas.Bool.{or_right, and_from, and_right, not_from_false, cases_eq, cases_lt, le-leb, lt-ltb, le-ltb}
-use Rattle.image_states.specs.Words.{IMAGE_BASE, IMAGE_RANGE_END, is_between, is_data, data_end, is_reserved, LinearBody, LinearFunclet, LinearProgram, BodyName, body_of, Instruction, Layout, modrm, size, sizes, check_stack, body_size, offset_of, FitsProgram, RoutineView, funclet_frame, funclet, routines, IsFrameNear, routine_size, entry_size, routine_bytes, bounds, text_begin, total, linked, Placed, end_of, site_of, image_base, template_at, funclet_begin, functions_of, funclets_of, routine_of, address_of, plan_of, sites_of, HasWholeImage, IsInImage, routines_begin, probe_begin}
-use Rattle.image_states.proofs.Lemmas.{offset_next, some_instruction, no_routine, prologue_some, entry_least, text_is, end_inside, IsThere, there, routine_length, bounds_rise, no_funclet, as_long, begin_is, funclet_is, funclet_size}
+use Rattle.image_states.specs.Words.{IMAGE_BASE, IMAGE_RANGE_END, is_between, is_data, data_end, is_reserved, LinearBody, LinearFunclet, LinearProgram, BodyName, body_of, Instruction, modrm, size, sizes, check_stack, template_size, body_size, is_cold, side_from, FitsProgram, RoutineView, funclet_frame, funclet, routines, IsFrameNear, routine_size, cold_size, cold_total, entry_size, bounds, text_begin, linked, Placed, PlacedPart, body_begin, end_of, placed, first_cursor, site_of, part_with, image_base, template_at, funclet_begin, functions_of, funclets_of, routine_of, address_of, plan_of, sites_of, HasWholeImage, IsInImage, routines_begin, cold_begin, probe_begin}
+use Rattle.image_tables.specs.RoutinePlaces.{parts_of}
+use Rattle.lowering_invariants.specs.ColdParts.{HasColdParts}
+use Rattle.image_states.proofs.ColdLabels.{first_hot}
+use Rattle.image_states.proofs.Lemmas.{no_routine, prologue_some, entry_least, end_inside, image_small, IsThere, there, Covers, covered, part_within, placed_most, placed_cold_least, placed_cold_most, bounds_rise, no_funclet, as_long, begin_is, funclet_is, funclet_size}
 use Rattle.image_link.proofs.Bounds.{bounds_least, bounds_below}
-use Rattle.image_tables.proofs.Labels.{template_some}
+use Rattle.image_tables.proofs.Labels.{template_some, within_get, taken, taken_past, taken_most, IsBetween, label_between}
 use Rattle.image_states.proofs.Places.{IsBody, is_body}
 
 -- ---- what no access of the source reaches
@@ -27,43 +31,20 @@ reserved globals a le lt =
 
 -- ---- routines
 
--- a routine ends within the text
-pub routine_end : (p : LinearProgram) (x : Placed) → FitsProgram p
-    → IsThere (site_of p) (linked p).text (text_begin p.globals) x
-    → end_of x ≤ routines_begin p + total (routines p)
-routine_end p x fits h =
-    let long = routine_length (site_of p) x.begin x.routine h.near in
-    let l = ap length h.bytes in
-    let t = text_is p fits in
-    let here = h.here in
-    let bytes = routine_bytes (site_of p) x.begin x.routine in
-    omega (arith, length-append h.before (bytes ++ h.after), length-append bytes h.after)
+-- a routine ends before the cold parts of all
+pub routine_end : (p : LinearProgram) (index : ℕ) (x : Placed)
+    → slice_get (placed p) index ≡ Some x → end_of x ≤ cold_begin p
+routine_end p index x e = placed_most (site_of p) (first_cursor p) (routines p) index x e
 
--- instructions one after another end with the body
-pub offset_most : (y : Layout) (body : List Instruction) (label : ℕ)
-    → offset_of y body label ≤ body_size y body
-offset_most y [] zero = omega arith
-offset_most y [] (suc label) = omega arith
-offset_most y (i ∷ body) zero = omega arith
-offset_most y (i ∷ body) (suc label) = let l = offset_most y body label in omega arith
-
-pub offset_mono : (y : Layout) (body : List Instruction) (i j : ℕ) → i ≤ j
-    → offset_of y body i ≤ offset_of y body j
-offset_mono y [] zero zero le = omega arith
-offset_mono y [] zero (suc j) le = omega arith
-offset_mono y [] (suc i) zero le = omega arith
-offset_mono y [] (suc i) (suc j) le = omega arith
-offset_mono y (b ∷ body) zero j le = omega arith
-offset_mono y (b ∷ body) (suc i) zero le = absurd (omega arith)
-offset_mono y (b ∷ body) (suc i) (suc j) le = let r = offset_mono y body i j (omega arith) in
-    omega arith
-
-pub past : (y : Layout) (body : List Instruction) (i : ℕ) → length body ≤ i
-    → offset_of y body i ≡ body_size y body
-past y [] zero le = refl
-past y [] (suc i) le = refl
-past y (b ∷ body) zero le = absurd (omega arith)
-past y (b ∷ body) (suc i) le = let r = past y body i (omega arith) in omega arith
+-- and its cold parts are among these
+pub cold_there : (p : LinearProgram) (index : ℕ) (x : Placed)
+    → slice_get (placed p) index ≡ Some x
+    → (cold_begin p ≤ x.cold)
+    × (x.cold + cold_size x.routine ≤ cold_begin p + cold_total (routines p))
+cold_there p index x e = (
+  placed_cold_least (site_of p) (first_cursor p) (routines p) index x e,
+  placed_cold_most (site_of p) (first_cursor p) (routines p) index x e,
+)
 
 check_stack_size : sizes check_stack ≡ 41
 unfolding size modrm
@@ -77,9 +58,9 @@ module _ (program : LinearProgram) (c : HasWholeImage program) where
   InImage from to = IsInImage (functions_of program) (funclets_of program) program (plan_of program)
       (sites_of program) from to
 
-  -- from the text's begin up to the end of the routines
+  -- from the text's begin up to its end
   pub in_image : (from to : ℕ) → text_begin program.globals ≤ from
-      → to ≤ routines_begin program + total (routines program)
+      → to ≤ cold_begin program + cold_total (routines program)
       → InImage (image_base + from) (image_base + to)
   in_image from to low high =
       let end = end_inside program fits in
@@ -113,31 +94,122 @@ module _ (program : LinearProgram) (c : HasWholeImage program) (name : BodyName)
   pub here : IsThere (site_of program) (linked program).text (text_begin program.globals) x
   here = there program place.index x c.fits place.at
 
-  -- one label after another
-  pub label_rises : (label : ℕ) → label < length x.routine.body.code
-      → template_at x label < template_at x (label + 1)
-  label_rises label lt =
-      let next = offset_next x.routine.layout x.routine.body.code label some_instruction lt in
-      let some = template_some x.routine.layout
-      (get_or x.routine.body.code label some_instruction) in
-      let e = ap (offset_of x.routine.layout x.routine.body.code)
-      (let q : suc label ≡ label + 1 = omega arith in q) in
+  pub own_cold : HasColdParts x.routine.body
+  own_cold = subst HasColdParts (sym place.body) (c.cold name b is)
+
+  -- the first label is where the body begins
+  pub body_first : template_at x 0 ≡ body_begin x
+  body_first =
+      let e = ap (λ (s : Bool). (if s then x.cold else body_begin x) + 0)
+      (first_hot x.routine.body own_cold) in
+      let z : body_begin x + 0 ≡ body_begin x = omega arith in
+      e ∙ z
+
+  -- where a label that isn't cold is
+  pub hot_place : (label : ℕ) → is_cold x.routine.body.cold label ≡ false
+      → template_at x label ≡ body_begin x + taken x.routine.layout x.routine.body.cold false 0
+      label x.routine.body.code
+  hot_place label hot =
+      ap (λ (s : Bool). (if s then x.cold else body_begin x)
+      + body_size x.routine.layout (side_from x.routine.body.cold s 0
+      (take label x.routine.body.code))) hot
+
+  -- the code of an instruction
+  pub label_rises : (label : ℕ) (i : Instruction) → template_at x label
+      < template_at x label + template_size x.routine.layout i
+  label_rises label i = let some = template_some x.routine.layout i in omega arith
+
+  -- is in the routine or in its cold parts
+  abbrev pub IsInRoutine : ℕ → Type 0
+  IsInRoutine rva = ((body_begin x ≤ rva) × (rva < end_of x))
+      ⊎ ((x.cold ≤ rva) × (rva < x.cold + cold_size x.routine))
+
+  one_of : (o : Option PlacedPart) (rva : ℕ) → Covers x o rva → IsInRoutine rva
+  one_of None rva h = inl (h.0, h.1)
+  one_of (Some q) rva h =
+      let w = part_within x h.0 q here.near h.1 in
+      let least = w.0 in
+      let most = w.1 in
+      let low = h.2 in
+      let high = h.3 in
+      inr (omega arith, omega arith)
+
+  pub code_inside : (label rva : ℕ) (i : Instruction)
+      → slice_get x.routine.body.code label ≡ Some i → template_at x label ≤ rva
+      → rva < template_at x label + template_size x.routine.layout i → IsInRoutine rva
+  code_inside label rva i there low high =
+      one_of (part_with label (parts_of x)) rva
+      (covered x label rva i here.near there low high)
+
+  -- so it is near
+  pub in_routine_small : (rva : ℕ) → IsInRoutine rva → rva < 2 ^ 32
+  in_routine_small rva (inl h) =
+      let high = h.1 in
+      let end = routine_end program place.index x place.at in
+      let inside = end_inside program c.fits in
+      let few = image_small program c.fits in
+      omega arith
+  in_routine_small rva (inr h) =
+      let high = h.1 in
+      let most = (cold_there program place.index x place.at).1 in
+      let inside = end_inside program c.fits in
+      let few = image_small program c.fits in
       omega arith
 
-  -- all of them up to the body's end
-  pub label_inside : (label : ℕ) → template_at x label ≤ end_of x
-  label_inside label = let l = offset_most x.routine.layout x.routine.body.code label in omega arith
-
-  -- those of instructions before it
-  pub label_below : (label : ℕ) → label < length x.routine.body.code
-      → template_at x label < end_of x
-  label_below label lt = let r = label_rises label lt in let l = label_inside (label + 1) in
+  -- a label that isn't cold is before the routine's end
+  pub hot_below : (label : ℕ) (i : Instruction) → slice_get x.routine.body.code label ≡ Some i
+      → is_cold x.routine.body.cold label ≡ false
+      → template_at x label + template_size x.routine.layout i ≤ end_of x
+  hot_below label i there hot =
+      let p = hot_place label hot in
+      let z : 0 + label ≡ label = omega arith in
+      let lt = slice_get_within x.routine.body.code label i there in
+      let past = taken_past x.routine.layout x.routine.body.cold false 0 label
+      (length x.routine.body.code) x.routine.body.code i lt there
+      (ap (is_cold x.routine.body.cold) z ∙ hot) in
+      let most = taken_most x.routine.layout x.routine.body.cold false 0
+      (length x.routine.body.code) x.routine.body.code in
       omega arith
 
-  -- the code of a body is in the image
+  -- each label is in the text, past the last instruction too
+  between : (a : ℕ) → IsBetween x.routine.layout x.routine.body.cold (body_begin x) x.cold
+      x.routine.body.code here.near.cold a
+      → (text_begin program.globals ≤ a) × (a ≤ cold_begin program + cold_total (routines program))
+  between a (inl h) =
+      let low = h.0 in
+      let high = h.1 in
+      let before = here.here in
+      let end = routine_end program place.index x place.at in
+      (omega arith, omega arith)
+  between a (inr h) =
+      let low = h.0 in
+      let high = h.1 in
+      let colds = cold_there program place.index x place.at in
+      let least = colds.0 in
+      let most = colds.1 in
+      (omega arith, omega arith)
+
+  pub label_in_text : (label : ℕ) → (text_begin program.globals ≤ template_at x label)
+      × (template_at x label ≤ cold_begin program + cold_total (routines program))
+  label_in_text label =
+      between (template_at x label)
+      (label_between x.routine.layout x.routine.body.cold (body_begin x) x.cold
+      x.routine.body.code here.near.cold label)
+
+  -- the code of a body is in the image, and that of its cold parts
   pub body_inside : InImage program c (image_base + x.begin) (image_base + end_of x)
-  body_inside = let h = here in let before = h.here in
-      in_image program c x.begin (end_of x) (omega arith) (routine_end program x c.fits here)
+  body_inside =
+      let before = here.here in
+      let end = routine_end program place.index x place.at in
+      in_image program c x.begin (end_of x) (omega arith) (omega arith)
+
+  pub cold_inside : InImage program c (image_base + x.cold)
+      (image_base + (x.cold + cold_size x.routine))
+  cold_inside =
+      let colds = cold_there program place.index x place.at in
+      let least = colds.0 in
+      let most = colds.1 in
+      in_image program c x.cold (x.cold + cold_size x.routine) (omega arith) (omega arith)
 
 -- a funclet has code before its body
 entry_some : (program : LinearProgram) (c : HasWholeImage program) (name : BodyName)
@@ -158,7 +230,7 @@ entry_some program c name b is fl e =
 module _ (program : LinearProgram) (c : HasWholeImage program) where
   -- a funclet begins within the text
   pub funclet_end : (k : ℕ) → k < length program.funclets
-      → funclet_begin program k < routines_begin program + total (routines program)
+      → funclet_begin program k < cold_begin program
   funclet_end k lt =
       let fits = c.fits in
       let long = as_long program fits in
@@ -224,20 +296,36 @@ module _ (program : LinearProgram) (c : HasWholeImage program) where
     by_index here there = elim (cases_eq own.index n) [ inl e ↦ here e | inr ne ↦ there ne ]
 
     -- a body's instruction is at no funclet's first byte
-    pub not_first : (label : ℕ) → label < length b.code
-        → address_of program name label ≢ image_base + funclet_begin program k
-    not_first label lt e =
-        let q : address_of program name label ≡ image_base + funclet_begin program k = e in
-        let same = ap (λ (d : LinearBody). length d.code) own.body in
-        let lt' : label < length routine.routine.body.code = omega arith in
-        let below = label_below program c name b is label lt' in
+    not_at : (a : ℕ) → IsInRoutine program c name b is a → a ≢ funclet_begin program k
+    not_at a (inl h) e =
+        let low = h.0 in
+        let high = h.1 in
+        let q : a ≡ funclet_begin program k = e in
         by_index (λ here.
         let there = begins_there here in
         let entry = entry_some program c name b is (get_or program.funclets k no_funclet)
         (own.own ∙ ap (λ (i : ℕ). get_or (routines program) i no_routine) here
         ∙ funclet_is program c.fits k in') in
         omega arith)
-        (λ other. elsewhere (template_at routine label) (omega arith) below other (omega arith))
+        (λ other. elsewhere a (omega arith) high other e)
+    not_at a (inr h) e =
+        let low = h.0 in
+        let q : a ≡ funclet_begin program k = e in
+        let end = funclet_end k in' in
+        let colds = cold_there program own.index routine own.at in
+        let least = colds.0 in
+        omega arith
+
+    pub not_first : (label : ℕ) → label < length b.code
+        → address_of program name label ≢ image_base + funclet_begin program k
+    not_first label lt e =
+        let q : address_of program name label ≡ image_base + funclet_begin program k = e in
+        let same = ap (λ (d : LinearBody). length d.code) own.body in
+        let i = within_get routine.routine.body.code label (omega arith) in
+        let at = template_at routine label in
+        let z : at ≤ at = omega arith in
+        not_at at (code_inside program c name b is label at i.0 i.1 z
+        (label_rises program c name b is label i.0)) (omega arith)
 
     -- past a body's first byte no funclet begins
     pub no_funclet_inside : (a : ℕ) → image_base + routine.begin < a

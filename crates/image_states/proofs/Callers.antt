@@ -1,8 +1,8 @@
 -- Where a walk finds the callers of a routine of a linked program.
-use Rattle.std.proofs.Common.{◌≡◌, ℕ, zero, suc, ◌+◌, ◌-◌, ◌^◌, ◌<◌, ◌≤◌, false, List, [], ◌∷◌, ◌++◌, Option, Some, None, refl, sym, ap, subst, ◌∙◌, arith, append_assoc}
-use Rattle.std.specs.Prelude.{slice_get}
+use Rattle.std.proofs.Common.{◌≡◌, ℕ, zero, suc, ◌+◌, ◌-◌, ◌^◌, ◌<◌, ◌≤◌, Bool, false, List, [], ◌∷◌, ◌++◌, Option, Some, None, refl, sym, ap, subst, ◌∙◌, arith, append_assoc}
+use Rattle.std.specs.Prelude.{if◌then◌else◌, slice_get}
 use Rattle.std.specs.List.{AllByRecursion}
-use Rattle.image_states.specs.Words.{Memory, Rax, Instr, chosen, Entry, Functions, distance, entry_of, IsExecutableAt, Slot, Instruction, LinearBody, LinearProgram, BodyName, body_of, FrameLayout, Layout, spelled, size, sizes, offset_of, fetch, code_from, IsInstructionNear, IsFrameNear, argument_code, entry_size, routine_code, Placed, body_begin, end_of, site_of, image_base, template_at, links, begin_of, making_size, code_of, HasProgram, FindsReturn, FindsOwed, Owed, owed_after, owed_by, is_leaf, or_none, functions_of, funclets_of, routine_of, plan_of, sites_of, HasWholeImage, return_code, placed, probe_begin}
+use Rattle.image_states.specs.Words.{Memory, Rax, Instr, chosen, Entry, Functions, distance, entry_of, IsExecutableAt, Slot, Instruction, LinearBody, LinearProgram, BodyName, body_of, FrameLayout, Layout, spelled, size, sizes, is_cold, side_from, hot_code, fetch, code_from, IsInstructionNear, IsFrameNear, argument_code, entry_size, routine_code, Placed, body_begin, end_of, site_of, image_base, template_at, links, begin_of, making_size, code_of, HasProgram, FindsReturn, FindsOwed, Owed, owed_after, owed_by, is_leaf, or_none, functions_of, funclets_of, routine_of, plan_of, sites_of, HasWholeImage, return_code, placed, probe_begin}
 use Rattle.template_code.specs.Frames.{frame_plan, plan_of_layout, probe_end}
 use Rattle.template_code.specs.Jumps as jumps
 use Rattle.eh_tables.specs.declared.code.UnwindOperation.{UnwindOperation}
@@ -19,7 +19,9 @@ use Rattle.image_tables.proofs.Arguments.{arguments_inner}
 use Rattle.image_tables.proofs.FrameRules.{is_plan}
 use Rattle.match_bodies.specs.Callers.{owed_opening, owed_pops}
 use Rattle.match_bodies.specs.CodeSites.{body_plan, epilogue_through}
-use Rattle.image_states.proofs.Addresses.{place, here}
+use Rattle.image_tables.proofs.Labels.{taken}
+use Rattle.image_states.proofs.ColdLabels.{return_hot}
+use Rattle.image_states.proofs.Addresses.{place, here, own_cold, hot_place}
 use Rattle.image_states.proofs.Entering.{frame_same, code_same}
 use Rattle.image_states.proofs.Framed.{executable_of}
 use Rattle.image_states.proofs.EntryWalks.{IsOwnAddress, none_found}
@@ -184,14 +186,14 @@ module _ (program : LinearProgram) (c : HasWholeImage program) (name : BodyName)
 
   code_there : HasProgram t (funclets_of program) program (plan_of program) (sites_of program) m
       → IsExecutableAt m (image_base + x.begin)
-      (spelled (routine_code (site_of program) x.begin x.routine))
+      (spelled (routine_code (site_of program) x.begin x.cold x.routine))
   code_there has =
       let begin = begin_of (plan_of program) (sites_of program) name in
       let code = executable_of m begin (spelled
       (code_of program (plan_of program) (sites_of program) name b))
       (has.code name b is).is_there in
       subst (λ (n : ℕ). IsExecutableAt m n (spelled
-      (routine_code (site_of program) x.begin x.routine))) (place program c name b is).begin
+      (routine_code (site_of program) x.begin x.cold x.routine))) (place program c name b is).begin
       (subst (λ (q : List Instr). IsExecutableAt m begin (spelled q))
       (code_same program c name b is) code)
 
@@ -205,7 +207,7 @@ module _ (program : LinearProgram) (c : HasWholeImage program) (name : BodyName)
   arguments = argument_code y x.routine.entry
 
   abbrev body : List Instr
-  body = code_from (links program x) y (body_begin x) x.routine.body.code
+  body = code_from (links program x) y (body_begin x) (hot_code x.routine.body)
 
   pub making_is : making_size (plan_of program) (sites_of program) name ≡ sizes making
   making_is =
@@ -288,8 +290,18 @@ module _ (program : LinearProgram) (c : HasWholeImage program) (name : BodyName)
     abbrev i : Instruction
     i = instructions.Return from
 
-    th : IsTemplate (links program x) y (body_begin x) x.routine.body.code label i
-    th = template_there (links program x) y (body_begin x) x.routine.body.code label i at
+    -- it is in no cold part
+    hot : is_cold x.routine.body.cold label ≡ false
+    hot = return_hot x.routine.body label from (own_cold program c name b is) at
+
+    th : IsTemplate (links program x) y (body_begin x) (hot_code x.routine.body)
+        (template_at x label) i
+    th =
+        let rs = x.routine.body.cold in
+        let code = x.routine.body.code in
+        subst (λ (s : Bool). IsTemplate (links program x) y (if s then x.cold else body_begin x)
+        (side_from rs s 0 code) (template_at x label) i) hot
+        (template_there (links program x) y (body_begin x) x.cold rs code label i at)
 
     abbrev fetching : List Instr
     fetching = fetch y Rax from
@@ -303,7 +315,11 @@ module _ (program : LinearProgram) (c : HasWholeImage program) (name : BodyName)
 
     -- so far from the routine's first byte
     abbrev far : ℕ
-    far = entry_size x.routine + offset_of y x.routine.body.code label
+    far = entry_size x.routine
+        + taken y x.routine.body.cold false 0 label x.routine.body.code
+
+    far_is : x.begin + far ≡ template_at x label
+    far_is = let p = hot_place program c name b is label hot in omega arith
 
     near_return : IsInstructionNear y i
     near_return = near_at (IsInstructionNear y) x.routine.body.code label i
@@ -364,12 +380,14 @@ module _ (program : LinearProgram) (c : HasWholeImage program) (name : BodyName)
             → FindsOwed t m (returning + sizes done) (owed_if o)
         return_found has None none =
             let high = fetch_high in
+            let w = far_is in
             let rva = template_at x label + sizes done in
             let z : image_base + rva ≡ returning + sizes done = omega arith in
             subst (FindsReturn t m) z (leaf_at none rva (omega arith) high)
         return_found has (Some f) framed =
             let high = fetch_high in
             let l = least f framed in
+            let w = far_is in
             let z : begin + (far + sizes done) ≡ returning + sizes done = omega arith in
             subst (λ a. FindsOwed t m a (owed_if (Some f))) z
             (inner_at' f framed (far + sizes done) item (omega arith) (omega arith) fetch_is_inner
@@ -380,6 +398,7 @@ module _ (program : LinearProgram) (c : HasWholeImage program) (name : BodyName)
     pub leaf_end : x.routine.frame ≡ None → FindsReturn t m (returning + sizes fetching)
     leaf_end none =
         let f = fits in
+        let w = far_is in
         let rva = template_at x label + sizes fetching in
         let same = ap (λ (p : FramePlan). sizes (epilogue p)) (leaf_laid program index x at_index
         none) in
@@ -395,7 +414,7 @@ module _ (program : LinearProgram) (c : HasWholeImage program) (name : BodyName)
       last_from = far + sizes fetching
 
       last_is : begin + last_from ≡ returning + sizes fetching
-      last_is = omega arith
+      last_is = let w = far_is in omega arith
 
       same_end : ending ≡ epilogue (framing f framed)
       same_end = laid_epilogue program index x f (framing f framed).probe at_index framed
@@ -404,7 +423,7 @@ module _ (program : LinearProgram) (c : HasWholeImage program) (name : BodyName)
       past = let l = least f framed in omega arith
 
       within : begin + last_from + sizes (epilogue (framing f framed)) ≤ end
-      within = let n = fits in omega (arith, ap sizes same_end)
+      within = let n = fits in let w = far_is in omega (arith, ap sizes same_end)
 
       is_there : IsExecutableAt m (begin + last_from) (spelled (epilogue (framing f framed)))
       is_there =

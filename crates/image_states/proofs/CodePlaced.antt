@@ -1,25 +1,27 @@
--- The code of a loaded image: that of bodies, of thunks and of `__chkstk`.
-use Rattle.std.proofs.Common.{◌≡◌, ℕ, suc, ◌+◌, ◌*◌, ◌-◌, ◌^◌, ◌<◌, ◌≤◌, true, false, List, [], ◌∷◌, ◌++◌, length, map, Option, Some, refl, sym, ap, subst, ◌∙◌, arith, inl}
+-- The code of a loaded image: that of bodies and their cold parts, of thunks and of `__chkstk`.
+use Rattle.std.proofs.Common.{◌≡◌, ℕ, suc, ◌+◌, ◌*◌, ◌-◌, ◌^◌, ◌<◌, ◌≤◌, true, false, List, [], ◌∷◌, ◌++◌, length, map, Option, Some, refl, sym, ap, subst, ◌∙◌, arith, append_assoc, inl}
 use Rattle.std.specs.List.{AllByRecursion}
 use Rattle.std.proofs.lemmas.Grind.{flat_map-append}
 use Rattle.std.proofs.lemmas.List.{append-nil}
-use Rattle.image_states.specs.Words.{Service, service_named, is_writable, Memory, may_write, chosen, modrm, Section, Import, ImageContents, image_of, imports_of, sizes_of, rdata_at, end_at, mode_in, stored_byte, with_slots, mapped, IsExecutableAt, BuiltIn, Put, Protect, RaiseException, Walk, LinearBody, LinearProgram, BodyName, body_of, spelled, size, sizes, check_stack, IsCodeAt, SiteView, routine_size, routine_code, routine_bytes, text_begin, linked, routines, site_of, image_base, begin_of, code_of, HasProgram, functions_of, funclets_of, routine_of, plan_of, sites_of, HasWholeImage, MOST_IMAGE, is_readable, number_at, may_read, name_of, slot_of, SlotsAreApart, thunk, thunk_at, service_thunk, front_code, routines_bytes, service_of, HasService, tables_size, slots_at, place_of, routines_begin}
+use Rattle.image_states.specs.Words.{Service, service_named, is_writable, Memory, may_write, chosen, modrm, Section, Import, ImageContents, image_of, imports_of, sizes_of, rdata_at, end_at, mode_in, stored_byte, with_slots, mapped, IsExecutableAt, BuiltIn, Put, Protect, RaiseException, Walk, LinearBody, LinearProgram, BodyName, body_of, Instr, spelled, size, sizes, check_stack, IsCodeAt, SiteView, routine_size, routine_code, routine_bytes, apart_code, apart_bytes, links, text_begin, linked, routines, site_of, image_base, begin_of, code_of, cold_code_of, HasProgram, functions_of, funclets_of, routine_of, plan_of, sites_of, HasWholeImage, MOST_IMAGE, is_readable, number_at, may_read, name_of, slot_of, SlotsAreApart, thunk, thunk_at, service_thunk, front_code, routines_bytes, all_apart_bytes, service_of, HasService, tables_size, slots_at, place_of, routines_begin, cold_begin}
 use Rattle.host_layout.specs.declared.service.Service.TheVariants as services
 use Rattle.host_layout.specs.Services.{address_of}
 use Rattle.host_layout.specs.declared.imported.ImportedService.{ImportedService}
 use Rattle.host_layout.specs.declared.imported.ImportedService.TheVariants as imports
-use Rattle.image_states.proofs.Lemmas.{listed, slots_read, sizes_spelled, routine_small, is, text_is, rdata_is, end_inside, code_length}
+use Rattle.image_states.proofs.Lemmas.{listed, slots_read, sizes_spelled, routine_small, is, text_is, rdata_is, end_inside, code_length, cold_small}
 use Rattle.image_link.specs.Walks.{IsImported}
 use Rattle.linear_machine.specs.BuiltInCalls.{CallsBuiltIn}
 use Rattle.image_states.proofs.FunctionNames.{called_is_named}
 use Rattle.image_link.proofs.Front.{imports_small, services_few, services_there, thunks_size}
 use Rattle.image_link.proofs.Imports.{thunk_there, slot_there, IsWithin, all_from}
 use Rattle.template_code.specs.Jumps.{distance}
+use Rattle.template_code.specs.ColdParts as parts
+use Rattle.template_code.proofs.Sizes.{body_sizes}
 use Rattle.x64_templates.specs.Runs.{HasCode}
 use Rattle.image_tables.proofs.Handlers.{thunk_bytes}
 use Rattle.image_tables.proofs.ImageText.{images_have_text, texts_are_fixed}
 use Rattle.image_states.proofs.Addresses.{reserved, place, here}
-use Rattle.image_states.proofs.Entering.{code_same}
+use Rattle.image_states.proofs.Entering.{code_same, cold_same}
 use Rattle.image_states.proofs.Data.{tables_there}
 
 -- ---- code that may not be written
@@ -71,6 +73,21 @@ module _ (program : LinearProgram) (c : HasWholeImage program) where
 
   -- ---- bodies
 
+  -- code that is in the text
+  code_is : (at : ℕ) (before after : List ℕ) (code : List Instr)
+      → p.text ≡ before ++ (spelled code ++ after)
+      → text_begin program.globals + length before ≡ at → at + sizes code < 2 ^ 31
+      → HasCode m (image_base + at) code
+  code_is at before after code e here lt =
+      let there : T + length before ≡ image_base + at = omega arith in
+      let all = (code_split m T before (spelled code ++ after) (subst (IsCodeAt m T) e text_code)).1
+      in
+      record {
+        is_there = (code_split m (image_base + at) (spelled code) after
+            (subst (λ (n : ℕ). IsCodeAt m n (spelled code ++ after)) there all)).0;
+        placed = record { low = omega arith; high = omega arith };
+      }
+
   body_code : (name : BodyName) (b : LinearBody) → body_of program name ≡ Some b
       → HasCode m (begin_of (plan_of program) (sites_of program) name)
       (code_of program (plan_of program) (sites_of program) name b)
@@ -79,25 +96,30 @@ module _ (program : LinearProgram) (c : HasWholeImage program) where
       let q = place program c name b is' in
       let h = here program c name b is' in
       let x = routine_of program name in
-      let code = routine_code s x.begin x.routine in
+      let code = routine_code s x.begin x.cold x.routine in
       let room = h.room in
       let small = routine_small x.routine h.near in
-      let before = h.here in
-      let at : T + length h.before ≡ image_base + x.begin = omega arith in
-      let all = (code_split m T h.before (spelled code ++ h.after)
-      (subst (IsCodeAt m T) h.bytes text_code)).1 in
-      let own = (code_split m (image_base + x.begin) (spelled code) h.after
-      (subst (λ (n : ℕ). IsCodeAt m n (spelled code ++ h.after)) at all)).0 in
-      let long = code_length s x.begin x.routine h.near in
+      let long = code_length s x.begin x.cold x.routine h.near in
       let wide : sizes code ≡ routine_size x.routine = sym (sizes_spelled code) ∙ long in
-      let placed : HasCode m (image_base + x.begin)
-      code = record {
-        is_there = own;
-        placed = record { low = omega arith; high = omega arith };
-      } in
       subst (λ (n : ℕ). HasCode m n (code_of program (plan_of program) (sites_of program) name b))
       (sym q.begin) (subst (HasCode m (image_base + x.begin))
-      (sym (code_same program c name b is')) placed)
+      (sym (code_same program c name b is'))
+      (code_is x.begin h.before h.after code h.bytes h.here (omega arith)))
+
+  cold_code : (name : BodyName) (b : LinearBody) → body_of program name ≡ Some b
+      → HasCode m ((sites_of program).cold name)
+      (cold_code_of (plan_of program) (sites_of program) name b)
+  unfolding apart_bytes
+  cold_code name b is' =
+      let h = here program c name b is' in
+      let x = routine_of program name in
+      let code = apart_code s x.begin x.cold x.routine in
+      let room = h.cold_room in
+      let small = cold_small x.routine h.near in
+      let wide = body_sizes (links program x) x.routine.layout x.cold (parts.cold_code x.routine.body)
+      in
+      subst (HasCode m (image_base + x.cold)) (sym (cold_same program c name b is'))
+      (code_is x.cold h.ahead h.behind code h.apart h.apart_here (omega arith))
 
   -- ---- the front
 
@@ -107,25 +129,33 @@ module _ (program : LinearProgram) (c : HasWholeImage program) where
   six : (v : ImportedService) → length (t v) ≡ 6
   six v = ap length (thunk_bytes _)
 
-  abbrev rest : List ℕ
-  rest = routines_bytes s (routines_begin program) (routines program)
+  abbrev front : List ℕ
+  front = spelled (front_code s.imports s.text s.rdata)
+
+  abbrev hot : List ℕ
+  hot = routines_bytes s (routines_begin program) (cold_begin program) (routines program)
+
+  abbrev cold : List ℕ
+  cold = all_apart_bytes s (routines_begin program) (cold_begin program) (routines program)
 
   -- the thunk of a service that is imported
   thunk_is : (v : ImportedService) → IsImported program v
       → IsCodeAt m (T + 6 * place_of s.imports v) (t v)
   thunk_is v is_there =
-      let f = thunk_there s.imports s.text s.rdata v rest (services_there program v is_there) in
+      let f = thunk_there s.imports s.text s.rdata v (hot ++ cold)
+      (services_there program v is_there) in
       let long = f.long in
       let at : T + length f.before ≡ T + 6 * place_of s.imports v = omega arith in
       let b = (code_split m T f.before (t v ++ f.after)
-      (subst (IsCodeAt m T) f.same text_code)).1 in
+      (subst (IsCodeAt m T) (append_assoc front hot cold ∙ f.same) text_code)).1 in
       subst (λ (n : ℕ). IsCodeAt m n (t v)) at
       (code_split m (T + length f.before) (t v) f.after b).0
 
   check_is : IsCodeAt m (T + 6 * length s.imports) (spelled check_stack)
   check_is =
       let thunks = map (service_thunk s.imports s.text s.rdata) s.imports in
-      let all = (code_split m T (spelled (front_code s.imports s.text s.rdata)) rest text_code).0 in
+      let all = (code_split m T front (hot ++ cold)
+      (subst (IsCodeAt m T) (append_assoc front hot cold) text_code)).0 in
       let at : T + length (spelled thunks) ≡ T + 6 * length s.imports = omega (
         arith,
         sizes_spelled thunks,
@@ -267,6 +297,7 @@ module _ (program : LinearProgram) (c : HasWholeImage program) where
       (plan_of program) (sites_of program) m
   has_program = record {
     code = body_code;
+    cold_code = cold_code;
     thunks = thunks;
     local_unwind = unwinds;
     check_stack = check_code;

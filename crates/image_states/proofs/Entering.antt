@@ -1,12 +1,13 @@
 -- The code of a body, as its image has it and as the plan says.
-use Rattle.std.proofs.Common.{◌≡◌, ℕ, zero, suc, ◌+◌, ◌^◌, ◌<◌, ◌==◌, Bool, true, false, not, List, [], ◌∷◌, ◌++◌, get_or, Option, Some, None, refl, sym, ap, subst, ◌∙◌, arith}
+use Rattle.std.proofs.Common.{◌≡◌, ℕ, ◌+◌, ◌^◌, ◌<◌, ◌==◌, Bool, true, false, not, ◌++◌, get_or, Option, Some, None, refl, sym, ap, subst, ◌∙◌, arith}
 use Rattle.std.specs.Prelude.{slice_get, ◌&&◌}
 use Rattle.std.proofs.lemmas.Option.{slice_get_within, get_or_from_slice_get, slice_get-get_or}
-use Rattle.image_states.specs.Words.{Instruction, FuncletKind, Filter, Finally, LinearBody, LinearFunction, LinearFunclet, LinearProgram, BodyName, FunctionBody, FuncletBody, function_body, funclet_body, body_of, FrameLayout, Layout, template_size, body_size, offset_of, code_from, address_or, RoutineView, leaf_if, funclet_frame, nothing, funclet, argument_code, own_addresses, routine_code, text_begin, linked, IsFrameNear, Placed, body_begin, site_of, image_base, links, links_of, begin_of, entry_code, code_of, is_leaf, routine_of, address_of, plan_of, sites_of, HasWholeImage, parameters_code, FitsFunclet, kept_by, HasParent, frame_code, parent_base, keep_base, keep_argument, function_arguments, funclet_arguments, probe_begin}
+use Rattle.image_states.specs.Words.{FuncletKind, Filter, Finally, LinearBody, LinearFunction, LinearFunclet, LinearProgram, BodyName, FunctionBody, FuncletBody, function_body, funclet_body, body_of, FrameLayout, Layout, IsInstructionNear, code_from, hot_code, cold_code, RoutineView, leaf_if, funclet_frame, nothing, funclet, argument_code, own_addresses, routine_code, apart_code, text_begin, linked, IsFrameNear, Placed, body_begin, site_of, image_base, links, links_of, begin_of, entry_code, code_of, is_leaf, routine_of, address_of, plan_of, sites_of, HasWholeImage, parameters_code, FitsFunclet, kept_by, HasParent, frame_code, parent_base, keep_base, keep_argument, function_arguments, funclet_arguments, probe_begin}
 use Rattle.frame_rules.specs.Bytes.{prologue_code}
-use Rattle.image_states.proofs.Lemmas.{all_at, entry_small, none_some, IsThere, laid_plan}
+use Rattle.template_code.proofs.ColdParts.{side_all}
+use Rattle.image_tables.proofs.Labels.{label_is}
+use Rattle.image_states.proofs.Lemmas.{all_at, entry_small, hot_small, none_some, IsThere, laid_plan}
 use Rattle.template_code.specs.Jumps.{distance}
-use Rattle.x64_emit.specs.Bodies.{label_list}
 use Rattle.x64_emit.specs.Entries as link_entries
 use Rattle.image_link.specs.Routines.{entry_of}
 use Rattle.image_link.specs.Routines as link
@@ -14,9 +15,9 @@ use Rattle.image_link.specs.Text as texts
 use Rattle.template_code.specs.Frames.{plan_of_layout, probe_end, probing}
 use Rattle.frame_layout.specs.Plans as layouts
 use Rattle.frame_layout.proofs.Planned.{probe_end_few}
-use Rattle.match_bodies.specs.CodeSites.{arguments_code}
+use Rattle.match_bodies.specs.CodeSites.{arguments_code, cold_code_of}
 use Rattle.image_states.proofs.Places.{is_function, is_funclet}
-use Rattle.image_states.proofs.Addresses.{place, here}
+use Rattle.image_states.proofs.Addresses.{place, here, body_first}
 use Rattle.image_states.proofs.Shifts.{AreMoved, code_moved}
 
 -- ---- frames
@@ -121,17 +122,6 @@ module _ (program : LinearProgram) (c : HasWholeImage program) where
   arguments_same (FuncletBody k) b h = arguments_by_funclet k (slice_get program.funclets k) b refl
       h
 
--- ---- labels
-
-pub label_is : (y : Layout) (at : ℕ) (body : List Instruction) (l end : ℕ)
-    → end ≡ at + body_size y body → address_or (label_list y at body) l end
-    ≡ at + offset_of y body l
-label_is y at [] zero end e = omega arith
-label_is y at [] (suc l) end e = omega arith
-label_is y at (i ∷ body) zero end e = omega arith
-label_is y at (i ∷ body) (suc l) end e = let r = label_is y (at + template_size y i) body l end
-    (omega arith) in omega arith
-
 -- ---- all of it
 
 module _ (program : LinearProgram) (c : HasWholeImage program) (name : BodyName) (b : LinearBody)
@@ -159,8 +149,9 @@ module _ (program : LinearProgram) (c : HasWholeImage program) (name : BodyName)
   pub moved : AreMoved image_base (links program x)
       (links_of (plan_of program) (sites_of program) name)
   moved = record {
-    label = λ l. (let e = label_is x.routine.layout (body_begin x) x.routine.body.code l
-        (own_addresses x.begin x.routine).end (omega arith) in omega arith);
+    label = λ l. (let e = label_is x.routine.layout x.routine.body.cold (body_begin x) x.cold
+        x.routine.body.code h.near.cold l (own_addresses x.begin x.cold x.routine).end (omega arith)
+        in omega arith);
     function = λ f. refl;
     known = λ f. refl;
     funclet = λ f. refl;
@@ -169,16 +160,32 @@ module _ (program : LinearProgram) (c : HasWholeImage program) (name : BodyName)
 
   -- its code is the routine's
   pub code_same : code_of program (plan_of program) (sites_of program) name b
-      ≡ routine_code (site_of program) x.begin x.routine
+      ≡ routine_code (site_of program) x.begin x.cold x.routine
   code_same =
       let p = place program c name b is in
       let room = h.room in
       let y = x.routine.layout in
       let k = links_of (plan_of program) (sites_of program) name in
+      let first = body_first program c name b is in
       let at : address_of program name 0 ≡ image_base + body_begin x = omega arith in
       let entry = entry_small x.routine h.near in
+      let few = hot_small x.routine in
       ap (λ (d : LinearBody). entry_code program (plan_of program) (sites_of program) name
-      ++ code_from k y (address_of program name 0) d.code) (sym p.body)
+      ++ code_from k y (address_of program name 0) (hot_code d)) (sym p.body)
       ∙ (λ i. entry_same i ++ code_moved image_base (omega arith) (links program x) k y
-      (body_begin x) (address_of program name 0) x.routine.body.code moved at (omega arith)
-      h.near.code i)
+      (body_begin x) (address_of program name 0) (hot_code x.routine.body) moved at (omega arith)
+      (side_all (IsInstructionNear y) x.routine.body.cold false 0 x.routine.body.code h.near.code)
+      i)
+
+  -- and so is that of its cold parts
+  pub cold_same : cold_code_of (plan_of program) (sites_of program) name b
+      ≡ apart_code (site_of program) x.begin x.cold x.routine
+  cold_same =
+      let p = place program c name b is in
+      let room = h.cold_room in
+      let y = x.routine.layout in
+      let k = links_of (plan_of program) (sites_of program) name in
+      ap (λ (d : LinearBody). code_from k y (image_base + x.cold) (cold_code d)) (sym p.body)
+      ∙ code_moved image_base (omega arith) (links program x) k y x.cold (image_base + x.cold)
+      (cold_code x.routine.body) moved refl (omega arith)
+      (side_all (IsInstructionNear y) x.routine.body.cold true 0 x.routine.body.code h.near.code)

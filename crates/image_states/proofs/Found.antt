@@ -1,39 +1,27 @@
 -- In a linked program's code, and at the host's services, a walk finds callers.
-use Rattle.std.proofs.Common.{◌≡◌, ◌≢◌, ℕ, ◌+◌, ◌-◌, ◌^◌, ◌<◌, ◌≤◌, true, false, ltb, leb, List, [], ◌∷◌, ◌++◌, length, Option, Some, None, refl, sym, ap, subst, ◌∙◌, arith}
+use Rattle.std.proofs.Common.{◌≡◌, ◌≢◌, ℕ, ◌+◌, ◌-◌, ◌^◌, ◌<◌, true, false, List, ◌∷◌, ◌++◌, length, Option, Some, None, refl, sym, ap, subst, ◌∙◌, arith}
 use Rattle.std.specs.Prelude.{slice_get}
-use Rattle.std.proofs.lemmas.Bool.{le-ltb, and_right}
-use Rattle.image_states.specs.Words.{Memory, Rax, Instr, modrm, Table, Entry, BuiltIn, Put, Protect, RaiseException, Walk, Functions, distance, entry_of, left, framed, filter_return, finally_return, Slot, LinearBody, LinearProgram, BodyName, body_of, FrameLayout, size, sizes, fetch, check_stack, RoutineView, routines, SiteView, routine_size, argument_code, total, Placed, end_of, site_of, infos_begin, image_base, begin_of, making_size, FindsReturn, FindsOwed, owed_of, functions_of, funclets_of, is_leaf, or_none, owed_after, routine_of, address_of, plan_of, sites_of, HasWholeImage, IsNear, entry_or, holding, thunks_at, info_bytes, thunk_of, placed_from, FindsCallers, FindsCallersOutside, services_of, routines_begin, probe_begin}
+use Rattle.image_states.specs.Words.{Memory, Rax, Instr, modrm, Table, Entry, BuiltIn, Put, Protect, RaiseException, Walk, Functions, distance, entry_of, filter_return, finally_return, Slot, LinearBody, LinearProgram, BodyName, body_of, FrameLayout, size, sizes, fetch, check_stack, routines, cold_total, argument_code, Placed, part_with, end_of, site_of, image_base, begin_of, making_size, FindsReturn, FindsOwed, owed_of, owed_by, functions_of, funclets_of, is_leaf, or_none, owed_after, routine_of, address_of, plan_of, sites_of, HasWholeImage, IsNear, holding, thunks_at, thunk_of, FindsCallers, FindsCallersOutside, services_of, routines_begin, cold_begin, probe_begin}
+use Rattle.image_tables.specs.RoutinePlaces.{parts_of}
 use Rattle.eh_tables.specs.Tables as reading
 use Rattle.linear_code.specs.declared.instruction.Instruction.TheVariants as instructions
-use Rattle.image_states.proofs.Lemmas.{thunks_are_held_by_none, tables_are_read, end_inside, away}
+use Rattle.image_states.proofs.ColdLabels.{first_hot}
+use Rattle.image_states.proofs.Lemmas.{beyond_is_held_by_none, thunks_are_held_by_none, tables_are_read, end_inside, away}
 use Rattle.host_layout.specs.declared.imported.ImportedService.TheVariants as imports
 use Rattle.x64_emit.specs.declared.links.Thunks.{Thunks}
 use Rattle.image_link.proofs.Front.{place_small}
 use Rattle.image_tables.specs.Entries as tables
-use Rattle.image_states.proofs.Addresses.{place, label_rises, label_inside}
+use Rattle.image_tables.proofs.Labels.{within_get}
+use Rattle.image_states.proofs.Addresses.{place, own_cold, body_first, hot_below, label_rises}
 use Rattle.image_states.proofs.Entering.{arguments_same}
 use Rattle.match_bodies.specs.ProgramImages.{loaded_at}
 use Rattle.image_states.proofs.EntryWalks.{none_found}
-use Rattle.image_states.proofs.Framed.{framed_of, leaf_of}
+use Rattle.eh_tables.specs.Infos.{Info}
+use Rattle.match_bodies.specs.Callers.{frame_info}
+use Rattle.image_states.proofs.Framed.{framed_of, leaf_of, one_teller}
 use Rattle.image_states.proofs.Callers.{leaf_at, making_at, entered_at, argument_at, argument_found, making_is, owed_if, return_found, leaf_end, load_at, opening_at, pops_at}
 
 -- ---- where no entry is
-
--- past all routines
-past_entry : (s : SiteView) (rva : ℕ) (x : Placed) (o : Option FrameLayout) (es : List Entry)
-    → end_of x ≤ rva → holding rva (tables.entry_if s x o ++ es) ≡ holding rva es
-past_entry s rva x None es le = refl
-past_entry s rva x (Some f) es le = ap (entry_or (holding rva es) (tables.entry_of s x f))
-    (and_right (leb x.begin rva) (ltb rva (end_of x)) (le-ltb rva (end_of x) le))
-
-beyond : (s : SiteView) (rva info at : ℕ) (rs : List RoutineView) → at + total rs ≤ rva
-    → holding rva (tables.entries_of s (placed_from s info at rs)) ≡ None
-beyond s rva info at [] le = refl
-beyond s rva info at (r ∷ rs) le =
-    let next = info + length (info_bytes s at r) in
-    past_entry s rva (record { routine = r; begin = at; info = info }) r.frame
-    (tables.entries_of s (placed_from s next (at + routine_size r) rs)) (omega arith)
-    ∙ beyond s rva next (at + routine_size r) rs (omega arith)
 
 module _ (program : LinearProgram) (c : HasWholeImage program) (m : Memory) where
   abbrev table : Functions
@@ -55,7 +43,7 @@ module _ (program : LinearProgram) (c : HasWholeImage program) (m : Memory) wher
       (record { live = live; not_filter = not_filter; not_finally = not_finally })
       (unheld a rva at none)
 
-  first_small : IsNear (routines_begin program + total (routines program))
+  first_small : IsNear (cold_begin program + cold_total (routines program))
   first_small = let end = end_inside program c.fits in let few = c.small in omega arith
 
   -- before the first routine
@@ -74,8 +62,7 @@ module _ (program : LinearProgram) (c : HasWholeImage program) (m : Memory) wher
       let rva = a + (2 ^ 64 - image_base) in
       let far : distance image_base a ≡ rva = omega arith in
       outside_at a rva live not_filter not_finally far
-      (beyond (site_of program) rva (infos_begin program) (routines_begin program)
-      (routines program) (omega arith))
+      (beyond_is_held_by_none program rva c.fits (omega arith))
 
 -- ---- all of it
 
@@ -121,11 +108,15 @@ module _ (program : LinearProgram) (c : HasWholeImage program) where
     begin_is : begin ≡ image_base + x.begin
     begin_is = (place program c name b is).begin
 
+    -- it begins with code that isn't cold
     body_some : 0 < length b.code → x.begin < end_of x
     body_some lt =
         let same = ap (λ (d : LinearBody). length d.code) (place program c name b is).body in
-        let rise = label_rises program c name b is 0 (omega arith) in
-        let l = label_inside program c name b is 1 in
+        let i = within_get x.routine.body.code 0 (omega arith) in
+        let below = hot_below program c name b is 0 i.0 i.1
+        (first_hot x.routine.body (own_cold program c name b is)) in
+        let first = body_first program c name b is in
+        let some = label_rises program c name b is 0 i.0 in
         omega arith
 
     entry_found : (m : Memory) (o : Option FrameLayout) → x.routine.frame ≡ o
@@ -139,11 +130,22 @@ module _ (program : LinearProgram) (c : HasWholeImage program) where
         subst (λ a. FindsReturn (functions_of program) m a) (sym begin_is)
         (entered_at program c name b is m f framed)
 
+    -- what tells of its frame
+    abbrev own_info : Option FrameLayout → Info
+    own_info o = (tables.entry_of (site_of program) x (or_none o)).info
+
+    told_so : frame_info (plan_of program) name ≡ own_info x.routine.frame
+    told_so =
+        one_teller program c x (or_none x.routine.frame) (part_with 0 (parts_of x)) None
+
+    owed_same : owed_by (own_info x.routine.frame) (is_leaf x.routine.frame)
+        ≡ owed_of (plan_of program) name
+    owed_same = ap (λ (w : Info). owed_by w (is_leaf x.routine.frame)) (sym told_so)
+
     making_found : (m : Memory) (d : ℕ) (o : Option FrameLayout) → x.routine.frame ≡ o
         → is_leaf o ≡ false
-        → d < (tables.entry_of (site_of program) x (or_none o)).info.prologue_size
-        → FindsOwed (functions_of program) m (begin + d)
-        (owed_after (tables.entry_of (site_of program) x (or_none o)).info d)
+        → d < (own_info o).prologue_size
+        → FindsOwed (functions_of program) m (begin + d) (owed_after (own_info o) d)
     making_found m d None none framed lt = absurd (let z : true ≡ false = framed in cc)
     making_found m d (Some f) framed leaf lt =
         let z : image_base + x.begin + d ≡ begin + d = omega (arith, begin_is) in
@@ -167,17 +169,27 @@ module _ (program : LinearProgram) (c : HasWholeImage program) where
         (plan_of program) (sites_of program) name b
     callers = record {
       entries = λ m some. entry_found m x.routine.frame refl some;
-      making = λ m d leaf lt. making_found m d x.routine.frame refl leaf lt;
+      making = λ m d leaf lt.
+          (let told = told_so in
+          let few : d < (own_info x.routine.frame).prologue_size =
+          subst (λ (i : Info). d < i.prologue_size) told lt in
+          subst (λ (i : Info). FindsOwed (functions_of program) m (begin + d) (owed_after i d))
+          (sym told) (making_found m d x.routine.frame refl leaf few));
       arguments = λ m done left item has parts.
           (let split = sym (arguments_same program c name b is) ∙ parts in
           let e : argument_at program c name b is m done left item split
           ≡ begin + making_size (plan_of program) (sites_of program) name
           + sizes done = place_of m done left item split in
-          subst (λ a. FindsOwed (functions_of program) m a (owed_of (plan_of program) name)) e
-          (argument_found program c name b is m done left item split has x.routine.frame refl));
+          subst (FindsOwed (functions_of program) m (begin
+          + making_size (plan_of program) (sites_of program) name + sizes done)) owed_same
+          (subst (λ a. FindsOwed (functions_of program) m a
+          (owed_by (own_info x.routine.frame) (is_leaf x.routine.frame))) e
+          (argument_found program c name b is m done left item split has x.routine.frame refl)));
       returns = λ m label from done left item has at parts.
-          return_found program c name b is m label from (at_label label from at) done left item
-          parts has x.routine.frame refl;
+          subst (FindsOwed (functions_of program) m (address_of program name label + sizes done))
+          owed_same
+          (return_found program c name b is m label from (at_label label from at) done left item
+          parts has x.routine.frame refl);
       leaf_ends = λ m label from has at leaf.
           (let fetching = sizes (fetch x.routine.layout Rax from) in
           let e : address_of program name label + fetching
@@ -187,12 +199,13 @@ module _ (program : LinearProgram) (c : HasWholeImage program) where
           (leaf_of x.routine.frame leaf)));
       loads = λ m label from loaded left next has at framed saves.
           (let f = framed_of x.routine.frame framed in
-          subst (λ o. FindsOwed (functions_of program) m
-          (loaded_at (functions_of program) (funclets_of program) program (plan_of program)
-          (sites_of program) name label from loaded)
-          (owed_if program c name b is m o)) (sym f.1)
+          let to = loaded_at (functions_of program) (funclets_of program) program (plan_of program)
+          (sites_of program) name label from loaded in
+          subst (FindsOwed (functions_of program) m to) owed_same
+          (subst (λ o. FindsOwed (functions_of program) m to (owed_if program c name b is m o))
+          (sym f.1)
           (load_at program c name b is m label from (at_label label from at) has f.0 f.1 loaded
-          left next saves));
+          left next saves)));
       opens = λ m label from has at framed.
           (let f = framed_of x.routine.frame framed in
           opening_at program c name b is m label from (at_label label from at) has f.0 f.1);

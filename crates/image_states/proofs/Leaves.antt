@@ -10,7 +10,9 @@ use Rattle.image_link.specs.Routines as link
 use Rattle.image_states.proofs.LeafCode.{leaf_facts}
 use Rattle.image_states.proofs.Lemmas.{no_routine, some_same, none_some, bounds_rise, as_long, begin_is}
 use Rattle.image_states.proofs.Places.{is_function, is_funclet}
-use Rattle.image_states.proofs.Addresses.{place, label_below}
+use Rattle.image_tables.proofs.Labels.{within_get}
+use Rattle.image_states.proofs.ColdLabels.{first_hot}
+use Rattle.image_states.proofs.Addresses.{place, own_cold, body_first, hot_below, label_rises}
 
 -- ---- code that writes RAX alone calls nothing
 
@@ -109,7 +111,11 @@ module _ (program : LinearProgram) (c : HasWholeImage program) where
       let long = as_long program fits in
       let begin = begin_is program fits k in
       let size = ap (λ (r : RoutineView). routine_size r) (own_size f o b refl is) in
-      let more = label_below program c (FunctionBody f) b is 0 (omega arith) in
+      let i = within_get x.routine.body.code 0 (omega arith) in
+      let more = hot_below program c (FunctionBody f) b is 0 i.0 i.1
+      (first_hot x.routine.body (own_cold program c (FunctionBody f) b is)) in
+      let first = body_first program c (FunctionBody f) b is in
+      let some = label_rises program c (FunctionBody f) b is 0 i.0 in
       let r = bounds_rise (routines_begin program) rs f (length program.functions + k) 0 no_routine
       (omega arith) (omega arith) in
       omega arith

@@ -1,7 +1,10 @@
 mod Lemmas
 pub mod Places
 pub mod Shifts
+mod ColdLabels
 pub mod Addresses
+mod LabelOrder
+mod ColdNames
 pub mod FunctionNames
 mod LeafCode
 pub mod Slots

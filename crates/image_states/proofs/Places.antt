@@ -3,7 +3,7 @@ use Rattle.std.proofs.Common.{◌≡◌, ℕ, zero, suc, ◌+◌, ◌<◌, ◌==
 use Rattle.std.specs.Prelude.{slice_get, ◌&&◌}
 use Rattle.std.proofs.lemmas.List.{get_or-take, get_or_append_left}
 use Rattle.std.proofs.lemmas.Option.{slice_get_within, get_or_from_slice_get}
-use Rattle.image_states.specs.Words.{LinearBody, LinearFunction, LinearFunclet, LinearProgram, BodyName, FunctionBody, FuncletBody, function_body, funclet_body, body_of, FitsProgram, RoutineView, leaf_if, funclet, routines, bounds, Placed, site_of, infos_begin, placed, image_base, address_or, funclet_begin, begin_of, routine_of, plan_of, sites_of, functions_from, or_nowhere, routines_begin}
+use Rattle.image_states.specs.Words.{LinearBody, LinearFunction, LinearFunclet, LinearProgram, BodyName, FunctionBody, FuncletBody, function_body, funclet_body, body_of, FitsProgram, RoutineView, leaf_if, funclet, routines, bounds, Placed, site_of, first_cursor, placed, image_base, address_or, funclet_begin, begin_of, routine_of, plan_of, sites_of, functions_from, or_nowhere, routines_begin}
 use Rattle.image_link.specs.Routines as link
 use Rattle.image_states.proofs.Lemmas.{no_routine, some_same, none_some, is_placed, functions_count, no_funclet, as_long, funclet_is, begin_is}
 
@@ -63,8 +63,7 @@ module _ (program : LinearProgram) (fits : FitsProgram program) where
   is_function f fn e =
       let lt = slice_get_within program.functions f fn e in
       let long = as_long program fits in
-      let h = is_placed (site_of program) (infos_begin program) (routines_begin program) rs f
-      no_routine (omega arith) in
+      let h = is_placed (site_of program) (first_cursor program) rs f no_routine (omega arith) in
       let is : routine_of program (FunctionBody f)
       ≡ h.placed = ap or_nowhere (slice_take (placed program) n f lt ∙ h.there) in
       let zero-more : 0 + f ≡ f = omega arith in
@@ -101,8 +100,8 @@ module _ (program : LinearProgram) (fits : FitsProgram program) where
   is_funclet k fl e =
       let lt = slice_get_within program.funclets k fl e in
       let long = as_long program fits in
-      let h = is_placed (site_of program) (infos_begin program) (routines_begin program) rs (n + k)
-      no_routine (omega arith) in
+      let h = is_placed (site_of program) (first_cursor program) rs (n + k) no_routine
+      (omega arith) in
       let is : routine_of program (FuncletBody k)
       ≡ h.placed = ap or_nowhere (slice_drop (placed program) n k (n + k) refl ∙ h.there) in
       record {

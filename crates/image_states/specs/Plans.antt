@@ -27,6 +27,7 @@ use Rattle.template_code.specs.Places.{register_of}
 use Rattle.template_code.specs.Operands.{has_first, has_second}
 use Rattle.template_code.specs.Slots.{operands_code}
 use Rattle.template_code.specs.Calls.{return_at}
+use Rattle.template_code.specs.Template.{template_size}
 use Rattle.x64_templates.specs.Straight.{MachineView}
 use Rattle.x64_templates.specs.Implements.{high_of}
 use Rattle.x64_emit.specs.Linking.{address_or, thunk_of}
@@ -84,6 +85,8 @@ nowhere =
       };
       begin = 0;
       info = 0;
+      cold = 0;
+      chained = 0;
     }
 
 abbrev pub or_nowhere : Option Placed → Placed
@@ -189,6 +192,16 @@ resumes_by y at temporaries saved i hold SameOperation =
 abbrev pub address_of : LinearProgram → BodyName → ℕ → ℕ
 address_of program name label = image_base + template_at (routine_of program name) label
 
+-- and where it ends; past the last instruction there is none
+abbrev pub size_of : Layout → Option Instruction → ℕ
+size_of y None = 0
+size_of y (Some i) = template_size y i
+
+abbrev pub end_of_label : LinearProgram → BodyName → ℕ → ℕ
+end_of_label program name label =
+    let r = (routine_of program name).routine in
+    address_of program name label + size_of r.layout (slice_get r.body.code label)
+
 abbrev pub resumes : LinearProgram → Resumption → linear.Frame → List ℕ → Cpu → Bool
 resumes program resumption b values saved =
     resumes_by (routine_of program b.body).routine.layout
@@ -202,22 +215,23 @@ resumes program resumption b values saved =
 abbrev pub plan_of : LinearProgram → ImagePlan
 plan_of program = record {
   address = address_of program;
-  after = λ name label. address_of program name (label + 1);
+  after = end_of_label program;
   funclet = λ k. image_base + funclet_begin program k;
   leaf = λ name. is_leaf (routine_of program name).routine.frame;
   entry =
-      λ name label. tables.entry_of (site_of program) (routine_of program name)
-      (or_none (routine_of program name).routine.frame);
+      λ name label. tables.entry_at (site_of program) (routine_of program name)
+      (or_none (routine_of program name).routine.frame) label;
   layout = λ name. (routine_of program name).routine.layout;
   register = register_by program;
   lands = λ name label. nat_lt label (length (routine_of program name).routine.body.code);
   resumes = resumes program;
 }
 
--- where functions, thunks and `__chkstk` begin
+-- where functions, cold parts, thunks and `__chkstk` begin
 abbrev pub sites_of : LinearProgram → Sites
 sites_of program = record {
   function = λ f. image_base + address_or (site_of program).functions f 0;
+  cold = λ name. image_base + (routine_of program name).cold;
   thunk = λ f. image_base + thunk_of (thunks_at (services_of program) (site_of program).text) f;
   local_unwind = image_base + (thunks_at (services_of program) (site_of program).text).local_unwind;
   check_stack = image_base + probe_begin program;

@@ -42,7 +42,8 @@ pub use Rattle.template_code.specs.Calls.{return_code, parameters_code, return_a
 pub use Rattle.template_code.specs.Jumps.{jump, jump_equal, call, compare_zero, test_code}
 pub use Rattle.template_code.specs.Probing.{check_stack}
 pub use Rattle.template_code.specs.Slots.{fetch, operands_code, keep}
-pub use Rattle.template_code.specs.Template.{body_size, offset_of, code_from, Links, template}
+pub use Rattle.template_code.specs.Template.{body_size, code_from, Links, template}
+pub use Rattle.template_code.specs.ColdParts.{is_cold, side_from, hot_code, cold_code, label_at}
 unfoldable pub use Rattle.template_code.specs.Template.{template_size}
 pub use Rattle.template_code.specs.declared.layout.Layout.{Layout}
 pub use Rattle.x64_templates.specs.Placed.{IsCodeAt}
@@ -60,28 +61,28 @@ pub use Rattle.host_model.specs.Loading.{mode_in, stored_byte, with_slots, secti
 unfoldable pub use Rattle.host_model.specs.Loading.{mapped}
 pub use Rattle.host_model.specs.Slots.{SlotsAreApart, IsBeside}
 pub use Rattle.host_model.specs.declared.funclet.Funclet.{Funclet}
-pub use Rattle.match_stack.specs.ImagePlan.{InCode, by_parent, parent_body, IsFunclet, JumpsTo, IsOfKind, IsRegion, AreRegions, AllFinally, AllExcept, IsFlagged, IsEntryOf, HasEntries, IsGiven, Gives, ImagePlan}
+pub use Rattle.match_stack.specs.ImagePlan.{InCode, by_parent, parent_body, IsFunclet, JumpsTo, IsOfKind, IsRegion, AreRegions, AllFinally, AllExcept, IsFlagged, HasRows, IsEntryOf, HasEntries, IsGiven, Gives, ImagePlan}
 pub use Rattle.match_stack.specs.Stack.{FrameIsAt}
 pub use Rattle.match_bodies.specs.Callers.{FindsReturn, FindsOwed, Owed, owed_after, owed_by, owed_of, HasCaller}
-pub use Rattle.match_bodies.specs.CodeSites.{begin_of, making_size, code_of, links_of, entry_code, frame_code, parent_base, keep_base, keep_argument, function_arguments, funclet_arguments}
-pub use Rattle.match_bodies.specs.ProgramImages.{HasProgram, IsInImage, service_of, HasService, FindsCallers, FindsCallersOutside, frame_at_label, IsResumed, FramesAreWaiting, IsPlanned, LeavesAreWaiting, FuncletsBegin, HasAddresses, view_of, ReturnsThere, WorksAgain, SaysResumptions}
+pub use Rattle.match_bodies.specs.CodeSites.{begin_of, making_size, code_of, cold_code_of, links_of, entry_code, frame_code, parent_base, keep_base, keep_argument, function_arguments, funclet_arguments}
+pub use Rattle.match_bodies.specs.ProgramImages.{HasProgram, IsInImage, service_of, HasService, FindsCallers, FindsCallersOutside, frame_of, frame_at_label, HasEnds, HasOneFrame, IsResumed, FramesAreWaiting, IsPlanned, LeavesAreWaiting, FuncletsBegin, HasAddresses, view_of, ReturnsThere, WorksAgain, SaysResumptions}
 pub use Rattle.frame_layout.specs.declared.frame.FrameLayout.{FrameLayout}
 pub use Rattle.x64_emit.specs.Linking.{address_or, thunk_of}
 pub use Rattle.x64_emit.specs.Near.{IsInstructionNear, IsNear}
 pub use Rattle.image_link.specs.Fits.{FitsProgram, FitsFunclet, function_bodies, funclet_bodies, FitsBody, FitsFunction}
-pub use Rattle.image_link.specs.Linked.{text_begin, first, total, linked, data_size}
+pub use Rattle.image_link.specs.Linked.{text_begin, first, linked, data_size}
 pub use Rattle.image_link.specs.Walks.{services_of}
 pub use Rattle.image_link.specs.Near.{IsFrameNear}
 pub use Rattle.image_link.specs.Routines.{RoutineView, funclet_frame, funclet, routines, leaf_if, nothing, no_function, is_kept, is_spare, all_spare, kept_by, HasParent, functions_from, function_frame}
 pub use Rattle.image_link.specs.Tables.{has_except, has_finally, handler_address, jump_target, scope_record}
-unfoldable pub use Rattle.image_link.specs.Tables.{info_bytes}
-pub use Rattle.image_link.specs.Text.{routine_size, check_stack_at, bounds, argument_code, routine_code, SiteView, own_addresses, thunk_at, service_thunk, front_code, routines_bytes, thunks_at}
-unfoldable pub use Rattle.image_link.specs.Text.{entry_size, routine_bytes}
+pub use Rattle.image_link.specs.Text.{routine_size, cold_size, total, cold_total, check_stack_at, bounds, argument_code, routine_code, apart_code, SiteView, own_addresses, thunk_at, service_thunk, front_code, routines_bytes, all_apart_bytes, thunks_at}
+unfoldable pub use Rattle.image_link.specs.Text.{entry_size, routine_bytes, apart_bytes}
 pub use Rattle.image_tables.specs.CodeInMemory.{image_base, template_at, links, IsReturn, IsInBody}
 pub use Rattle.image_tables.specs.RegionRows.{funclet_begin, rows_of, regions_in, regions, funclet_in, named, IsRow, AreRows}
-pub use Rattle.image_tables.specs.RoutinePlaces.{Placed, end_of, site_of, body_begin, placed, infos_begin, placed_from, routines_begin, thunk_begin, probe_begin}
+pub use Rattle.image_tables.specs.Entries.{part_with}
+pub use Rattle.image_tables.specs.RoutinePlaces.{Placed, PlacedPart, end_of, site_of, body_begin, placed, first_cursor, routines_begin, cold_begin, thunk_begin, probe_begin}
 pub use Rattle.image_states.specs.Compiled.{HasWholeImage, IsMember, IsFuncletSized}
-pub use Rattle.image_states.specs.Plans.{functions_of, funclets_of, routine_of, register_if, address_of, plan_of, sites_of, is_leaf, or_none, or_nowhere, is_some, is_some_if, is_ready, returns_there, works_again, register_by, is_in_register, registers_hold}
+pub use Rattle.image_states.specs.Plans.{size_of, end_of_label, functions_of, funclets_of, routine_of, register_if, address_of, plan_of, sites_of, is_leaf, or_none, or_nowhere, is_some, is_some_if, is_ready, returns_there, works_again, register_by, is_in_register, registers_hold}
 pub use Rattle.match_bodies.specs.LocalRegisters.{now_of, IsInRegister, RegistersHold}
 pub use Rattle.image_states.specs.StartLaws.{HasBytes, ImagesStart, ImagesLoad}
 pub use Rattle.image_states.specs.StateLaws.{ImagesArePrograms, LeavesCallNothing, FunctionsApart}

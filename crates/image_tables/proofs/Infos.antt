@@ -3,7 +3,9 @@ use Rattle.std.proofs.Common.{◌≡◌, ℕ, ◌+◌, ◌*◌, ◌%◌, ◌^◌
 use Rattle.std.specs.Prelude.{◌||◌}
 use Rattle.std.specs.List.{flat_map}
 use Rattle.std.proofs.lemmas.List.{length-replicate}
-use Rattle.image_tables.specs.Words.{if_set, Image, ScopeRecord, is_c_handler, unwind_bytes, Region, UnwindOperation, FrameLayout, info_of, codes_of, CSpecificHandler, RoutineView, SiteView, own_addresses, thunk_at, is_finally, has_except, has_finally, trailer, scope_records, scope_table, info_if, info_bytes, has_rows, IsUnwindInfo, HasTrailer, has_c_handler, parent_of, header, padded, trailer_bytes, scope_record_bytes, IsTrailer}
+use Rattle.eh_tables.specs.declared.range.RuntimeFunction.{RuntimeFunction}
+use Rattle.image_tables.proofs.Lemmas.{can_be_written}
+use Rattle.image_tables.specs.Words.{if_set, Nothing, chained_info, CHAINED_SIZE, CanBeWritten, IsRuntimeFunction, Image, ScopeRecord, is_c_handler, unwind_bytes, Region, UnwindOperation, FrameLayout, info_of, codes_of, CSpecificHandler, RoutineView, SiteView, own_addresses, thunk_at, is_finally, has_except, has_finally, trailer, scope_records, scope_table, info_if, info_bytes, has_rows, IsUnwindInfo, HasTrailer, has_c_handler, parent_of, header, padded, trailer_bytes, scope_record_bytes, IsTrailer}
 use Rattle.eh_tables.specs.declared.unwind_info.Trailer.{Trailer}
 use Rattle.pe_image.specs.Numbers.{u32}
 use Rattle.eh_tables.specs.declared.code.UnwindOperation.TheVariants.{Push, Allocate, SetFrame, Save, SaveVector, MachineFrame}
@@ -108,6 +110,33 @@ info_four s labels end r (Some f) =
           (scope_table s.funclets labels end r.body.regions),
     )
 
-pub info_aligned : (s : SiteView) (at : ℕ) (r : RoutineView) → length (info_bytes s at r) % 4 ≡ 0
+pub info_aligned : (s : SiteView) (at cold : ℕ) (r : RoutineView)
+    → length (info_bytes s at cold r) % 4 ≡ 0
 unfolding info_bytes
-info_aligned s at r = info_four s (own_addresses at r).labels (own_addresses at r).end r r.frame
+info_aligned s at cold r =
+    info_four s (own_addresses at cold r).labels (own_addresses at cold r).end r r.frame
+
+-- ---- the info of a cold part
+
+pub chained_length : (framed : Bool) (parent : RuntimeFunction)
+    → length (unwind_bytes (chained_info framed parent)) ≡ CHAINED_SIZE
+unfolding unwind_bytes u32
+chained_length framed parent = refl
+
+pub chained_is_info : (framed : Bool) (parent : RuntimeFunction) → IsRuntimeFunction parent
+    → IsUnwindInfo (chained_info framed parent)
+chained_is_info framed parent is = record { operations = tt; trailer = is }
+
+-- it has the frame fields of its function's
+pub chained_can_be_written : (f : FrameLayout) (parent : RuntimeFunction) → IsFrame f
+    → CanBeWritten (chained_info f.framed parent)
+chained_can_be_written f parent frame =
+    let h = can_be_written f Nothing frame (λ e. refl) in
+    record {
+      register = h.register;
+      offset = h.offset;
+      codes = tt;
+      order = tt;
+      slots = omega arith;
+      trailer = λ e. absurd (let z : 4 ≡ 0 = e in omega arith);
+    }

@@ -3,7 +3,7 @@
 use Rattle.std.proofs.Common.{◌≡◌, ℕ, suc, ◌==◌, Bool, true, false, not, List, [], ◌∷◌, map, Option, Some, None, refl}
 use Rattle.std.specs.Prelude.{slice_get, ◌&&◌}
 use Rattle.std.specs.List.{AllByRecursion}
-use Rattle.image_tables.specs.Words.{LinearFunction, LinearFunclet, LinearProgram, FrameLayout, plan_of, Layout, RoutineView, is_leaf, leaf_if, functions_from, funclet, routines, Placed, site_of, infos_begin, placed, routines_begin}
+use Rattle.image_tables.specs.Words.{LinearFunction, LinearFunclet, LinearProgram, FrameLayout, plan_of, Layout, RoutineView, is_leaf, leaf_if, functions_from, funclet, routines, Placed, site_of, placed, first_cursor}
 use Rattle.template_code.specs.Frames.{frame_plan, plan_of_layout}
 use Rattle.image_tables.proofs.Lookups.{placed_has}
 use Rattle.image_tables.proofs.Lemmas.{all_append}
@@ -41,7 +41,7 @@ module _ (Holds : RoutineView → Type 0) (function : (b : Bool) (f : LinearFunc
 
     all_placed : (p : LinearProgram) (index : ℕ) (x : Placed)
         → slice_get (placed p) index ≡ Some x → Holds x.routine
-    all_placed p index x e = placed_has Holds (site_of p) (infos_begin p) (routines_begin p)
+    all_placed p index x e = placed_has Holds (site_of p) (first_cursor p)
         (routines p) index x (all_append Holds (functions_from p.main 0 p.functions)
         (map (funclet p) p.funclets) (all_functions p.main 0 p.functions)
         (all_funclets p p.funclets)) e

@@ -1,12 +1,16 @@
 mod Lemmas
 pub mod ImagePieces
 pub mod Handlers
+pub mod Lookups
 pub mod Labels
+pub mod PartPlaces
 pub mod RowBounds
 pub mod Infos
+pub mod WrittenEntries
+pub mod EntryOrder
+pub mod RoutineRanges
 pub mod Table
 pub mod NameRows
-pub mod Lookups
 pub mod RegionRanges
 pub mod RegionStarts
 pub mod RegionSums

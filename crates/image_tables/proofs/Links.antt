@@ -1,12 +1,12 @@
 -- What the code of a routine refers to is in the image.
-use Rattle.std.proofs.Common.{ℕ, ◌+◌, ◌≤◌, length, arith}
-use Rattle.image_tables.specs.Words.{BuiltIn, LinearProgram, FitsProgram, routines, entry_size, own_addresses, text_begin, linked, Placed, site_of, links, IsNear, MOST_IMAGE, thunk_of, thunks_at, near_end, services_of}
+use Rattle.std.proofs.Common.{ℕ, ◌+◌, ◌≤◌, [], length, arith}
+use Rattle.image_tables.specs.Words.{BuiltIn, LinearProgram, FitsProgram, routines, routine_size, entry_size, text_begin, linked, Placed, site_of, links, IsNear, MOST_IMAGE, thunk_of, thunks_at, near_end, services_of}
 use Rattle.host_layout.specs.declared.imported.ImportedService.TheVariants as imports
 use Rattle.c_operations.specs.declared.built_in.BuiltIn.TheVariants.{Put, Protect, RaiseException, Walk}
-use Rattle.image_tables.proofs.Lemmas.{entry_small, routine_small, labels_near, site_near, has_places, routines_near, services_few}
+use Rattle.image_tables.proofs.Lemmas.{routine_small, site_near, has_places, routines_near, services_few}
 use Rattle.image_link.proofs.Front as front
-use Rattle.image_tables.proofs.RowBounds.{below_at}
-use Rattle.image_tables.proofs.CodeInMemory.{IsThere}
+use Rattle.image_tables.proofs.RowBounds.{below_at, label_below}
+use Rattle.image_tables.proofs.CodeInMemory.{IsThere, cold_small}
 use Rattle.image_tables.proofs.Templates.{AreLinksNear}
 
 thunk_near : (p : LinearProgram) (text : ℕ) (f : BuiltIn) → text ≤ MOST_IMAGE
@@ -18,24 +18,28 @@ thunk_near p text RaiseException lt =
     front.thunk_near (services_of p) text imports.RaiseException (services_few p) lt
 thunk_near p text Walk lt = front.thunk_near (services_of p) text imports.Walk (services_few p) lt
 
+label_near : (p : LinearProgram) (x : Placed) (l : ℕ)
+    → IsThere (site_of p) (linked p).text (text_begin p.globals) x → IsNear ((links p x).label l)
+label_near p x l h =
+    let r = x.routine in
+    let room = h.room in
+    let cold = h.cold_room in
+    let small = routine_small r h.near in
+    let colds = cold_small r h.near in
+    label_below [] r.layout (x.begin + entry_size r) x.cold r.body (x.begin + routine_size r)
+    near_end h.near.cold (omega arith) (omega arith) (omega arith) tt (omega arith) l
+
 pub links_near : (p : LinearProgram) (x : Placed) → FitsProgram p
     → IsThere (site_of p) (linked p).text (text_begin p.globals) x → AreLinksNear (links p x)
 links_near p x fits h =
     let s = site_of p in
-    let r = x.routine in
     let n = site_near (services_of p) p.globals (routines p) (length p.functions) p.main
     (services_few p) fits.globals
     (routines_near p fits) (has_places p fits) in
     let text = n.text in
     let services = services_few p in
-    let room = h.room in
-    let small = routine_small r h.near in
-    let entry = entry_small r h.near in
-    let own = own_addresses x.begin r in
-    let labels = labels_near r.layout (x.begin + entry_size r) r.body.code h.near.code
-    (omega arith) in
     record {
-      label = λ l. below_at near_end own.labels l own.end labels (omega arith);
+      label = λ l. label_near p x l h;
       function = λ f. below_at near_end s.functions f 0 n.functions (omega arith);
       known = λ f. thunk_near p s.text f text;
       funclet = λ f. below_at near_end s.funclets f 0 n.funclets (omega arith);

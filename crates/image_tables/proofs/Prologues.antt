@@ -1,7 +1,7 @@
 -- How many bytes of a routine come before its body.
-use Rattle.std.proofs.Common.{◌≡◌, ◌+◌, ◌≤◌, Option, Some, ap, ◌∙◌, arith}
-use Rattle.image_tables.specs.Words.{FrameLayout, info_of, Nothing, sizes, RoutineView, IsRoutineNear, frame_code, argument_code, entry_size}
-use Rattle.image_tables.proofs.FramePlans.{prologue_sizes}
+use Rattle.std.proofs.Common.{◌≡◌, ◌+◌, ◌<◌, ◌≤◌, Option, Some, ap, subst, ◌∙◌, arith}
+use Rattle.image_tables.specs.Words.{FrameLayout, info_of, Nothing, sizes, RoutineView, IsFrameNear, IsRoutineNear, frame_code, argument_code, routine_size, entry_size}
+use Rattle.image_tables.proofs.FramePlans.{prologue_sizes, prologue_some}
 use Rattle.image_tables.proofs.Lemmas.{sizes_append, entry_sizes}
 
 entry_by : (f : FrameLayout) (o : Option FrameLayout) → o ≡ Some f
@@ -20,3 +20,11 @@ entry_is r f near e =
 pub entry_least : (r : RoutineView) (f : FrameLayout) → IsRoutineNear r → r.frame ≡ Some f
     → (info_of f Nothing).prologue_size ≤ entry_size r
 entry_least r f near e = let is = entry_is r f near e in omega arith
+
+-- so it isn't empty
+pub framed_room : (r : RoutineView) (f : FrameLayout) → IsRoutineNear r → r.frame ≡ Some f
+    → 0 < routine_size r
+framed_room r f near e =
+    let some = prologue_some f (subst IsFrameNear e near.frame) in
+    let l = entry_least r f near e in
+    omega arith

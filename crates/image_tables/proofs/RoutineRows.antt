@@ -1,14 +1,14 @@
 -- The rows and entries of routines one after another.
-use Rattle.std.proofs.Common.{◌≡◌, ◌≢◌, ℕ, zero, suc, ◌+◌, ◌<◌, ◌≤◌, ◌==◌, Bool, true, false, not, List, [], ◌∷◌, ◌++◌, length, get_or, map, Option, Some, None, refl, sym, ap, subst, ◌∙◌, arith, append_assoc}
+use Rattle.std.proofs.Common.{◌≡◌, ◌≢◌, ℕ, zero, suc, ◌+◌, ◌<◌, ◌≤◌, ◌==◌, Bool, true, false, not, List, [], ◌∷◌, ◌++◌, length, get_or, map, Option, Some, None, refl, sym, ap, subst, ◌∙◌, arith, append_assoc, inl, inr}
 use Rattle.std.specs.Prelude.{slice_get, ◌&&◌, nat_le}
 use Rattle.std.specs.List.{AllByRecursion}
 use Rattle.std.proofs.lemmas.Bool.{and_parts, ne_eqb, eqb-true}
-use Rattle.image_tables.specs.Words.{Entry, Region, RegionKind, Instruction, LinearFunction, LinearFunclet, LinearProgram, FrameLayout, Layout, body_size, label_list, address_or, function_bodies, funclet_bodies, RoutineView, is_leaf, leaf_if, functions_from, funclet, routines, IsRoutineNear, SiteView, routine_size, entry_size, bounds, is_finally, handler_address, jump_target, scope_records, info_bytes, Placed, end_of, placed_from, site_of, scopes_of, entry_if, rows_of, regions_in, regions, is_always, AreRows, LinearBody, all_spare, AreInOrder}
-use Rattle.image_tables.specs.Entries.{entries_of}
+use Rattle.std.proofs.lemmas.List.{append-nil}
+use Rattle.image_tables.specs.Words.{Entry, ScopeRecord, Region, RegionKind, LinearFunction, LinearFunclet, LinearProgram, FrameLayout, Layout, body_size, AreParts, hot_code, label_at, label_list, address_or, function_bodies, funclet_bodies, RoutineView, is_leaf, leaf_if, functions_from, funclet, routines, IsRoutineNear, SiteView, routine_size, entry_size, bounds, is_finally, handler_address, jump_target, scope_records, Placed, PlacedPart, Cursor, put, past, parts_of, placed, placed_from, first_cursor, site_of, scopes_of, entries, entry_if, part_entry, chained_if, rows_of, regions_in, regions, is_always, AreRows, LinearBody, all_spare}
+use Rattle.image_tables.specs.Entries.{entries_of, chained_of}
 use Rattle.linear_code.specs.declared.program.RegionKind.TheVariants as kinds
 use Rattle.image_tables.proofs.Lemmas.{bounds_least, all_append}
-use Rattle.image_tables.proofs.Labels.{label_least}
-use Rattle.image_tables.proofs.Table.{framed_room}
+use Rattle.image_tables.proofs.Labels.{IsBetween, label_is, label_between}
 use Rattle.image_tables.proofs.RegionRows.{rows_both}
 
 -- ---- the rows of a routine
@@ -22,15 +22,24 @@ not_one [] (suc k) far e = let q : 0 ≡ 1 = e in omega arith
 not_one (x ∷ xs) zero far e = let q : x ≡ 1 = e in let lt = far.0 in omega arith
 not_one (x ∷ xs) (suc k) far e = not_one xs k far.1 e
 
-module _ (p : LinearProgram) (far : AreFar (site_of p).funclets) (y : Layout) (start : ℕ)
-    (body : List Instruction) (end : ℕ) (some : 0 < start) (fits : start + body_size y body ≤ end)
+module _ (p : LinearProgram) (far : AreFar (site_of p).funclets) (y : Layout) (start cold : ℕ)
+    (b : LinearBody) (end : ℕ) (some : 0 < start) (others : 0 < cold)
+    (parts : AreParts 0 b.cold (length b.code)) (ends : end ≡ start + body_size y (hot_code b))
   where
-    target_some : (i : ℕ) → address_or (label_list y start body) i end ≢ 0
-    target_some i e = let l = label_least y start body i end fits in
-        let q : address_or (label_list y start body) i end ≡ 0 = e in omega arith
+    between_some : (a : ℕ) → IsBetween y b.cold start cold b.code parts a → 0 < a
+    between_some a (inl h) = let least = h.0 in omega arith
+    between_some a (inr h) = let least = h.0 in omega arith
 
-    finally_by : (k : RegionKind) → (jump_target (label_list y start body) end k == 0) ≡ is_finally
-        k
+    target_some : (i : ℕ) → address_or (label_list y b.cold 0 start cold b.code) i end ≢ 0
+    target_some i e =
+        let l = between_some (label_at y start cold b.cold b.code i)
+        (label_between y b.cold start cold b.code parts i) in
+        let is = label_is y b.cold start cold b.code parts i end ends in
+        let q : address_or (label_list y b.cold 0 start cold b.code) i end ≡ 0 = e in
+        omega arith
+
+    finally_by : (k : RegionKind)
+        → (jump_target (label_list y b.cold 0 start cold b.code) end k == 0) ≡ is_finally k
     finally_by (kinds.Finally funclet) = refl
     finally_by (kinds.Filter funclet target) = ne_eqb _ 0 (target_some target)
     finally_by (kinds.Always target) = ne_eqb _ 0 (target_some target)
@@ -41,7 +50,7 @@ module _ (p : LinearProgram) (far : AreFar (site_of p).funclets) (y : Layout) (s
     always_by (kinds.Always target) = refl
 
     pub routine_rows : (rs : List Region) → AreRows p
-        (scope_records (site_of p).funclets (label_list y start body) end rs) rs
+        (scope_records (site_of p).funclets (label_list y b.cold 0 start cold b.code) end rs) rs
     routine_rows [] = tt
     routine_rows (r ∷ rs) = (
       record {
@@ -99,6 +108,45 @@ routines_bare p =
     all_append IsBare (functions_from p.main 0 p.functions) (map (funclet p) p.funclets)
     (functions_bare p.main 0 p.functions) (funclets_bare p p.funclets)
 
+-- ---- they hold no call either
+
+abbrev pub IsSpare : RoutineView → Type 0
+IsSpare r = r.frame ≡ None → (n : ℕ) × (all_spare n r.body.code ≡ true)
+
+function_spare : (f : LinearFunction) (other leaf : Bool) → (other && is_leaf f) ≡ leaf
+    → IsSpare (leaf_if leaf f)
+function_spare f other true e none =
+    let b = f.body in
+    let bare = (length b.regions == 0) && all_spare f.parameters b.code in
+    let few = nat_le (b.locals + b.temporaries) 4 in
+    let p = and_parts other (is_leaf f) e in
+    let q = and_parts (nat_le f.parameters b.locals) (few && bare) p.1 in
+    let r = and_parts few bare q.1 in
+    (f.parameters, (and_parts (length b.regions == 0) (all_spare f.parameters b.code) r.1).1)
+function_spare f other false e none = let q = ap is_some none in absurd (omega arith)
+
+functions_spare : (main index : ℕ) (fs : List LinearFunction)
+    → AllByRecursion IsSpare (functions_from main index fs)
+functions_spare main index [] = tt
+functions_spare main index (f ∷ fs) = (
+  function_spare f (not (index == main))
+      (not (index == main) && is_leaf f) refl,
+  functions_spare main (suc index) fs,
+)
+
+funclets_spare : (p : LinearProgram) (fs : List LinearFunclet)
+    → AllByRecursion IsSpare (map (funclet p) fs)
+funclets_spare p [] = tt
+funclets_spare p (f ∷ fs) = (
+  (λ none. (let q = ap is_some none in absurd (omega arith))),
+  funclets_spare p fs,
+)
+
+pub routines_spare : (p : LinearProgram) → AllByRecursion IsSpare (routines p)
+routines_spare p =
+    all_append IsSpare (functions_from p.main 0 p.functions) (map (funclet p) p.funclets)
+    (functions_spare p.main 0 p.functions) (funclets_spare p p.funclets)
+
 -- ---- the regions of routines
 
 abbrev pub bodies : List RoutineView → List LinearBody
@@ -146,36 +194,45 @@ module _ (p : LinearProgram) (far : AreFar (site_of p).funclets) where
   rows_if x (Some f) es qs bare own others = rows_both p (scopes_of s x) (rows_of es)
       x.routine.body.regions qs own others
 
-  pub all_rows : (info at : ℕ) (rs : List RoutineView) → 0 < at → AllByRecursion IsBare rs
-      → AreRows p (rows_of (entries_of s (placed_from s info at rs))) (regions_in (bodies rs))
-  all_rows info at [] some bare = tt
-  all_rows info at (r ∷ rs) some bare =
-      let x : Placed = record { routine = r; begin = at; info = info } in
-      rows_if x r.frame (entries_of s (placed_from s (info + length (info_bytes s at r))
-      (at + routine_size r) rs)) (regions_in (bodies rs)) bare.0
-      (routine_rows p far r.layout (at + entry_size r) r.body.code (at + routine_size r)
-      (omega arith) (omega arith) r.body.regions)
-      (all_rows (info + length (info_bytes s at r)) (at + routine_size r) rs (omega arith) bare.1)
+  pub all_rows : (c : Cursor) (rs : List RoutineView) → 0 < c.begin → 0 < c.cold
+      → AllByRecursion IsBare rs → AllByRecursion IsRoutineNear rs
+      → AreRows p (rows_of (entries_of s (placed_from s c rs))) (regions_in (bodies rs))
+  all_rows c [] some cold bare near = tt
+  all_rows c (r ∷ rs) some cold bare near =
+      rows_if (put c r) r.frame (entries_of s (placed_from s (past s c r) rs))
+      (regions_in (bodies rs)) bare.0
+      (routine_rows p far r.layout (c.begin + entry_size r) c.cold r.body
+      (c.begin + routine_size r) (omega arith) cold near.0.cold (omega arith) r.body.regions)
+      (all_rows (past s c r) rs (omega arith) (omega arith) bare.1 near.1)
 
-  order_less : (a b : ℕ) (es : List Entry) → b ≤ a → AreInOrder a es → AreInOrder b es
-  order_less a b [] le h = tt
-  order_less a b (e ∷ es) le h = let l = h.0 in (omega arith, h.1, h.2)
+  -- those of cold parts have none
+  no_rows : (x : Placed) (f : FrameLayout) (qs : List PlacedPart)
+      → rows_of (map (part_entry s x f) qs) ≡ []
+  no_rows x f [] = refl
+  no_rows x f (q ∷ qs) = no_rows x f qs
 
-  order_if : (x : Placed) (o : Option FrameLayout) (es : List Entry) (last : ℕ) → last ≤ x.begin
-      → ((f : FrameLayout) → o ≡ Some f → 0 < routine_size x.routine) → AreInOrder (end_of x) es
-      → AreInOrder last (entry_if s x o ++ es)
-  order_if x None es last le some h = order_less (end_of x) last es (omega arith) h
-  order_if x (Some f) es last le some h = let l = some f refl in (le, omega arith, h)
+  no_rows_if : (x : Placed) (o : Option FrameLayout) → rows_of (chained_if s x o) ≡ []
+  no_rows_if x None = refl
+  no_rows_if x (Some f) = no_rows x f (parts_of x)
 
-  pub in_order : (info at last : ℕ) (rs : List RoutineView) → AllByRecursion IsRoutineNear rs
-      → last ≤ at → AreInOrder last (entries_of s (placed_from s info at rs))
-  in_order info at last [] near le = tt
-  in_order info at last (r ∷ rs) near le =
-      let next = info + length (info_bytes s at r) in
-      order_if (record { routine = r; begin = at; info = info }) r.frame
-      (entries_of s (placed_from s next (at + routine_size r) rs)) last le
-      (λ f e. framed_room r f near.0 e) (in_order next (at + routine_size r) (at + routine_size r)
-      rs near.1 (omega arith))
+  rows_in_both : (a b : List Entry) → rows_of (a ++ b) ≡ rows_of a ++ rows_of b
+  rows_in_both [] b = refl
+  rows_in_both (e ∷ a) b = ap (λ (t : List ScopeRecord). e.info.scopes ++ t) (rows_in_both a b)
+      ∙ sym (append_assoc e.info.scopes (rows_of a) (rows_of b))
+
+  no_chained_rows : (c : Cursor) (rs : List RoutineView)
+      → rows_of (chained_of s (placed_from s c rs)) ≡ []
+  no_chained_rows c [] = refl
+  no_chained_rows c (r ∷ rs) =
+      rows_in_both (chained_if s (put c r) r.frame) (chained_of s (placed_from s (past s c r) rs))
+      ∙ (λ i. no_rows_if (put c r) r.frame i ++ no_chained_rows (past s c r) rs i)
+
+  pub same_rows : rows_of (entries p) ≡ rows_of (entries_of s (placed p))
+  same_rows =
+      rows_in_both (entries_of s (placed p)) (chained_of s (placed p))
+      ∙ ap (λ (t : List ScopeRecord). rows_of (entries_of s (placed p)) ++ t)
+      (no_chained_rows (first_cursor p) (routines p))
+      ∙ append-nil (rows_of (entries_of s (placed p)))
 
 -- ---- where routines begin
 
@@ -190,24 +247,22 @@ bounds_rise at (r ∷ rs) zero (suc j) d e lt le = bounds_least (at + routine_si
 bounds_rise at (r ∷ rs) (suc i) (suc j) d e lt le = bounds_rise (at + routine_size r) rs i j d e
     (omega arith) (omega arith)
 
-pub record IsPlaced (s : SiteView) (info at : ℕ) (rs : List RoutineView) (index : ℕ)
+pub record IsPlaced (s : SiteView) (c : Cursor) (rs : List RoutineView) (index : ℕ)
     (d : RoutineView) : Type 0 where
   pub placed : Placed
-  pub there : slice_get (placed_from s info at rs) index ≡ Some placed
-  pub begins : placed.begin ≡ get_or (bounds at rs) index 0
+  pub there : slice_get (placed_from s c rs) index ≡ Some placed
+  pub begins : placed.begin ≡ get_or (bounds c.begin rs) index 0
   pub routine : placed.routine ≡ get_or rs index d
 
-pub is_placed : (s : SiteView) (info at : ℕ) (rs : List RoutineView) (index : ℕ) (d : RoutineView)
-    → index < length rs → IsPlaced s info at rs index d
-is_placed s info at [] index d lt = absurd (omega arith)
-is_placed s info at (r ∷ rs) zero d lt = record {
-  placed =
-      record { routine = r; begin = at; info = info };
+pub is_placed : (s : SiteView) (c : Cursor) (rs : List RoutineView) (index : ℕ) (d : RoutineView)
+    → index < length rs → IsPlaced s c rs index d
+is_placed s c [] index d lt = absurd (omega arith)
+is_placed s c (r ∷ rs) zero d lt = record {
+  placed = put c r;
   there = refl;
   begins = refl;
   routine = refl;
 }
-is_placed s info at (r ∷ rs) (suc index) d lt =
-    let h = is_placed s (info + length (info_bytes s at r)) (at + routine_size r) rs index d
-    (omega arith) in
+is_placed s c (r ∷ rs) (suc index) d lt =
+    let h = is_placed s (past s c r) rs index d (omega arith) in
     record { placed = h.placed; there = h.there; begins = h.begins; routine = h.routine }

@@ -1,12 +1,12 @@
 -- The scope records of a routine are of code in the image.
-use Rattle.std.proofs.Common.{◌≡◌, ℕ, zero, suc, ◌+◌, ◌^◌, ◌<◌, ◌≤◌, Bool, true, List, [], ◌∷◌, length, get_or, Ok, refl, ap, ◌∙◌, arith}
+use Rattle.std.proofs.Common.{◌≡◌, ℕ, zero, suc, ◌+◌, ◌^◌, ◌<◌, ◌≤◌, Bool, true, List, [], ◌∷◌, length, get_or, Ok, refl, ap, ◌∙◌, arith, inl, inr}
 use Rattle.std.specs.List.{AllByRecursion}
 use Rattle.std.proofs.lemmas.Bool.{lt-ltb}
-use Rattle.image_tables.specs.Words.{◌>>=◌, ScopeRecord, Region, RegionKind, Instruction, Layout, body_size, label_list, address_or, handler_address, jump_target, scope_record, scope_records, IsRange, unless, IsScopeRecord}
+use Rattle.image_tables.specs.Words.{◌>>=◌, ScopeRecord, Region, RegionKind, LinearBody, Layout, body_size, AreParts, hot_code, cold_code, label_at, label_list, address_or, handler_address, jump_target, scope_record, scope_records, IsRange, unless, IsScopeRecord}
 use Rattle.eh_tables.specs.declared.refusal.TableErr.TheVariants as refusals
 use Rattle.eh_tables.specs.Scopes.{is_within, checked}
 use Rattle.linear_code.specs.declared.program.RegionKind.TheVariants as kinds
-use Rattle.image_tables.proofs.Labels.{label_most, labels_rise}
+use Rattle.image_tables.proofs.Labels.{IsBetween, label_is, label_between, labels_rise}
 
 -- ---- rows that pass
 
@@ -45,45 +45,66 @@ below_at size (x ∷ xs) (suc i) d all lt = below_at size xs i d all.1 lt
 
 -- ---- the records of regions
 
-module _ (funclets : List ℕ) (y : Layout) (start : ℕ) (body : List Instruction) (end size : ℕ)
-    (fits : start + body_size y body ≤ end) (inside : end < size) (few : AreBelow size funclets)
-    (some : 1 < size) where
+-- of a body with its code from one address on, and its cold parts from another
+module _ (funclets : List ℕ) (y : Layout) (start cold : ℕ) (b : LinearBody) (end size : ℕ)
+    (parts : AreParts 0 b.cold (length b.code)) (ends : end ≡ start + body_size y (hot_code b))
+    (inside : end < size) (cold_inside : cold + body_size y (cold_code b) < size)
+    (few : AreBelow size funclets) (some : 1 < size) where
+  abbrev labels : List ℕ
+  labels = label_list y b.cold 0 start cold b.code
+
   handler_below : (k : RegionKind) → handler_address funclets k < size
   handler_below (kinds.Finally funclet) = below_at size funclets funclet 0 few (omega arith)
   handler_below (kinds.Filter funclet target) = below_at size funclets funclet 0 few (omega arith)
   handler_below (kinds.Always target) = some
 
-  label_below : (i : ℕ) → address_or (label_list y start body) i end < size
-  label_below i = let m = label_most y start body i end fits in omega arith
+  between_below : (a : ℕ) → IsBetween y b.cold start cold b.code parts a → a < size
+  between_below a (inl h) = let most = h.1 in omega arith
+  between_below a (inr h) = let most = h.1 in omega arith
 
-  target_below : (k : RegionKind) → jump_target (label_list y start body) end k < size
+  pub label_below : (i : ℕ)
+      → address_or (label_list y b.cold 0 start cold b.code) i end < size
+  label_below i =
+      let m = between_below (label_at y start cold b.cold b.code i)
+      (label_between y b.cold start cold b.code parts i) in
+      let e = label_is y b.cold start cold b.code parts i end ends in
+      omega arith
+
+  target_below : (k : RegionKind) → jump_target labels end k < size
   target_below (kinds.Finally funclet) = omega arith
   target_below (kinds.Filter funclet target) = label_below target
   target_below (kinds.Always target) = label_below target
 
-  row_within : (r : Region) → IsRange (length body) r
-      → is_within size (scope_record funclets (label_list y start body) end r) ≡ true
+  row_within : (r : Region) → IsRange b r
+      → is_within size (scope_record funclets labels end r) ≡ true
   row_within r range =
       let some' = range.some in
       let in' = range.inside in
+      let z : r.begin ≤ r.begin = omega arith in
+      let w : r.end ≤ r.end = omega arith in
+      let rise = labels_rise y b.cold start cold b.code parts r.begin r.end some' (omega arith)
+      (range.hot r.begin z (omega arith)) (range.hot r.end (omega arith) w) in
+      let from = label_is y b.cold start cold b.code parts r.begin end ends in
+      let to = label_is y b.cold start cold b.code parts r.end end ends in
       within size
-      (address_or (label_list y start body) r.begin end)
-      (address_or (label_list y start body) r.end end)
+      (address_or labels r.begin end)
+      (address_or labels r.end end)
       (handler_address funclets r.kind)
-      (jump_target (label_list y start body) end r.kind)
-      (labels_rise y start body r.begin r.end end fits some' (omega arith))
+      (jump_target labels end r.kind)
+      (omega arith)
       (label_below r.begin)
       (label_below r.end)
       (handler_below r.kind)
       (target_below r.kind)
 
-  pub rows_within : (rs : List Region) → AllByRecursion (IsRange (length body)) rs
-      → AreWithin size (scope_records funclets (label_list y start body) end rs)
+  pub rows_within : (rs : List Region) → AllByRecursion (IsRange b) rs
+      → AreWithin size (scope_records funclets (label_list y b.cold 0 start cold b.code) end rs)
   rows_within [] all = tt
   rows_within (r ∷ rs) all = (row_within r all.0, rows_within rs all.1)
 
   pub rows_small : (rs : List Region) → size ≤ 2 ^ 32
-      → AllByRecursion IsScopeRecord (scope_records funclets (label_list y start body) end rs)
+      → AllByRecursion IsScopeRecord
+      (scope_records funclets (label_list y b.cold 0 start cold b.code) end rs)
   rows_small [] le = tt
   rows_small (r ∷ rs) le =
       let b = label_below r.begin in

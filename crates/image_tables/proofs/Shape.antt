@@ -4,14 +4,16 @@ use Rattle.std.specs.Prelude.{◌&&◌, nat_lt}
 use Rattle.std.specs.List.{AllByRecursion}
 use Rattle.std.proofs.lemmas.Bool.{ne_eqb, eq-eqb, false≢true, cases_lt}
 use Rattle.std.proofs.lemmas.List.{length-map, get_or-map}
-use Rattle.image_tables.specs.Words.{Region, LinearFunction, LinearFunclet, LinearProgram, FitsProgram, RoutineView, functions_from, funclet, routines, IsRoutineNear, routine_size, bounds, thunk_at, CSpecificHandler, has_except, has_finally, trailer, site_of, infos_begin, entry_of, entries, AreDifferent, rows_of, regions, named, funclet_begin, AreRows, nothing, funclet_frame, trailer_flags, routines_begin}
+use Rattle.image_tables.specs.Entries.{entries_of}
+use Rattle.image_tables.specs.Words.{ScopeRecord, Region, LinearFunction, LinearFunclet, LinearProgram, FitsProgram, RoutineView, functions_from, funclet, routines, IsRoutineNear, routine_size, bounds, thunk_at, CSpecificHandler, has_except, has_finally, trailer, first_cursor, placed, site_of, entry_of, entries, AreDifferent, rows_of, regions, named, funclet_begin, AreRows, nothing, funclet_frame, trailer_flags, routines_begin}
 use Rattle.linear_code.specs.declared.program.FuncletKind.TheVariants.{Filter}
 use Rattle.image_tables.proofs.Lemmas.{no_routine, routines_near, all_at}
 use Rattle.image_tables.proofs.Lookups.{entries_are_held}
-use Rattle.image_tables.proofs.Table.{framed_room}
-use Rattle.image_tables.specs.ShapeLaws.{BeginsEntry, HasShape, TablesHaveShape, HandlersDiffer, EntriesAreFlagged}
+use Rattle.image_tables.proofs.Prologues.{framed_room}
+use Rattle.image_tables.proofs.EntryOrder.{all_in_order}
+use Rattle.image_tables.specs.ShapeLaws.{BeginsEntry, HasShape, TablesHaveShape, HandlersDiffer, EntriesAreFlagged, PartsArePassedOver}
 use Rattle.image_tables.proofs.RegionRows.{as_many, finally_count, always_count, handlers_are, searched_by, unwound_by}
-use Rattle.image_tables.proofs.RoutineRows.{AreFar, routines_bare, routines_regions, all_rows, in_order, bounds_rise, is_placed}
+use Rattle.image_tables.proofs.RoutineRows.{AreFar, routines_bare, routines_regions, all_rows, same_rows, bounds_rise, is_placed}
 
 -- ---- funclets
 
@@ -52,8 +54,9 @@ module _ (p : LinearProgram) (fits : FitsProgram p) where
   far = drop_far n (bounds (routines_begin p) rs) (bounds_far (routines_begin p) rs (omega arith))
 
   rows : AreRows p (rows_of (entries p)) (regions p)
-  rows = subst (AreRows p (rows_of (entries p))) (routines_regions p)
-      (all_rows p far (infos_begin p) (routines_begin p) rs (omega arith) (routines_bare p))
+  rows = subst (λ (own : List ScopeRecord). AreRows p own (regions p)) (sym (same_rows p far))
+      (subst (AreRows p (rows_of (entries_of (site_of p) (placed p)))) (routines_regions p)
+      (all_rows p far (first_cursor p) rs (omega arith) (omega arith) (routines_bare p) near))
 
   pub as_long : length rs ≡ n + length p.funclets
   as_long =
@@ -89,8 +92,7 @@ module _ (p : LinearProgram) (fits : FitsProgram p) where
   begins : (k : ℕ) → k < length p.funclets → BeginsEntry p (funclet_begin p k)
   begins k lt =
       let l = as_long in
-      let h = is_placed (site_of p) (infos_begin p) (routines_begin p) rs (n + k) no_routine
-      (omega arith) in
+      let h = is_placed (site_of p) (first_cursor p) rs (n + k) no_routine (omega arith) in
       let x = h.placed in
       let at : x.begin ≡ funclet_begin p k = h.begins ∙ sym (begin_is k) in
       let f = funclet_frame (get_or p.funclets k no_funclet).body in
@@ -107,7 +109,7 @@ module _ (p : LinearProgram) (fits : FitsProgram p) where
 
   pub shape : HasShape p
   shape = record {
-    order = in_order p far (infos_begin p) (routines_begin p) 0 rs near (omega arith);
+    order = all_in_order p near;
     rows = rows;
     count = as_many p (rows_of (entries p)) (regions p) rows;
     finally = finally_count p (rows_of (entries p)) (regions p) rows;
@@ -180,3 +182,6 @@ entries_are_flagged s x f =
       searched = searched_of h x.routine.body.regions;
       unwound = unwound_of h x.routine.body.regions;
     }
+
+pub parts_are_passed_over : PartsArePassedOver
+parts_are_passed_over s x f q = record { searched = refl; unwound = refl }

@@ -1,142 +1,31 @@
 -- The function table of a program's image, read whole.
-use Rattle.std.proofs.Common.{◌*◌, ◌≡◌, ℕ, zero, suc, ◌+◌, ◌%◌, ◌^◌, ◌<◌, ◌≤◌, ◌==◌, Bool, true, false, not, List, [], ◌∷◌, ◌++◌, length, drop, map, Option, Some, None, Ok, refl, sym, ap, subst, ◌∙◌, arith, append_assoc, length-append}
-use Rattle.std.specs.Prelude.{◌&&◌}
+use Rattle.std.proofs.Common.{◌*◌, ◌≡◌, ℕ, zero, suc, ◌+◌, ◌%◌, ◌^◌, ◌<◌, ◌≤◌, Bool, true, false, List, [], ◌∷◌, ◌++◌, length, drop, map, Option, Some, None, Ok, refl, sym, ap, subst, ◌∙◌, arith, append_assoc, length-append}
 use Rattle.std.specs.List.{AllByRecursion}
+use Rattle.std.proofs.lemmas.Grind.{flat_map-append}
 use Rattle.std.proofs.lemmas.List.{map-append, length-map}
-use Rattle.image_tables.specs.Words.{Image, stored, is_c_handler, Table, Entry, or_none, ◌>>=◌, unwind_bytes, CSpecificHandler, ImageContents, CanBeImage, sizes_of, text_at, rdata_at, xdata_at, Region, LinearFunction, LinearFunclet, LinearProgram, FrameLayout, info_of, thunk, distance, chosen, body_size, FitsProgram, RoutineView, is_leaf, leaf_if, functions_from, funclet, routines, IsFrameNear, IsRoutineNear, SiteView, routine_size, entry_size, own_addresses, thunk_at, routines_bytes, bounds, trailer, scope_record, scope_records, scope_table, info_if, info_bytes, linked, Placed, end_of, placed_from, site_of, infos_begin, placed, HasRanges, HasRegions, scopes_of, has_rows, entry_if, entries, MOST_IMAGE, IsStoredAt, IsRuntimeFunction, WrittenEntry, HasScopes, IsEntryWritten, as_read, ranges_of, info_written, Tables, directory, all_entries, tables, scope_bytes, table_bytes, service_thunk, info_bytes_of, infos, infos_room, range_if, ranges, total, unwind_of, TablesAreRead, front_size, slot_of, routines_begin}
-use Rattle.image_tables.specs.Entries.{entries_of}
+use Rattle.image_tables.specs.Words.{Image, stored, is_c_handler, Table, Entry, or_none, ◌>>=◌, unwind_bytes, CSpecificHandler, ImageContents, CanBeImage, sizes_of, text_at, rdata_at, xdata_at, Region, Instruction, LabelRange, LinearProgram, FrameLayout, Layout, info_of, thunk, distance, chosen, spelled, body_size, part_code, FitsProgram, RoutineView, routines, IsFrameNear, IsRoutineNear, SiteView, routine_size, cold_size, total, cold_total, entry_size, own_addresses, thunk_at, front_code, routines_bytes, all_apart_bytes, bounds, trailer, scope_record, scope_records, scope_table, info_if, info_bytes, linked, Placed, PlacedPart, Cursor, put, past, end_of, parts_from, parts_of, placed_from, first_cursor, site_of, infos_begin, placed, HasRanges, HasRegions, range_of, scopes_of, has_rows, entry_if, part_entry, chained_if, entries, AreInOrder, MOST_IMAGE, IsStoredAt, IsRuntimeFunction, WrittenEntry, HasScopes, IsEntryWritten, as_read, ranges_of, info_written, Tables, directory, all_entries, tables, scope_bytes, table_bytes, service_thunk, info_bytes_of, infos, chained_info, chained_bytes, chained_infos, CHAINED_SIZE, fragments_of, fragments, all_ranges, unwind_of, TablesAreRead, front_size, slot_of, routines_begin, cold_begin, chained_begin}
+use Rattle.image_tables.specs.Entries.{entries_of, chained_of}
 use Rattle.eh_tables.specs.declared.range.RuntimeFunction.{RuntimeFunction}
-use Rattle.eh_tables.specs.ReadAgain.{AreInOrder}
+use Rattle.eh_tables.specs.ReadAgain.{IsInfoWritten}
+use Rattle.eh_tables.specs.ReadAgain as written_order
 use Rattle.eh_tables.specs.Tables as reading
 use Rattle.eh_tables.proofs.TablesAgain.{reads_ranges}
 use Rattle.eh_tables.proofs.WholeAgain.{reads_table}
 use Rattle.pe_write.specs.Program as images
+use Rattle.x64_emit.specs.Bodies.{part_ranges}
+use Rattle.image_link.specs.declared.fragments.Fragment.{Fragment}
+use Rattle.image_link.specs.Places.{parts_at}
+use Rattle.image_link.specs.Tables.{fragment, fragments_if}
 use Rattle.image_link.specs.Walks.{named_functions}
-use Rattle.image_tables.proofs.Lemmas.{can_be_written, listed, all_append, text_length, is_program, tables_fit, has_places, has_names, no_routine, routines_near, services_few, services_there, thunk_there}
-use Rattle.image_link.proofs.Infos.{info_small}
+use Rattle.image_tables.proofs.Lemmas.{can_be_written, listed, text_length, is_program, tables_fit, has_places, has_names, no_routine, routines_near, services_few, services_there, thunk_there}
 use Rattle.image_tables.specs.RegionRanges.{IsRange as IsRegionRange}
+use Rattle.image_tables.proofs.RoutineRanges.{RoutineHasRanges, routines_have}
 use Rattle.image_tables.proofs.ImagePieces.{text_there, xdata_there, pdata_there}
 use Rattle.image_tables.proofs.Handlers.{handler_is_c, thunk_bytes}
 use Rattle.image_tables.proofs.RowBounds.{AreBelow, checked_is, rows_within, rows_small}
-use Rattle.image_tables.proofs.Infos.{is_trailer, has_trailer, no_parent, handled, is_info, unwind_some, info_aligned}
-use Rattle.image_tables.proofs.FramePlans.{prologue_some}
-use Rattle.image_tables.proofs.Prologues.{entry_least}
-
--- ---- the entries as they are written
-
-abbrev pub written_of : SiteView → Placed → FrameLayout → WrittenEntry
-written_of s x f = record {
-  range = record {
-    begin = x.begin;
-    end = end_of x;
-    unwind_info = x.info;
-  };
-  own = record { info = unwind_of s x f; scopes = scopes_of s x };
-  parents = [];
-}
-
-abbrev pub written_if : SiteView → Placed → Option FrameLayout → List WrittenEntry
-written_if s x None = []
-written_if s x (Some f) = written_of s x f ∷ []
-
-abbrev pub written_from : SiteView → List Placed → List WrittenEntry
-written_from s [] = []
-written_from s (x ∷ xs) = written_if s x x.routine.frame ++ written_from s xs
-
-range_same : (s : SiteView) (x : Placed) (o : Option FrameLayout)
-    → ranges_of (written_if s x o) ≡ range_if o
-    (record { begin = x.begin; end = end_of x; unwind_info = x.info })
-range_same s x None = refl
-range_same s x (Some f) = refl
-
-ranges_same : (s : SiteView) (info at : ℕ) (rs : List RoutineView)
-    → ranges_of (written_from s (placed_from s info at rs)) ≡ ranges s info at rs
-ranges_same s info at [] = refl
-ranges_same s info at (r ∷ rs) =
-    let x : Placed = record { routine = r; begin = at; info = info } in
-    let more = placed_from s (info + length (info_bytes s at r)) (at + routine_size r) rs in
-    map-append (λ (w : WrittenEntry). w.range) (written_if s x r.frame) (written_from s more)
-    ∙ (λ i. range_same s x r.frame i ++ ranges_same s (info + length (info_bytes s at r))
-    (at + routine_size r) rs i)
-
--- ---- in their order
-
-pub framed_room : (r : RoutineView) (f : FrameLayout) → IsRoutineNear r → r.frame ≡ Some f
-    → 0 < routine_size r
-framed_room r f near e =
-    let some = prologue_some f (subst IsFrameNear e near.frame) in
-    let l = entry_least r f near e in
-    omega arith
-
-order_less : (a b : ℕ) (ws : List WrittenEntry) → b ≤ a → AreInOrder a ws → AreInOrder b ws
-order_less a b [] le h = tt
-order_less a b (w ∷ ws) le h = let l = h.0 in (omega arith, h.1, h.2)
-
-order_if : (s : SiteView) (x : Placed) (o : Option FrameLayout) (ws : List WrittenEntry) (last : ℕ)
-    → last ≤ x.begin → ((f : FrameLayout) → o ≡ Some f → 0 < routine_size x.routine)
-    → AreInOrder (end_of x) ws → AreInOrder last (written_if s x o ++ ws)
-order_if s x None ws last le some h = order_less (end_of x) last ws (omega arith) h
-order_if s x (Some f) ws last le some h = let l = some f refl in (le, omega arith, h)
-
-in_order : (s : SiteView) (info at last : ℕ) (rs : List RoutineView)
-    → AllByRecursion IsRoutineNear rs → last ≤ at
-    → AreInOrder last (written_from s (placed_from s info at rs))
-in_order s info at last [] near le = tt
-in_order s info at last (r ∷ rs) near le =
-    let next = info + length (info_bytes s at r) in
-    order_if s (record { routine = r; begin = at; info = info }) r.frame
-    (written_from s (placed_from s next (at + routine_size r) rs)) last le
-    (λ f e. framed_room r f near.0 e) (in_order s next (at + routine_size r) (at + routine_size r)
-    rs near.1 (omega arith))
-
-small_if : (s : SiteView) (x : Placed) (o : Option FrameLayout) (ws : List WrittenEntry)
-    → end_of x < 2 ^ 32 → x.info < 2 ^ 32 → AllByRecursion IsRuntimeFunction (ranges_of ws)
-    → AllByRecursion IsRuntimeFunction (ranges_of (written_if s x o ++ ws))
-small_if s x None ws lt lt' more = more
-small_if s x (Some f) ws lt lt' more = (record { begin = omega arith; end = lt; info = lt' }, more)
-
-ranges_small : (s : SiteView) (info at : ℕ) (rs : List RoutineView)
-    → AllByRecursion IsRoutineNear rs → at + total rs < 2 ^ 32
-    → info + infos_room rs < 2 ^ 32 → AllByRecursion IsRuntimeFunction
-    (ranges_of (written_from s (placed_from s info at rs)))
-ranges_small s info at [] near lt lt' = tt
-ranges_small s info at (r ∷ rs) near lt lt' =
-    let small = info_small s at r near.0 in
-    let next = info + length (info_bytes s at r) in
-    small_if s (record { routine = r; begin = at; info = info }) r.frame
-    (written_from s (placed_from s next (at + routine_size r) rs)) (omega arith) (omega arith)
-    (ranges_small s next (at + routine_size r) rs near.1 (omega arith) (omega arith))
-
--- ---- regions of routines
-
-same_body : (b : Bool) (f : LinearFunction) → (leaf_if b f).body ≡ f.body
-same_body true f = refl
-same_body false f = refl
-
-abbrev RoutineHasRanges : RoutineView → Type 0
-RoutineHasRanges r = HasRanges r.body
-
-functions_have : (main index : ℕ) (fs : List LinearFunction)
-    → AllByRecursion (λ (f : LinearFunction). HasRanges f.body) fs
-    → AllByRecursion RoutineHasRanges (functions_from main index fs)
-functions_have main index [] all = tt
-functions_have main index (f ∷ fs) all = (
-  subst HasRanges
-      (sym (same_body (not (index == main) && is_leaf f) f)) all.0,
-  functions_have main (suc index) fs all.1,
-)
-
-funclets_have : (p : LinearProgram) (fs : List LinearFunclet)
-    → AllByRecursion (λ (f : LinearFunclet). HasRanges f.body) fs
-    → AllByRecursion RoutineHasRanges (map (funclet p) fs)
-funclets_have p [] all = tt
-funclets_have p (f ∷ fs) all = (all.0, funclets_have p fs all.1)
-
-routines_have : (p : LinearProgram) → HasRegions p → AllByRecursion RoutineHasRanges (routines p)
-routines_have p h =
-    all_append RoutineHasRanges (functions_from p.main 0 p.functions)
-    (map (funclet p) p.funclets) (functions_have p.main 0 p.functions h.functions)
-    (funclets_have p p.funclets h.funclets)
+use Rattle.image_tables.proofs.Infos.{is_trailer, has_trailer, no_parent, handled, is_info, unwind_some, info_aligned, chained_length, chained_is_info, chained_can_be_written}
+use Rattle.image_tables.proofs.EntryOrder.{all_in_order}
+use Rattle.image_tables.proofs.WrittenEntries.{own_of, written_if, written_from, part_written, parts_written_if, parts_written, ranges_same, parts_same, ranges_small, parts_small, infos_few, infos_aligned}
 
 -- ---- the addresses of funclets
 
@@ -156,10 +45,14 @@ drop_below size (suc n) (x ∷ xs) all = drop_below size n xs all.1
 -- ---- pieces
 
 -- the unwind info of a routine with a frame
-bytes_of : (s : SiteView) (at : ℕ) (r : RoutineView) (f : FrameLayout) → r.frame ≡ Some f
-    → info_bytes s at r ≡ info_bytes_of s (own_addresses at r).labels (own_addresses at r).end r f
+bytes_of : (s : SiteView) (x : Placed) (f : FrameLayout) → x.routine.frame ≡ Some f
+    → info_bytes s x.begin x.cold x.routine
+    ≡ info_bytes_of s (own_addresses x.begin x.cold x.routine).labels
+    (own_addresses x.begin x.cold x.routine).end x.routine f
 unfolding info_bytes
-bytes_of s at r f e = ap (info_if s (own_addresses at r).labels (own_addresses at r).end r) e
+bytes_of s x f e =
+    let own = own_addresses x.begin x.cold x.routine in
+    ap (info_if s own.labels own.end x.routine) e
 
 -- ---- a whole program
 
@@ -185,7 +78,7 @@ module _ (p : LinearProgram) (fits : FitsProgram p) where
 
   -- ---- its sizes
 
-  pub text_is : length program.text ≡ front_size s.imports + total rs
+  pub text_is : length program.text ≡ front_size s.imports + total rs + cold_total rs
   text_is = text_length s rs near
 
   pub rdata_is : rdata_at (sizes_of program) ≡ s.rdata
@@ -194,7 +87,7 @@ module _ (p : LinearProgram) (fits : FitsProgram p) where
   pub infos_are : xdata_at (sizes_of program) ≡ infos_begin p
   infos_are = let t = text_is in omega arith
 
-  pub end_inside : routines_begin p + total rs < image.size
+  pub end_inside : cold_begin p + cold_total rs < image.size
   end_inside = let t = text_is in omega arith
 
   pub image_small : image.size < 2 ^ 32
@@ -207,13 +100,17 @@ module _ (p : LinearProgram) (fits : FitsProgram p) where
   handler_there =
       let v = CSpecificHandler in
       let thunk = chosen (service_thunk s.imports s.text s.rdata v) in
-      let t = thunk_there s.imports s.text s.rdata v (routines_bytes s (routines_begin p) rs)
-      (services_there p v tt) in
+      let c = first_cursor p in
+      let front = spelled (front_code s.imports s.text s.rdata) in
+      let hot = routines_bytes s c.begin c.cold rs in
+      let apart = all_apart_bytes s c.begin c.cold rs in
+      let t = thunk_there s.imports s.text s.rdata v (hot ++ apart) (services_there p v tt) in
       let long = t.long in
       let n : length thunk ≡ 6 = ap length (thunk_bytes _) in
       let at : text_at (sizes_of program) + length t.before
       ≡ thunk_at s.imports s.text v = omega arith in
-      let h = text_there program is t.before thunk t.after t.same (omega arith) in
+      let h = text_there program is t.before thunk t.after
+      (append_assoc front hot apart ∙ t.same) (omega arith) in
       ap (λ (k : ℕ). stored image.sections k 6) (sym at)
       ∙ ap (stored image.sections (text_at (sizes_of program) + length t.before)) (sym n) ∙ h
 
@@ -230,25 +127,26 @@ module _ (p : LinearProgram) (fits : FitsProgram p) where
       (handler_there ∙ ap (λ (n : ℕ). Some (chosen (thunk (distance (at + 6)
       (n + slot_of s.imports CSpecificHandler))))) (sym rdata_is)) (listed program is)
 
-  -- ---- its unwind infos
+  -- ---- the infos of routines
 
   -- one of some regions, with its scope table
-  scopes_by : (info at : ℕ) (r : RoutineView) (f : FrameLayout) (regions : List Region)
-      (front more : List ℕ)
-      → AllByRecursion (IsRegionRange (length r.body.code)) regions
-      → 16 * length regions ≤ MOST_IMAGE → at + routine_size r ≤ routines_begin p + total rs
+  scopes_by : (x : Placed) (f : FrameLayout) (regions : List Region) (front more : List ℕ)
+      → IsRoutineNear x.routine
+      → AllByRecursion (IsRegionRange x.routine.body) regions
+      → 16 * length regions ≤ MOST_IMAGE → end_of x ≤ cold_begin p
+      → x.cold + cold_size x.routine ≤ cold_begin p + cold_total rs
       → program.xdata ≡ front ++ ((unwind_bytes
       (info_of f (trailer (thunk_at s.imports s.text CSpecificHandler) regions))
-      ++ scope_table s.funclets (own_addresses at r).labels (own_addresses at r).end regions)
+      ++ scope_table s.funclets (own_addresses x.begin x.cold x.routine).labels (end_of x) regions)
       ++ more)
-      → info ≡ xdata_at (sizes_of program) + length front
-      → HasScopes image info (record {
+      → x.info ≡ xdata_at (sizes_of program) + length front
+      → HasScopes image x.info (record {
         info = info_of f
             (trailer (thunk_at s.imports s.text CSpecificHandler) regions);
-        scopes = scope_records s.funclets (own_addresses at r).labels (own_addresses at r).end
+        scopes = scope_records s.funclets (own_addresses x.begin x.cold x.routine).labels (end_of x)
             regions;
       }) (has_rows regions)
-  scopes_by info at r f [] front more ranges few le e here =
+  scopes_by x f [] front more close ranges few le le' e here =
       let h = thunk_at s.imports s.text CSpecificHandler in
       let u = unwind_bytes (info_of f (trailer h [])) in
       let some = unwind_some f (trailer h []) in
@@ -259,89 +157,210 @@ module _ (p : LinearProgram) (fits : FitsProgram p) where
         stored = subst (λ (k : ℕ). stored image.sections k (length u) ≡ Some u)
             (sym here) (xdata_there program is front u more all some);
       }
-  scopes_by info at r f (q ∷ qs) front more ranges few le e here =
+  scopes_by x f (q ∷ qs) front more close ranges few le le' e here =
+      let r = x.routine in
       let h = thunk_at s.imports s.text CSpecificHandler in
-      let own = own_addresses at r in
-      let rows = scope_records s.funclets own.labels own.end (q ∷ qs) in
+      let labels = (own_addresses x.begin x.cold r).labels in
+      let rows = scope_records s.funclets labels (end_of x) (q ∷ qs) in
       let u = unwind_bytes (info_of f (trailer h (q ∷ qs))) in
       let some = unwind_some f (trailer h (q ∷ qs)) in
       let bytes = u ++ scope_bytes rows in
       let inside = end_inside in
       let small = image_small in
       let funclets = drop_below image.size (length p.functions) (bounds (routines_begin p) rs)
-      (bounds_below image.size (routines_begin p) rs end_inside) in
-      let fit : (at + entry_size r) + body_size r.layout r.body.code
-      ≤ at + routine_size r = omega arith in
-      let within = rows_within s.funclets r.layout (at + entry_size r) r.body.code
-      (at + routine_size r) image.size fit (omega arith) funclets (omega arith) (q ∷ qs) ranges in
+      (bounds_below image.size (routines_begin p) rs (omega arith)) in
+      let within = rows_within s.funclets r.layout (x.begin + entry_size r) x.cold r.body (end_of x)
+      image.size close.cold (omega arith) (omega arith) (omega arith) funclets (omega arith)
+      (q ∷ qs) ranges in
       record {
-        records = rows_small s.funclets r.layout (at + entry_size r) r.body.code
-            (at + routine_size r) image.size fit (omega arith) funclets (omega arith) (q ∷ qs)
-            (omega arith);
-        count = omega (arith, length-map (q ∷ qs) (scope_record s.funclets own.labels own.end));
+        records = rows_small s.funclets r.layout (x.begin + entry_size r) x.cold r.body (end_of x)
+            image.size close.cold (omega arith) (omega arith) (omega arith) funclets (omega arith)
+            (q ∷ qs) (omega arith);
+        count = omega (arith, length-map (q ∷ qs) (scope_record s.funclets labels (end_of x)));
         of_code = λ index. checked_is index image.size 0 rows within;
         stored = subst (λ (k : ℕ). stored image.sections k (length bytes) ≡ Some bytes) (sym here)
             (xdata_there program is front bytes more e
             (omega (arith, length-append u (scope_bytes rows))));
       }
 
-  entry_is : (info at : ℕ) (r : RoutineView) (f : FrameLayout) (front more : List ℕ)
-      → IsRoutineNear r → HasRanges r.body → r.frame ≡ Some f
-      → at + routine_size r ≤ routines_begin p + total rs
-      → program.xdata ≡ front ++ (info_bytes_of s (own_addresses at r).labels
-      (own_addresses at r).end r f ++ more) → info ≡ xdata_at (sizes_of program) + length front
-      → info % 4 ≡ 0
-      → IsEntryWritten image (written_of s (record { routine = r; begin = at; info = info }) f)
-  entry_is info at r f front more close ranges framed le e here four =
+  own_is : (x : Placed) (f : FrameLayout) (front more : List ℕ)
+      → IsRoutineNear x.routine → HasRanges x.routine.body → x.routine.frame ≡ Some f
+      → end_of x ≤ cold_begin p → x.cold + cold_size x.routine ≤ cold_begin p + cold_total rs
+      → program.xdata ≡ front ++ (info_bytes_of s (own_addresses x.begin x.cold x.routine).labels
+      (end_of x) x.routine f ++ more) → x.info ≡ xdata_at (sizes_of program) + length front
+      → x.info % 4 ≡ 0
+      → IsInfoWritten image x.info (own_of s x f)
+  own_is x f front more close ranges framed le le' e here four =
+      let r = x.routine in
       let h = thunk_at s.imports s.text CSpecificHandler in
       let size = subst IsFrameNear framed close.frame in
       let t = text_is in
       let end = is.end in
       let there = services_there p CSpecificHandler tt in
       let services = services_few p in
-      let by = scopes_by info at r f r.body.regions front more ranges close.regions le e here in
+      let by = scopes_by x f r.body.regions front more close ranges.regions close.regions le le' e
+      here in
+      record {
+        info = is_info f (trailer h r.body.regions) size.0
+            (has_trailer h r.body.regions (omega arith));
+        can = can_be_written f (trailer h r.body.regions) size.0
+            (is_trailer h r.body.regions);
+        aligned = four;
+        stored = subst (HasScopes image x.info (own_of s x f))
+            (sym (handled image f h r.body.regions c_handler)) by;
+      }
+
+  -- of each routine with a frame
+  abbrev HasOwn : Placed → Type 0
+  HasOwn x = (f : FrameLayout) → x.routine.frame ≡ Some f
+      → IsInfoWritten image x.info (own_of s x f)
+
+  all_owns : (c : Cursor) (qs : List RoutineView) (front more : List ℕ)
+      → AllByRecursion IsRoutineNear qs → AllByRecursion RoutineHasRanges qs
+      → c.begin + total qs ≤ cold_begin p
+      → c.cold + cold_total qs ≤ cold_begin p + cold_total rs
+      → program.xdata ≡ front ++ (infos s c.begin c.cold qs ++ more)
+      → c.info ≡ xdata_at (sizes_of program) + length front
+      → c.info % 4 ≡ 0
+      → AllByRecursion HasOwn (placed_from s c qs)
+  all_owns c [] front more close ranges le le' e here four = tt
+  all_owns c (r ∷ qs) front more close ranges le le' e here four =
+      let n = past s c r in
+      let bytes = info_bytes s c.begin c.cold r in
+      let others = infos s n.begin n.cold qs in
+      let aligned = info_aligned s c.begin c.cold r in
+      let split = e ∙ ap (λ t. front ++ t) (append_assoc bytes others more) in (
+        λ f same. own_is (put c r) f front (others ++ more) close.0 ranges.0 same (omega arith)
+            (omega arith) (split ∙ ap (λ t. front ++ (t ++ (others ++ more)))
+            (bytes_of s (put c r) f same)) here four,
+        all_owns n qs (front ++ bytes) more close.1 ranges.1 (omega arith) (omega arith)
+            (split ∙ sym (append_assoc front bytes (others ++ more)))
+            (omega (arith, length-append front bytes)) (omega arith),
+      )
+
+  -- ---- the infos of cold parts
+
+  part_is : (x : Placed) (f : FrameLayout) (q : PlacedPart) (front more : List ℕ)
+      → IsFrameNear (Some f) → IsInfoWritten image x.info (own_of s x f)
+      → IsRuntimeFunction (range_of x)
+      → program.xdata ≡ front ++ (unwind_bytes (chained_info f.framed (range_of x)) ++ more)
+      → q.info ≡ xdata_at (sizes_of program) + length front
+      → q.info % 4 ≡ 0
+      → IsEntryWritten image (part_written s x f q)
+  part_is x f q front more size own parent e here four =
+      let h = thunk_at s.imports s.text CSpecificHandler in
+      let bytes = unwind_bytes (chained_info f.framed (range_of x)) in
+      let long = chained_length f.framed (range_of x) in
       record {
         own = record {
-          info = is_info f (trailer h r.body.regions) size.0
-              (has_trailer h r.body.regions (omega arith));
-          can = can_be_written f (trailer h r.body.regions) size.0
-              (is_trailer h r.body.regions);
+          info = chained_is_info f.framed (range_of x) parent;
+          can = chained_can_be_written f (range_of x) size.0;
           aligned = four;
-          stored = subst (HasScopes image info
-              (written_of s (record { routine = r; begin = at; info = info }) f).own)
-              (sym (handled image f h r.body.regions c_handler)) by;
+          stored = record {
+            none = refl;
+            stored = subst (λ (k : ℕ). stored image.sections k (length bytes) ≡ Some bytes)
+                (sym here) (xdata_there program is front bytes more e (omega arith));
+          };
         };
-        chain = no_parent h r.body.regions;
+        chain = (
+          record { range = range_of x; is = refl; written = own },
+          no_parent h x.routine.body.regions,
+        );
         count = omega arith;
       }
 
+  parts_are : (x : Placed) (f : FrameLayout) (y : Layout) (code : List Instruction) (at info : ℕ)
+      (qs : List LabelRange) (front more : List ℕ) (others : List WrittenEntry)
+      → IsFrameNear (Some f) → IsInfoWritten image x.info (own_of s x f)
+      → IsRuntimeFunction (range_of x)
+      → program.xdata
+      ≡ front ++ (chained_infos (map (fragment f (range_of x)) (part_ranges y at qs code)) ++ more)
+      → info ≡ xdata_at (sizes_of program) + length front → info % 4 ≡ 0
+      → AllByRecursion (IsEntryWritten image) others
+      → AllByRecursion (IsEntryWritten image)
+      (map (part_written s x f) (parts_from y at info qs code) ++ others)
+  parts_are x f y code at info [] front more others size own parent e here four rest = rest
+  parts_are x f y code at info (r ∷ qs) front more others size own parent e here four rest =
+      let end = at + body_size y (part_code code r) in
+      let q : PlacedPart = record { labels = r; begin = at; end = end; info = info } in
+      let bytes = unwind_bytes (chained_info f.framed (range_of x)) in
+      let long = chained_length f.framed (range_of x) in
+      let next = chained_infos (map (fragment f (range_of x)) (part_ranges y end qs code)) in
+      let split = e ∙ ap (λ t. front ++ t) (append_assoc bytes next more) in (
+        part_is x f q front (next ++ more) size own parent split here four,
+        parts_are x f y code end (info + CHAINED_SIZE) qs (front ++ bytes) more others size own
+            parent (split ∙ sym (append_assoc front bytes (next ++ more)))
+            (omega (arith, length-append front bytes)) (omega arith) rest,
+      )
+
+  parts_if : (x : Placed) (o : Option FrameLayout) (front more : List ℕ)
+      (others : List WrittenEntry) → x.routine.frame ≡ o
+      → IsRoutineNear x.routine → HasOwn x → IsRuntimeFunction (range_of x)
+      → program.xdata
+      ≡ front ++ (chained_infos (fragments_if o (range_of x) (parts_at x.cold x.routine)) ++ more)
+      → x.chained ≡ xdata_at (sizes_of program) + length front → x.chained % 4 ≡ 0
+      → AllByRecursion (IsEntryWritten image) others
+      → AllByRecursion (IsEntryWritten image) (parts_written_if s x o ++ others)
+  parts_if x None front more others framed close own parent e here four rest = rest
+  parts_if x (Some f) front more others framed close own parent e here four rest =
+      parts_are x f x.routine.layout x.routine.body.code x.cold x.chained x.routine.body.cold front
+      more others (subst IsFrameNear framed close.frame) (own f framed) parent e here four rest
+
+  infos_length : (fs : List Fragment) → length (chained_infos fs) ≡ CHAINED_SIZE * length fs
+  infos_length [] = refl
+  infos_length (f ∷ fs) =
+      let one = chained_length f.framed f.parent in
+      let more = infos_length fs in
+      omega (arith, length-append (chained_bytes f) (chained_infos fs))
+
+  all_parts : (c : Cursor) (qs : List RoutineView) (front : List ℕ)
+      → AllByRecursion IsRoutineNear qs → AllByRecursion HasOwn (placed_from s c qs)
+      → c.begin + total qs < 2 ^ 32 → c.info + length (infos s c.begin c.cold qs) < 2 ^ 32
+      → program.xdata ≡ front ++ chained_infos (fragments s c.info c.begin c.cold qs)
+      → c.chained ≡ xdata_at (sizes_of program) + length front
+      → c.chained % 4 ≡ 0
+      → AllByRecursion (IsEntryWritten image) (parts_written s (placed_from s c qs))
+  all_parts c [] front close owns lt lt' e here four = tt
+  all_parts c (r ∷ qs) front close owns lt lt' e here four =
+      let n = past s c r in
+      let own = fragments_of c.info c.begin c.cold r in
+      let others = fragments s n.info n.begin n.cold qs in
+      let bytes = chained_infos own in
+      let long = infos_length own in
+      let l = length-append (info_bytes s c.begin c.cold r) (infos s n.begin n.cold qs) in
+      let split = e ∙ ap (λ t. front ++ t) (flat_map-append chained_bytes own others) in
+      parts_if (put c r) r.frame front (chained_infos others)
+      (parts_written s (placed_from s n qs)) refl close.0 owns.0
+      (record { begin = omega arith; end = omega arith; info = omega arith }) split here four
+      (all_parts n qs (front ++ bytes) close.1 owns.1 (omega arith) (omega arith)
+      (split ∙ sym (append_assoc front bytes (chained_infos others)))
+      (omega (arith, length-append front bytes)) (omega arith))
+
+  -- ---- all entries
+
   written_if_so : (x : Placed) (o : Option FrameLayout) (ws : List WrittenEntry)
-      → ((f : FrameLayout) → o ≡ Some f → IsEntryWritten image (written_of s x f))
+      → x.routine.frame ≡ o → HasOwn x
       → AllByRecursion (IsEntryWritten image) ws
       → AllByRecursion (IsEntryWritten image) (written_if s x o ++ ws)
-  written_if_so x None ws own more = more
-  written_if_so x (Some f) ws own more = (own f refl, more)
+  written_if_so x None ws framed own more = more
+  written_if_so x (Some f) ws framed own more = (
+    record {
+      own = own f framed;
+      chain = no_parent (thunk_at s.imports s.text CSpecificHandler) x.routine.body.regions;
+      count = omega arith;
+    },
+    more,
+  )
 
-  all_written : (info at : ℕ) (qs : List RoutineView) (front : List ℕ)
-      → AllByRecursion IsRoutineNear qs → AllByRecursion RoutineHasRanges qs
-      → at + total qs ≤ routines_begin p + total rs
-      → program.xdata ≡ front ++ infos s at qs → info ≡ xdata_at (sizes_of program) + length front
-      → info % 4 ≡ 0
-      → AllByRecursion (IsEntryWritten image) (written_from s (placed_from s info at qs))
-  all_written info at [] front close ranges le e here four = tt
-  all_written info at (r ∷ qs) front close ranges le e here four =
-      let bytes = info_bytes s at r in
-      let more = infos s (at + routine_size r) qs in
-      let aligned = info_aligned s at r in
-      let own : (f : FrameLayout) → r.frame ≡ Some f
-      → IsEntryWritten image (written_of s (record { routine = r; begin = at; info = info })
-      f) = λ f same. entry_is info at r f front more close.0 ranges.0 same (omega arith)
-      (e ∙ ap (λ t. front ++ (t ++ more)) (bytes_of s at r f same)) here four in
-      written_if_so (record { routine = r; begin = at; info = info }) r.frame
-      (written_from s (placed_from s (info + length bytes) (at + routine_size r) qs)) own
-      (all_written (info + length bytes) (at + routine_size r) qs (front ++ bytes) close.1 ranges.1
-      (omega arith) (e ∙ sym (append_assoc front bytes more))
-      (omega (arith, length-append front bytes)) (omega arith))
+  all_written : (xs : List Placed) (others : List WrittenEntry) → AllByRecursion HasOwn xs
+      → AllByRecursion (IsEntryWritten image) others
+      → AllByRecursion (IsEntryWritten image) (written_from s xs ++ others)
+  all_written [] others owns more = more
+  all_written (x ∷ xs) others owns more =
+      subst (AllByRecursion (IsEntryWritten image))
+      (sym (append_assoc (written_if s x x.routine.frame) (written_from s xs) others))
+      (written_if_so x x.routine.frame (written_from s xs ++ others) refl owns.0
+      (all_written xs others owns.1 more))
 
   -- ---- what is read
 
@@ -351,11 +370,7 @@ module _ (p : LinearProgram) (fits : FitsProgram p) where
   read_if x (Some f) =
       let h = thunk_at s.imports s.text CSpecificHandler in
       ap (λ (b : Bool). record {
-        range = record {
-          begin = x.begin;
-          end = end_of x;
-          unwind_info = x.info;
-        };
+        range = range_of x;
         info = info_written (unwind_of s x f) b (scopes_of s x);
         parents = [];
       } ∷ []) (handled image f h x.routine.body.regions c_handler)
@@ -365,20 +380,61 @@ module _ (p : LinearProgram) (fits : FitsProgram p) where
   read_all (x ∷ xs) = map-append (as_read image) (written_if s x x.routine.frame)
       (written_from s xs) ∙ (λ i. read_if x x.routine.frame i ++ read_all xs i)
 
-  abbrev pub written : List WrittenEntry
-  written = written_from s (placed p)
+  read_part : (x : Placed) (f : FrameLayout) (q : PlacedPart)
+      → as_read image (part_written s x f q) ≡ part_entry s x f q
+  read_part x f q =
+      let h = thunk_at s.imports s.text CSpecificHandler in
+      ap (λ (b : Bool). record {
+        range = record { begin = q.begin; end = q.end; unwind_info = q.info };
+        info = info_written (chained_info f.framed (range_of x)) false [];
+        parents = info_written (unwind_of s x f) b (scopes_of s x) ∷ [];
+      }) (handled image f h x.routine.body.regions c_handler)
 
-  same_ranges : ranges_of written ≡ ranges s (infos_begin p) (routines_begin p) rs
-  same_ranges = ranges_same s (infos_begin p) (routines_begin p) rs
+  read_parts : (x : Placed) (f : FrameLayout) (qs : List PlacedPart)
+      → map (as_read image) (map (part_written s x f) qs) ≡ map (part_entry s x f) qs
+  read_parts x f [] = refl
+  read_parts x f (q ∷ qs) = λ i. read_part x f q i ∷ read_parts x f qs i
+
+  read_parts_if : (x : Placed) (o : Option FrameLayout)
+      → map (as_read image) (parts_written_if s x o) ≡ chained_if s x o
+  read_parts_if x None = refl
+  read_parts_if x (Some f) = read_parts x f (parts_of x)
+
+  read_chained : (xs : List Placed) → map (as_read image) (parts_written s xs) ≡ chained_of s xs
+  read_chained [] = refl
+  read_chained (x ∷ xs) = map-append (as_read image) (parts_written_if s x x.routine.frame)
+      (parts_written s xs) ∙ (λ i. read_parts_if x x.routine.frame i ++ read_chained xs i)
+
+  abbrev pub written : List WrittenEntry
+  written = written_from s (placed p) ++ parts_written s (placed p)
+
+  all_read : map (as_read image) written ≡ entries p
+  all_read = map-append (as_read image) (written_from s (placed p)) (parts_written s (placed p))
+      ∙ (λ i. read_all (placed p) i ++ read_chained (placed p) i)
+
+  same_ranges : ranges_of written
+      ≡ all_ranges s (infos_begin p) (routines_begin p) (cold_begin p) rs
+  same_ranges =
+      map-append (λ (w : WrittenEntry). w.range) (written_from s (placed p))
+      (parts_written s (placed p))
+      ∙ (λ i. ranges_same s (first_cursor p) rs i ++ parts_same s (first_cursor p) rs i)
+
+  -- where the infos end
+  infos_fit : chained_begin p + CHAINED_SIZE
+      * length (fragments s (infos_begin p) (routines_begin p) (cold_begin p) rs) < 2 ^ 31
+  infos_fit =
+      let fit = tables_fit s.imports p.globals rs (services_few p) fits.globals near
+      (has_places p fits).room in
+      let few = infos_few s (first_cursor p) rs near in
+      omega arith
 
   are_ranges : AllByRecursion IsRuntimeFunction (ranges_of written)
   are_ranges =
-      let fit = tables_fit s.imports p.globals rs (services_few p) fits.globals near
-      (has_places p fits).room in
+      let fit = infos_fit in
       let inside = end_inside in
       let small = image_small in
-      ranges_small s (infos_begin p) (routines_begin p) rs (routines_near p fits) (omega arith)
-      (omega arith)
+      ranges_small s (first_cursor p) rs (parts_written s (placed p)) (omega arith) (omega arith)
+      (parts_small s (first_cursor p) rs near (omega arith) (omega arith))
 
   aligned : image.exceptions.rva % 4 ≡ 0
   aligned = omega arith
@@ -393,14 +449,32 @@ module _ (p : LinearProgram) (fits : FitsProgram p) where
   pub directory_read : directory image ≡ Ok (ranges_of written)
   directory_read = reads_ranges image (ranges_of written) are_ranges aligned as_long ranges_there
 
+  -- the entries are in the order of what is read
+  order_of : (last : ℕ) (ws : List WrittenEntry) → AreInOrder last (map (as_read image) ws)
+      → written_order.AreInOrder last ws
+  order_of last [] h = tt
+  order_of last (w ∷ ws) h = (h.0, h.1, order_of w.range.end ws h.2)
+
+  are_written : HasRegions p → AllByRecursion (IsEntryWritten image) written
+  are_written regions =
+      let at = infos_are in
+      let c = first_cursor p in
+      let fit = infos_fit in
+      let inside = end_inside in
+      let small = image_small in
+      let bytes = infos s c.begin c.cold rs in
+      let more = chained_infos (fragments s c.info c.begin c.cold rs) in
+      let owns = all_owns c rs [] more near (routines_have p regions) (omega arith) (omega arith)
+      refl (omega arith) (omega arith) in
+      let four = infos_aligned s c rs in
+      all_written (placed p) (parts_written s (placed p)) owns
+      (all_parts c rs bytes near owns (omega arith) (omega arith) refl (omega arith) (omega arith))
+
   pub whole : HasRegions p → tables image ≡ Ok (entries p)
   whole regions =
-      let at = infos_are in
-      reads_table image written are_ranges aligned as_long ranges_there
-      (all_written (infos_begin p) (routines_begin p) rs [] near (routines_have p regions)
-      (omega arith) refl (omega arith) (omega arith))
-      (in_order s (infos_begin p) (routines_begin p) 0 rs near (omega arith))
-      ∙ ap (λ (es : List Entry). let t : Table (List Entry) = Ok es in t) (read_all (placed p))
+      reads_table image written are_ranges aligned as_long ranges_there (are_written regions)
+      (order_of 0 written (subst (AreInOrder 0) (sym all_read) (all_in_order p near)))
+      ∙ ap (λ (es : List Entry). let t : Table (List Entry) = Ok es in t) all_read
 
   -- the tables that are read of the image, and their entries
   abbrev pub table : Tables

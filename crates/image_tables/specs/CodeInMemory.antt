@@ -8,7 +8,8 @@ use Rattle.linear_code.specs.declared.instruction.Instruction.{Instruction}
 use Rattle.linear_code.specs.declared.instruction.Instruction.TheVariants as instructions
 use Rattle.linear_code.specs.Program.{LinearProgram}
 use Rattle.template_code.specs.Bytes.{sizes}
-use Rattle.template_code.specs.Template.{Links, template, offset_of}
+use Rattle.template_code.specs.Template.{Links, template}
+use Rattle.template_code.specs.ColdParts.{label_at}
 use Rattle.x64_emit.specs.Linking.{links_of}
 use Rattle.image_link.specs.Text.{addresses}
 use Rattle.image_link.specs.Linked.{text_begin, linked}
@@ -24,13 +25,14 @@ HasText m p = code.IsExecutableAt m (image_base + text_begin p.globals) (linked 
 
 -- ---- addresses of a routine's body, relative to the image's base as all addresses of tables
 
--- where the code of an instruction begins, that of the last one up to the routine's end
+-- where the code of an instruction begins, in a cold part or not
 abbrev pub template_at : Placed → ℕ → ℕ
-template_at x number = body_begin x + offset_of x.routine.layout x.routine.body.code number
+template_at x number =
+    label_at x.routine.layout (body_begin x) x.cold x.routine.body.cold x.routine.body.code number
 
 -- what its code refers to
 abbrev pub links : LinearProgram → Placed → Links
-links p x = links_of (addresses (site_of p) x.begin x.routine)
+links p x = links_of (addresses (site_of p) x.begin x.cold x.routine)
 
 -- the instruction is a return
 abbrev pub IsReturn : Instruction → Type 0

@@ -1,5 +1,5 @@
 -- What holds of the frames of every program that can be linked.
-use Rattle.std.specs.Prelude.{◌≡◌, ℕ, false, ◌+◌, ◌^◌, ◌<◌, ◌≤◌, List, [], ◌++◌, length, slice_get, Some, None, Ok}
+use Rattle.std.specs.Prelude.{◌≡◌, ◌⊎◌, ℕ, false, ◌+◌, ◌^◌, ◌<◌, ◌≤◌, List, [], ◌++◌, length, slice_get, Some, None, Ok}
 use Rattle.flat_memory.specs.Memory.{Memory, may_write}
 use Rattle.x64_machine.specs.declared.context.Context.{Context}
 use Rattle.x64_machine.specs.Contexts.{context_of}
@@ -13,8 +13,9 @@ use Rattle.host_model.specs.Machine.{functions_in}
 use Rattle.frame_rules.specs.Frame.{left_to}
 use Rattle.frame_rules.specs.Prologue.{items}
 use Rattle.frame_rules.specs.Codes.{depth}
-use Rattle.frame_rules.specs.Rules.{IsRight, IsInFunction, IsFound, ops}
+use Rattle.frame_rules.specs.Rules.{IsRight, InPrologue, IsFound, ops}
 use Rattle.frame_rules.specs.States.{registers, return_address, IsEntry, InBody, HasItems}
+use Rattle.unwind_check.specs.Fragments.{AllKeepRules, IsInPart}
 use Rattle.match_stack.specs.Stack.{StackFrame, FrameIsAt, LeafIsAt, IsAsTold}
 use Rattle.host_layout.specs.declared.imported.ImportedService.{ImportedService}
 use Rattle.pe_write.specs.Program.{image_of}
@@ -23,11 +24,11 @@ use Rattle.frame_layout.specs.declared.frame.FrameLayout.{FrameLayout}
 use Rattle.x64_emit.specs.declared.entry.TheConstants.{CHECK_STACK_SIZE}
 use Rattle.image_link.specs.Fits.{FitsProgram}
 use Rattle.image_link.specs.Linked.{text_begin, linked}
-use Rattle.image_tables.specs.RoutinePlaces.{Placed, end_of, site_of, placed, thunk_begin, probe_begin}
+use Rattle.image_tables.specs.RoutinePlaces.{Placed, PlacedPart, end_of, parts_of, site_of, placed, thunk_begin, probe_begin}
 use Rattle.image_tables.specs.RegionRanges.{HasRegions}
-use Rattle.image_tables.specs.Entries.{entry_of}
+use Rattle.image_tables.specs.Entries.{entry_at}
 use Rattle.image_tables.specs.CodeInMemory.{image_base, HasText, IsInBody}
-use Rattle.image_tables.specs.Functions.{function_of, leaf, thunk_of, probe}
+use Rattle.image_tables.specs.Functions.{function_of, part, parts, leaf, thunk_of, probe}
 
 -- ---- the text
 
@@ -43,11 +44,12 @@ TextsAreFixed =
 
 -- ---- bodies that wait
 
--- the frame of a routine's body, with what its caller has
-abbrev pub stack_frame : LinearProgram → Placed → FrameLayout → (back : ℕ) → List ℕ → StackFrame
-stack_frame p x f back others =
+-- the frame of a routine's body that waits at an instruction, with what its caller has
+abbrev pub stack_frame : LinearProgram → Placed → FrameLayout → (label back : ℕ) → List ℕ
+    → StackFrame
+stack_frame p x f label back others =
     record {
-      entry = entry_of (site_of p) x f;
+      entry = entry_at (site_of p) x f label;
       slots = x.routine.layout.slots;
       size = x.routine.layout.frame;
       return_address = back;
@@ -64,7 +66,7 @@ pub record IsWaiting (p : LinearProgram) (m : Memory) (x : Placed) (f : FrameLay
   pub kept : length c.kept ≡ 9
   pub eight : length others ≡ 8
   pub room : rsp c + x.routine.layout.frame + 8 < 2 ^ 64
-  pub is_told : IsAsTold m c (stack_frame p x f back others)
+  pub is_told : IsAsTold m c (stack_frame p x f body.number back others)
 
 -- at an instruction of its body a routine's frame is there: it has its entry, and is past its
 -- prologue and not in an epilogue
@@ -73,8 +75,9 @@ BodiesHaveFrames =
     (p : LinearProgram) (m : Memory) (index : ℕ) (x : Placed) (f : FrameLayout) (c : Context)
     (rva back : ℕ) (others : List ℕ)
     → FitsProgram p → HasRegions p → slice_get (placed p) index ≡ Some x → x.routine.frame ≡ Some f
-    → IsWaiting p m x f c rva back others
-    → FrameIsAt (functions_in (image_of (linked p))) m c (stack_frame p x f back others)
+    → (w : IsWaiting p m x f c rva back others)
+    → FrameIsAt (functions_in (image_of (linked p))) m c
+    (stack_frame p x f w.body.number back others)
 
 -- the same of a leaf function, which has neither
 pub record IsLeafWaiting (p : LinearProgram) (m : Memory) (x : Placed) (c : Context)
@@ -100,7 +103,7 @@ pub record IsFramed (p : LinearProgram) (index : ℕ) (x : Placed) (f : FrameLay
   pub there : slice_get (placed p) index ≡ Some x
   pub framed : x.routine.frame ≡ Some f
 
--- its instructions are in memory, from its first byte to its end
+-- its instructions are in memory, from its first byte to its end, and those of each cold part
 abbrev pub FunctionsAreInMemory : Type 0
 FunctionsAreInMemory =
     (p : LinearProgram) (index : ℕ) (x : Placed) (f : FrameLayout) (m : Memory)
@@ -109,17 +112,41 @@ FunctionsAreInMemory =
     → HasItems m (image_base + x.begin)
     (items (function_of p x f).steps ++ (function_of p x f).rest) (image_base + end_of x)
 
--- it keeps the rules, with the unwind info that its entry has
+abbrev pub PartsAreInMemory : Type 0
+PartsAreInMemory =
+    (p : LinearProgram) (index n : ℕ) (x : Placed) (f : FrameLayout) (q : PlacedPart) (m : Memory)
+    → IsFramed p index x f
+    → slice_get (parts_of x) n ≡ Some q → HasText m p
+    → HasItems m (image_base + q.begin) (part p x q) (image_base + q.end)
+
+-- it keeps the rules, with the unwind info that its entry has, and so does each part of its code
 abbrev pub FunctionsKeepTheRules : Type 0
 FunctionsKeepTheRules =
     (p : LinearProgram) (index : ℕ) (x : Placed) (f : FrameLayout) → IsFramed p index x f
     → IsRight (function_of p x f)
+
+abbrev pub PartsKeepTheRules : Type 0
+PartsKeepTheRules =
+    (p : LinearProgram) (index : ℕ) (x : Placed) (f : FrameLayout) → IsFramed p index x f
+    → AllKeepRules (function_of p x f) (parts p x f)
 
 -- the walk from a state finds the caller of another, as it was
 abbrev pub FindsCaller : LinearProgram → State → State → Type 0
 FindsCaller p e s =
     IsFound (caller_in (functions_in (image_of (linked p))) s.memory (context_of s.cpu))
     (left_to (registers e) (return_address e))
+
+-- so far from the first byte, past the prologue, in the body or in an epilogue
+pub record IsPast (p : LinearProgram) (x : Placed) (f : FrameLayout) (e s : State)
+    (distance : ℕ) : Type 0 where
+  pub past : ℕ
+  pub here : distance ≡ (function_of p x f).info.prologue_size + past
+  pub is_there : IsInPart (function_of p x f) (parts p x f) (function_of p x f).rest e s past
+
+-- in the code of a function with a frame, but for its cold parts
+abbrev pub IsInRoutine : LinearProgram → Placed → FrameLayout → State → State → ℕ → Type 0
+IsInRoutine p x f e s distance =
+    InPrologue (function_of p x f) e s distance ⊎ IsPast p x f e s distance
 
 -- in each state of a function with a frame, also in its prologue and in its epilogues: e is the
 -- state at its first byte
@@ -129,7 +156,18 @@ FramesAreFound =
     → IsFramed p index x f → HasRegions p
     → IsEntry (depth (ops (function_of p x f))) e → HasText s.memory p
     → s.cpu.rip ≡ image_base + x.begin + distance
-    → IsInFunction (function_of p x f) e s distance
+    → IsInRoutine p x f e s distance
+    → FindsCaller p e s
+
+-- in each state of a cold part, so far from its first byte
+abbrev pub PartsAreFound : Type 0
+PartsAreFound =
+    (p : LinearProgram) (index n : ℕ) (x : Placed) (f : FrameLayout) (q : PlacedPart)
+    (e s : State) (distance : ℕ)
+    → IsFramed p index x f → HasRegions p → slice_get (parts_of x) n ≡ Some q
+    → IsEntry (depth (ops (function_of p x f))) e → HasText s.memory p
+    → s.cpu.rip ≡ image_base + q.begin + distance
+    → IsInPart (function_of p x f) (parts p x f) (part p x q) e s distance
     → FindsCaller p e s
 
 -- of what has no entry: RSP, the return address and the nonvolatile registers are those at its

@@ -1,6 +1,6 @@
 -- The routines of a program as functions of the rules: the unwind info, the steps of the prologue,
--- and the instructions after it.
-use Rattle.std.specs.Prelude.{List, [], ◌∷◌, ◌++◌}
+-- the instructions after it, and those of cold parts.
+use Rattle.std.specs.Prelude.{List, [], ◌∷◌, ◌++◌, map}
 use Rattle.x64_instr.specs.declared.instruction.Instr.{Instr}
 use Rattle.virtual_unwind.specs.Tail.{FetchedInstr}
 use Rattle.frame_rules.specs.Rules.{FramedFunction}
@@ -13,9 +13,10 @@ use Rattle.frame_layout.specs.Plans.{plan_of}
 use Rattle.template_code.specs.Frames.{probing}
 use Rattle.template_code.specs.Probing.{check_stack}
 use Rattle.template_code.specs.Template.{code_from}
+use Rattle.template_code.specs.ColdParts.{hot_code, part_code}
 use Rattle.image_link.specs.Text.{argument_code, service_thunk}
 use Rattle.image_link.specs.Walks.{services_of}
-use Rattle.image_tables.specs.RoutinePlaces.{Placed, body_begin, site_of, probe_begin}
+use Rattle.image_tables.specs.RoutinePlaces.{Placed, PlacedPart, body_begin, parts_of, site_of, probe_begin}
 use Rattle.image_tables.specs.Entries.{entry_of}
 use Rattle.image_tables.specs.CodeInMemory.{links}
 
@@ -25,11 +26,19 @@ use Rattle.image_tables.specs.CodeInMemory.{links}
 abbrev pub plan : LinearProgram → Placed → FrameLayout → FramePlan
 plan p x f = probing (plan_of f) x.begin (probe_begin p)
 
--- what it does with what it is called with, and its body
+-- what it does with what it is called with, and its body without the cold parts
 abbrev pub rest_of : LinearProgram → Placed → List Instr
 rest_of p x =
     argument_code x.routine.layout x.routine.entry
-    ++ code_from (links p x) x.routine.layout (body_begin x) x.routine.body.code
+    ++ code_from (links p x) x.routine.layout (body_begin x) (hot_code x.routine.body)
+
+-- a cold part
+abbrev pub code_of_part : LinearProgram → Placed → PlacedPart → List Instr
+code_of_part p x q =
+    code_from (links p x) x.routine.layout q.begin (part_code x.routine.body.code q.labels)
+
+abbrev pub part : LinearProgram → Placed → PlacedPart → List FetchedInstr
+part p x q = spelled_by spell (code_of_part p x q)
 
 -- a routine with a frame: its unwind info, prologue and the rest
 abbrev pub function_of : LinearProgram → Placed → FrameLayout → FramedFunction
@@ -38,6 +47,10 @@ function_of p x f = record {
   steps = prologue spell (plan p x f);
   rest = spelled_by spell (rest_of p x);
 }
+
+-- all parts of its code after the prologue
+abbrev pub parts : LinearProgram → Placed → FrameLayout → List (List FetchedInstr)
+parts p x f = (function_of p x f).rest ∷ map (part p x) (parts_of x)
 
 -- ---- without: leaf functions, the thunks of services, and `__chkstk`
 

@@ -1,5 +1,5 @@
 -- What the function table of every program is like.
-use Rattle.std.specs.Prelude.{◌≡◌, ℕ, ◌+◌, ◌*◌, ◌<◌, ◌≤◌, length, map, slice_get, Some}
+use Rattle.std.specs.Prelude.{◌≡◌, ℕ, false, ◌+◌, ◌*◌, ◌<◌, ◌≤◌, length, map, slice_get, Some}
 use Rattle.std.specs.List.{count_by}
 use Rattle.eh_tables.specs.Tables.{Entry, holding}
 use Rattle.seh_walk.specs.Asked.{is_searched, is_unwound}
@@ -9,8 +9,8 @@ use Rattle.image_link.specs.Fits.{FitsProgram}
 use Rattle.image_link.specs.Routines.{function_of_index}
 use Rattle.image_link.specs.Tables.{is_finally, has_except, has_finally}
 use Rattle.image_link.specs.Text.{SiteView}
-use Rattle.image_tables.specs.RoutinePlaces.{Placed, placed}
-use Rattle.image_tables.specs.Entries.{entry_of, entries}
+use Rattle.image_tables.specs.RoutinePlaces.{Placed, PlacedPart, placed}
+use Rattle.image_tables.specs.Entries.{entry_of, part_entry, entries}
 use Rattle.image_tables.specs.RegionRows.{AreDifferent, rows_of, is_finally_row, is_always_row, handlers, AreInOrder, regions, is_always, named, NamesFunclets, funclet_begin, AreRows}
 use Rattle.template_code.specs.declared.layout.TheConstants.{FRAME_BY_WEIGHT}
 
@@ -53,6 +53,16 @@ pub record IsFlagged (s : SiteView) (x : Placed) (f : FrameLayout) : Type 0 wher
 
 abbrev pub EntriesAreFlagged : Type 0
 EntriesAreFlagged = (s : SiteView) (x : Placed) (f : FrameLayout) → IsFlagged s x f
+
+-- no handler is looked for in a cold part
+pub record IsPassedOver (s : SiteView) (x : Placed) (f : FrameLayout) (q : PlacedPart) : Type 0
+  where
+    pub searched : is_searched (part_entry s x f q).info ≡ false
+    pub unwound : is_unwound (part_entry s x f q).info ≡ false
+
+abbrev pub PartsArePassedOver : Type 0
+PartsArePassedOver =
+    (s : SiteView) (x : Placed) (f : FrameLayout) (q : PlacedPart) → IsPassedOver s x f q
 
 -- ---- frames
 

@@ -12,9 +12,9 @@ use Rattle.linear_code.specs.Program.{LinearProgram}
 use Rattle.frame_layout.specs.declared.frame.FrameLayout.{FrameLayout}
 use Rattle.image_link.specs.Fits.{FitsProgram}
 use Rattle.image_link.specs.Linked.{linked}
-use Rattle.image_tables.specs.RoutinePlaces.{Placed, end_of, site_of, placed, routines_begin}
+use Rattle.image_tables.specs.RoutinePlaces.{Placed, PlacedPart, end_of, parts_of, site_of, placed, routines_begin}
 use Rattle.image_tables.specs.RegionRanges.{HasRegions}
-use Rattle.image_tables.specs.Entries.{entry_of, entries}
+use Rattle.image_tables.specs.Entries.{entry_of, part_entry, entries}
 
 -- the table of the image is that of its routines
 abbrev pub TablesAreRead : Type 0
@@ -22,14 +22,21 @@ TablesAreRead =
     (p : LinearProgram) → FitsProgram p → HasRegions p
     → tables (image_of (linked p)) ≡ Ok (entries p)
 
--- in the code of a routine with a frame its entry is found; in that of one without, and before the
--- first one, none
+-- in the code of a routine with a frame its entry is found, and in a cold part the entry of that
+-- part; in the code of a routine without a frame, and before the first one, none
 abbrev pub EntriesAreHeld : Type 0
 EntriesAreHeld =
     (p : LinearProgram) (index : ℕ) (x : Placed) (f : FrameLayout) (rva : ℕ)
     → FitsProgram p → slice_get (placed p) index ≡ Some x → x.routine.frame ≡ Some f → x.begin ≤ rva
     → rva < end_of x
     → holding rva (entries p) ≡ Some (entry_of (site_of p) x f)
+
+abbrev pub PartsAreHeld : Type 0
+PartsAreHeld =
+    (p : LinearProgram) (index n : ℕ) (x : Placed) (f : FrameLayout) (q : PlacedPart) (rva : ℕ)
+    → FitsProgram p → slice_get (placed p) index ≡ Some x → x.routine.frame ≡ Some f
+    → slice_get (parts_of x) n ≡ Some q → q.begin ≤ rva → rva < q.end
+    → holding rva (entries p) ≡ Some (part_entry (site_of p) x f q)
 
 abbrev pub LeavesAreHeldByNone : Type 0
 LeavesAreHeldByNone =

@@ -10,6 +10,7 @@ pub use Rattle.c_checked.specs.Program.{Function, Program}
 pub use Rattle.c_checked.specs.Statement.{Filter, Always, Funclet, Statement, Declare, Block, Evaluate, If, IfElse, For, DoWhile, Return, Break, Continue, Leave, TryExcept, TryFinally, Statements, Empty, Then}
 pub use Rattle.linear_code.specs.Program.{LinearProgram, LinearFunction, LinearFunclet, LinearBody}
 pub use Rattle.linear_code.specs.declared.instruction.Instruction.{Instruction}
+pub use Rattle.linear_code.specs.declared.program.LabelRange.{LabelRange}
 pub use Rattle.linear_code.specs.declared.program.Region.{Region}
 pub use Rattle.linear_code.specs.declared.program.RegionKind.{RegionKind}
 pub use Rattle.linear_code.specs.declared.slot.Slot.{Slot}
@@ -47,7 +48,8 @@ pub use Rattle.template_code.specs.Calls.{keep_register, parameter_register, sta
 pub use Rattle.template_code.specs.Jumps.{distance, compare_zero, jump_equal, test_code, separator_code, call}
 pub use Rattle.template_code.specs.Operations.{move, before, work, compare, extended, pure_code, high_half}
 pub use Rattle.template_code.specs.Slots.{fetched, keep, local_at, temporary_at, fetch_local, keep_local, fetch, operands_code, finish_code, put_back}
-pub use Rattle.template_code.specs.Template.{template, code_from, Links, body_size, offset_of}
+pub use Rattle.template_code.specs.Template.{template, code_from, Links, body_size}
+pub use Rattle.template_code.specs.ColdParts.{is_cold, AreParts, part_code, side_from, hot_code, cold_code, label_at}
 unfoldable pub use Rattle.template_code.specs.Template.{template_size}
 pub use Rattle.template_code.specs.declared.layout.Layout.{Layout}
 pub use Rattle.virtual_unwind.specs.CallerOf.{name_rows}
@@ -62,28 +64,29 @@ pub use Rattle.frame_rules.specs.Prologue.{bytes, items}
 pub use Rattle.frame_rules.specs.Rules.{IsRight, FramedFunction, IsFound}
 pub use Rattle.frame_rules.specs.States.{HasItems, registers, return_address, IsEntry, InBody, is_other}
 pub use Rattle.frame_layout.specs.Plans.{plan_of}
-pub use Rattle.frame_layout.specs.Infos.{info_of}
+pub use Rattle.frame_layout.specs.Infos.{info_of, chained_info}
 unfoldable pub use Rattle.frame_layout.specs.Infos.{prologue_bytes, codes_of}
 pub use Rattle.frame_layout.specs.declared.frame.FrameLayout.{FrameLayout}
 pub use Rattle.x64_emit.specs.Bodies.{label_list}
 pub use Rattle.x64_emit.specs.Linking.{links_of, address_or, thunk_of}
 pub use Rattle.x64_emit.specs.Near.{IsNear, IsInstructionNear, IsBaseNear, IsSlotNear, near_end, IsFieldNear}
+pub use Rattle.image_link.specs.declared.fragments.TheConstants.{CHAINED_SIZE}
 pub use Rattle.image_link.specs.Fits.{FitsProgram, function_bodies, funclet_bodies}
-pub use Rattle.image_link.specs.Linked.{text_begin, linked, first, total}
+pub use Rattle.image_link.specs.Linked.{text_begin, linked, first}
 pub use Rattle.image_link.specs.Walks.{services_of}
 pub use Rattle.image_link.specs.Near.{IsEntryNear, IsFrameNear, IsRoutineNear}
 pub use Rattle.image_link.specs.Routines.{RoutineView, routines, is_leaf, leaf_if, functions_from, funclet, all_spare, nothing, funclet_frame}
-pub use Rattle.image_link.specs.Tables.{is_finally, has_except, has_finally, trailer, scope_records, scope_table, info_if, handler_address, jump_target, scope_record, info_bytes_of, infos, infos_room, range_if, ranges}
+pub use Rattle.image_link.specs.Tables.{is_finally, has_except, has_finally, trailer, scope_records, scope_table, info_if, handler_address, jump_target, scope_record, info_bytes_of, infos, infos_room, range_at, range_if, ranges, fragments_of, fragments, chained_bytes, chained_infos, fragment_ranges, all_infos, all_ranges}
 unfoldable pub use Rattle.image_link.specs.Tables.{info_bytes}
-pub use Rattle.image_link.specs.Text.{argument_code, base_of, entry_code, check_stack_at, routine_code, thunk_at, SiteView, routine_size, routines_bytes, routine_room, room, addresses, front_code, frame_code, own_addresses, thunks_at, bounds, service_thunk, front_size}
-unfoldable pub use Rattle.image_link.specs.Text.{entry_size, routine_bytes}
+pub use Rattle.image_link.specs.Text.{argument_code, base_of, entry_code, check_stack_at, routine_code, thunk_at, SiteView, routine_size, cold_size, total, cold_total, routines_bytes, all_apart_bytes, apart_code, routine_room, room, addresses, front_code, frame_code, own_addresses, thunks_at, bounds, service_thunk, front_size}
+unfoldable pub use Rattle.image_link.specs.Text.{entry_size, routine_bytes, apart_bytes}
 pub use Rattle.image_tables.specs.CodeInMemory.{image_base, links, template_at, IsInBody, HasText, IsReturn}
-pub use Rattle.image_tables.specs.Entries.{entries, has_rows, entry_of, entry_if, scopes_of, unwind_of}
-pub use Rattle.image_tables.specs.FrameLaws.{stack_frame, BodiesHaveFrames, LeavesHaveReturns, FindsCaller, FramesAreFound, LeavesAreFound, ThunksAreFound, ProbesAreFound, IsFramed, FunctionsAreInMemory, FunctionsKeepTheRules, ImagesHaveText, TextsAreFixed}
-pub use Rattle.image_tables.specs.Functions.{function_of, leaf, probe, plan, rest_of}
+pub use Rattle.image_tables.specs.Entries.{entries, has_rows, range_of, entry_of, entry_if, part_entry, chained_if, part_with, entry_by, entry_at, scopes_of, unwind_of}
+pub use Rattle.image_tables.specs.FrameLaws.{stack_frame, BodiesHaveFrames, LeavesHaveReturns, FindsCaller, IsInRoutine, FramesAreFound, PartsAreFound, LeavesAreFound, ThunksAreFound, ProbesAreFound, IsFramed, FunctionsAreInMemory, PartsAreInMemory, FunctionsKeepTheRules, PartsKeepTheRules, ImagesHaveText, TextsAreFixed}
+pub use Rattle.image_tables.specs.Functions.{function_of, leaf, probe, plan, rest_of, code_of_part, part, parts}
 pub use Rattle.image_tables.specs.RegionLaws.{LoweredNamesFunclets, LoweredHasRegions, LoweredIsShaped}
 pub use Rattle.image_tables.specs.RegionRanges.{HasRegions, IsRange, HasRanges}
 pub use Rattle.image_tables.specs.RegionRows.{AreDifferent, funclet_in, named, regions, handlers, is_always, funclet_begin, AreRows, is_finally_row, is_always_row, regions_in, rows_of, AreInOrder}
-pub use Rattle.image_tables.specs.RoutinePlaces.{Placed, end_of, body_begin, site_of, placed, placed_from, infos_begin, routines_begin, thunk_begin, probe_begin}
-pub use Rattle.image_tables.specs.TableLaws.{JumpsAreSpelled, EntriesAreHeld, LeavesAreHeldByNone, ThunksAreHeldByNone, TablesAreRead}
+pub use Rattle.image_tables.specs.RoutinePlaces.{Placed, PlacedPart, Cursor, put, past, end_of, body_begin, parts_from, parts_of, site_of, placed, placed_from, first_cursor, infos_begin, routines_begin, cold_begin, chained_begin, thunk_begin, probe_begin}
+pub use Rattle.image_tables.specs.TableLaws.{JumpsAreSpelled, EntriesAreHeld, PartsAreHeld, LeavesAreHeldByNone, ThunksAreHeldByNone, TablesAreRead}
 pub use Rattle.image_tables.specs.Tries.{Try, Accepts, Asks, Finishes, with_filter, tries_in, tries, tries_of, all_tries, finishes, accepts}

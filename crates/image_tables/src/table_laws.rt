@@ -1,17 +1,19 @@
 //! What is read of the function table of a program's image.
 
 ghost use Rattle.image_tables.specs.NameLaws.{NamesAreRead, FunctionsHaveNames};
-ghost use Rattle.image_tables.specs.TableLaws.{TablesAreRead, EntriesAreHeld, LeavesAreHeldByNone, ThunksAreHeldByNone, JumpsAreSpelled};
+ghost use Rattle.image_tables.specs.TableLaws.{TablesAreRead, EntriesAreHeld, PartsAreHeld, LeavesAreHeldByNone, ThunksAreHeldByNone, JumpsAreSpelled};
 
 /// The function table of a program's image is that of its routines: each that has a frame has an
-/// entry, with its unwind info and its scope records.
+/// entry, with its unwind info and its scope records; and each of its cold parts one that is chained
+/// to it.
 pub fn tables()
     ensures { TablesAreRead }
 {}
 
-/// The entry that covers an address of a routine is that routine's.
+/// The entry that covers an address of a routine is that routine's, or that of its cold part.
 pub fn lookups()
     ensures entries { EntriesAreHeld }
+    ensures parts { PartsAreHeld }
     ensures leaves { LeavesAreHeldByNone }
     ensures thunks { ThunksAreHeldByNone }
 {}

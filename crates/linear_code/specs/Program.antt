@@ -2,6 +2,7 @@
 use Rattle.std.specs.Prelude.{ℕ, ◌+◌, List, map, Option}
 use Rattle.linear_code.specs.declared.instruction.Instruction.{Instruction}
 use Rattle.linear_code.specs.declared.program.Region.{Region}
+use Rattle.linear_code.specs.declared.program.LabelRange.{LabelRange}
 use Rattle.linear_code.specs.declared.program.FuncletKind.{FuncletKind}
 use Rattle.linear_code.specs.declared.program.IrBody.{IrBody}
 use Rattle.linear_code.specs.declared.program.IrFunction.{IrFunction}
@@ -14,6 +15,8 @@ pub record LinearBody : Type 0 where
   pub passed : ℕ
   pub code : List Instruction
   pub regions : List Region
+  -- instructions that stand apart from the others in the image
+  pub cold : List LabelRange
 
 pub record LinearFunction : Type 0 where
   pub name : List ℕ
@@ -50,6 +53,7 @@ linear_body b =
       passed = b.passed;
       code = b.code.items;
       regions = b.regions.items;
+      cold = b.cold.items;
     }
 
 abbrev pub linear_function : IrFunction → LinearFunction

@@ -26,6 +26,15 @@ pub struct Region {
     pub kind: RegionKind,
 }
 
+/// Instructions of a body that stand apart from it in the image: a cold part.
+#[derive(Clone, Copy, Debug, PartialEq, Eq)]
+pub struct LabelRange {
+    /// The label of its first instruction.
+    pub begin: u64,
+    /// The label after its last instruction, larger than `begin`.
+    pub end: u64,
+}
+
 /// The code of a function or a funclet.
 #[derive(Drop)]
 pub struct IrBody {
@@ -40,6 +49,8 @@ pub struct IrBody {
     pub code: Vec<Instruction>,
     /// Inner regions before outer ones.
     pub regions: Vec<Region>,
+    /// The cold parts, one after another and apart. A funclet has none.
+    pub cold: Vec<LabelRange>,
 }
 
 /// A function. Its parameters are its first locals.

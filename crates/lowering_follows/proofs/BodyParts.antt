@@ -9,7 +9,7 @@ use Rattle.linear_code.specs.declared.slot.Slot.TheVariants.{Local}
 use Rattle.lowering_expressions.specs.declared.scope.Way.TheVariants.{Unwinds}
 use Rattle.source_meaning.specs.State as model
 use Rattle.linear_code.specs.declared.instruction.Instruction.TheVariants as instructions
-use Rattle.lowering_follows.proofs.Lemmas.{Part, at, Site, conf, Ways, Price, price, Join, Arrives, Claim, first_ways, joins, Passes, Joined, more, attains_more, after, arrives_more, first, stepped, still, fetch, prefix_self}
+use Rattle.lowering_follows.proofs.Lemmas.{Part, at, Site, conf, Ways, Price, price, Join, Arrives, Claim, first_ways, joins, Passes, Joined, more, attains_more, after, arrives_more, reaches_after, first, stepped, still, fetch, prefix_self}
 use Rattle.lowering_expressions.specs.declared.scope.Way as jumps
 use Rattle.lowering_expressions.specs.Scope as scopes
 use Rattle.lowering_follows.proofs.Stores.{Shape, at_list, below_slot, local_set_alike, kept_set, kept_through}
@@ -18,7 +18,7 @@ use Rattle.lowering_follows.proofs.Lengths.{expression_length}
 use Rattle.lowering_follows.proofs.TaskClaims.{Runs}
 use Rattle.lowering_follows.proofs.Turns.{put_local_turn, jump_turn}
 use Rattle.lowering_follows.proofs.Raises.{unwound_is}
-use Rattle.lowering_follows.proofs.BodyClaims.{own_target, exit_way, jump_way, leave_way, statement_ways, Stays, Surroundings, BodyRuns, statement_eval}
+use Rattle.lowering_follows.proofs.BodyClaims.{ExitFits, own_target, exit_way, jump_way, leave_way, statement_ways, Stays, Surroundings, BodyRuns, statement_eval}
 
 set_again : (xs : List ℕ) (x v : ℕ) → set (set xs x v) x v ≡ set xs x v
 set_again [] x v = refl
@@ -147,35 +147,44 @@ module _ (program : Program) (linear : LinearProgram) (rate body : ℕ) where
 
       -- ---- ways out
 
-      pub leaves_by : (way : jumps.Way) (pc v : ℕ) (st : State) (store : Store) (p : Price)
-          → 1 ≤ p.turns → p.extra ≤ rate + p.slack → IsWay way
+      -- to the function's exit, and out of it from there
+      pub leaves_by : (way : jumps.Way) (hi pc v : ℕ) (st : State) (store : Store) (p : Price)
+          → 2 ≤ p.turns → p.extra ≤ rate + p.slack → IsWay way
+          → ExitFits linear site.body site.regions hi way
           → HasAt linear site.body site.regions pc (return_code way) → Ks st store
           → st.held ≡ site.held
           → Arrives linear rate (at (conf context site pc (v ∷ []) st store)) st p Ks site.held st
           (exit_way program linear rate body context site way v)
       unfolding with_some
-      leaves_by Nowhere pc v st store p lr le is has kept held = absurd is
-      leaves_by (Jumps label) pc v st store p lr le is has kept held = (
-        pc,
-        record {
-          store = store;
-          fits = kept;
-          same = held;
-          reaches = stepped linear rate (conf context site pc (v ∷ []) st store)
-              (λ next. end_body linear next site.body v (conf context site pc (v ∷ []) st store)) st
-              st p.turns p.extra p.slack refl lr le refl (prefix_self st.events)
-              (λ k. fetch linear rate (conf context site pc (v ∷ []) st store)
-              (instructions.Return (Temporary 0)) k has.0);
-        },
-      )
-      leaves_by (Unwinds label) pc v st store p lr le is has kept held = (
+      leaves_by Nowhere hi pc v st store p lr le is exits has kept held = absurd is
+      leaves_by (Jumps label) hi pc v st store p lr le is exits has kept held =
+          let c0 = conf context site pc (v ∷ []) st store in
+          let c1 = conf context site label (v ∷ []) st store in
+          let out : Part = λ next. end_body linear next site.body v c1 in (
+            label,
+            record {
+              store = store;
+              fits = kept;
+              same = held;
+              reaches = reaches_after linear rate (at c0) (at c1) out st st st 1 rate 0 1 0 0
+                  p.turns p.extra p.slack lr (omega arith)
+                  (stepped linear rate c0 (at c1) st st 1 rate 0 refl (omega arith) (omega arith)
+                  refl (prefix_self st.events)
+                  (λ k. jump_turn linear rate context site label pc (v ∷ []) st store k
+                  (has.0, has.1, tt)))
+                  (stepped linear rate c1 out st st 1 0 0 refl (omega arith) (omega arith) refl
+                  (prefix_self st.events)
+                  (λ k. fetch linear rate c1 (instructions.Return (Temporary 0)) k exits.2));
+            },
+          )
+      leaves_by (Unwinds label) hi pc v st store p lr le is exits has kept held = (
         pc,
         record {
           store = store;
           fits = kept;
           same = held;
           reaches = stepped linear rate (conf context site pc (v ∷ []) st store) _ st st p.turns
-              p.extra p.slack refl lr le refl (prefix_self st.events)
+              p.extra p.slack refl (omega arith) le refl (prefix_self st.events)
               (λ k. fetch linear rate (conf context site pc (v ∷ []) st store) (LocalUnwind label) k
               has.0 ∙ unwound_is program linear rate body (own_target site label) context site pc
               (v ∷ []) st store (exec linear k) has.1);

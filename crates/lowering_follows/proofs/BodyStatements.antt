@@ -1,7 +1,7 @@
 -- Statements, after their step.
 use Rattle.std.proofs.Common.{◌∙◌, ◌≡◌, ◌≤◌, ℕ, ◌+◌, List, [], ◌∷◌, length, refl, sym, subst, arith}
 use Rattle.std.specs.Prelude.{◌-◌, max, nat_eq, Option, Some, None}
-use Rattle.lowering_follows.specs.Words.{Expression, Declared, Filter, Statement, Declare, Block, Evaluate, If, IfElse, For, DoWhile, Break, Continue, Leave, TryExcept, TryFinally, Statements, Program, Exception, State, Normal, Returned, Outcome, Gives, choose, and_then, Context, Handler, Run, ForIteration, DoIteration, TryBody, RunFinally, all, optional, landing, finally_after, declare_each, statement, within, Temporary, JumpIfZero, Region, LinearProgram, BodyName, Store, set_local, LoweringContext, except_names, in_try, in_except, in_guarded, expression_size, discarded_size, declared_size, all_declared_size, returned_size, statement_size, statements_size, statement_notes, statements_notes, except_kind, region, expression_code, expression_weight, optional_weight, statement_weight, statements_weight, declared_weight, all_declared_weight, AllDeclaredPlaced, Placed, for_end, do_end, Return}
+use Rattle.lowering_follows.specs.Words.{Expression, Declared, Filter, Statement, Declare, Block, Evaluate, If, IfElse, For, DoWhile, Break, Continue, Leave, TryExcept, TryFinally, Statements, Program, Exception, State, Normal, Returned, Outcome, Gives, choose, and_then, Context, Handler, Run, ForIteration, DoIteration, TryBody, RunFinally, all, optional, landing, finally_after, declare_each, statement, within, Temporary, Jump, JumpIfZero, Region, LinearProgram, BodyName, Store, set_local, LoweringContext, except_names, in_try, in_except, in_guarded, expression_size, discarded_size, declared_size, all_declared_size, returned_size, statement_size, statements_size, statement_notes, statements_notes, except_kind, region, expression_code, expression_weight, optional_weight, statement_weight, statements_weight, declared_weight, all_declared_weight, HasAt, AllDeclaredPlaced, Placed, for_end, do_end, Return}
 use Rattle.linear_code.specs.declared.program.RegionKind.TheVariants as regions
 use Rattle.lowering_follows.proofs.Lemmas.{at, Site, conf, Ways, Price, price, found, joins, more, then_normal, chosen}
 use Rattle.lowering_follows.proofs.Stores.{Shape, Alike, below_slot}
@@ -104,34 +104,59 @@ module _ (program : Program) (linear : LinearProgram) (rate body : ℕ) (roomy :
         (part_in lo hi pc (pc + statement_size s) l h inner)
         (fewer notes (statement_notes s) less standing) kept held))
 
+    -- a branch, and the jump after it
+    branch_runs : (s : Statement) (pc label done : ℕ) (st : State) (store : Store) (q notes lo : ℕ)
+        → st.steps_left ≤ n → statement_weight s + body + 4 ≤ rate → statement_weight s ≤ q
+        → Placed program linear rate body z.own site.body scope s site.regions pc
+        → HasAt linear site.body site.regions (pc + statement_size s) (Jump label ∷ [])
+        → lo ≤ pc → pc + statement_size s ≤ done → In lo done → statement_notes s ≤ notes
+        → Sd notes → K st store → st.held ≡ site.held → label ≡ done
+        → C pc [] st store (price 2 0 q q) done (within program n (Run s) context st)
+    branch_runs s pc label done st store q notes lo steps light slack has jumps l h inner less
+        standing kept held e =
+        let w = statement_weight s in
+        let jump = pc + statement_size s in
+        normal_then program linear rate body (at (conf context site pc [] st store))
+        (λ st store. at (conf context site jump [] st store)) (W done) st (price 0 0 w w)
+        (price 1 0 0 0) (price 2 0 q q) (within program n (Run s) context st)
+        (joins (omega arith) (omega arith) (omega arith) (omega arith)) (omega arith)
+        (sub_run s pc jump st store (price 0 0 w w) notes lo done steps light (omega arith)
+        (omega arith) refl has l h inner less standing kept held refl)
+        (λ st store low kept held.
+        continue_from program linear rate body roomy n ih bih scope z shapes context site base jump
+        label [] [] st store store (price 0 0 0 0) (price 1 0 0 0) done (Gives Normal st)
+        (omega arith, omega arith, omega arith)
+        (λ k. jump_turn linear rate context site label jump [] st store k jumps)
+        (here program linear rate body roomy n ih bih scope z shapes context site base label done st
+        store (price 0 0 0 0) e (omega arith) kept held))
+
     return_runs : (e : Option Expression) (notes pc : ℕ) (st : State) (store : Store)
         → st.steps_left ≤ n → 1 + optional_weight e + body + 4 ≤ rate
-        → Placed program linear rate body z.own site.body scope (Return e) site.regions pc → Sd
-        notes
-        → K st store → st.held ≡ site.held
+        → Placed program linear rate body z.own site.body scope (Return e) site.regions pc
+        → In pc (pc + (returned_size e + 2)) → Sd notes → K st store → st.held ≡ site.held
         → C pc [] st store (price 16 1 (1 + optional_weight e) (1 + optional_weight e))
         (pc + (returned_size e + 2)) (optional (within program n) 0 e context st
         (λ v st. Gives (Returned v) st))
-    return_runs None notes pc st store steps light has standing kept held =
+    return_runs None notes pc st store steps light has inner standing kept held =
         continue_from program linear rate body roomy n ih bih scope z shapes context site base pc
-        (pc + 1) [] (0 ∷ []) st store store (price 1 0 0 0) (price 16 1 1 1) (pc + (1 + 2))
+        (pc + 1) [] (0 ∷ []) st store store (price 2 0 0 0) (price 16 1 1 1) (pc + (1 + 2))
         (Gives (Returned 0) st) (omega arith, omega arith, omega arith)
         (λ k. constant_turn linear rate context site 0 0 (0 ∷ []) pc [] st store k (omega arith)
         has.computes refl)
         (leaves_by program linear rate body roomy n ih bih scope z shapes context site base
-        scope.exit (pc + 1) 0 st store (price 1 0 0 0) (omega arith) (omega arith) has.leads
-        has.returns kept held)
-    return_runs (Some e) notes pc st store steps light has standing kept held =
+        scope.exit (pc + (1 + 2)) (pc + 1) 0 st store (price 2 0 0 0) (omega arith) (omega arith)
+        has.leads inner.exit has.returns kept held)
+    return_runs (Some e) notes pc st store steps light has inner standing kept held =
         let w = expression_weight e in
         let done = pc + (expression_size e + 2) in
         statement_eval program linear rate body n ih e scope.names z shapes context site base notes
-        pc st store (price 1 0 0 0) (price 16 1 (1 + w) (1 + w)) (W done)
+        pc st store (price 2 0 0 0) (price 16 1 (1 + w) (1 + w)) (W done)
         (λ v st. Gives (Returned v) st) steps (omega arith)
         (joins (omega arith) (omega arith) (omega arith) (omega arith)) has.value has.computes
         standing kept held
         (λ v mid after steps kept held. leaves_by program linear rate body roomy n ih bih scope z
-        shapes context site base scope.exit (pc + expression_size e) v mid after (price 1 0 0 0)
-        (omega arith) (omega arith) has.leads has.returns kept held)
+        shapes context site base scope.exit done (pc + expression_size e) v mid after
+        (price 2 0 0 0) (omega arith) (omega arith) has.leads inner.exit has.returns kept held)
 
     except_runs : (ss : Statements) (filter : Filter) (block : Statements) (pc : ℕ) (st : State)
         (store : Store) → st.steps_left ≤ n → statement_weight (TryExcept ss filter block) + body +
@@ -315,10 +340,9 @@ module _ (program : Program) (linear : LinearProgram) (rate body : ℕ) (roomy :
         let notes = max (statement_notes s) (statement_notes t) in
         let pc1 = pc + expression_size c in
         let then = pc1 + 1 in
-        let jump = then + statement_size s in
-        let otherwise = jump + 1 in
-        let label = otherwise + statement_size t in
-        let done = pc + (expression_size c + (1 + (statement_size s + (1 + statement_size t)))) in
+        let otherwise = then + statement_size s + 1 in
+        let label = otherwise + statement_size t + 1 in
+        let done = pc + statement_size (IfElse c s t) in
         let end : label ≡ done = omega arith in
         let code = expression_code scope.names c 0 pc in
         let yes : State → Outcome = λ st. within program n (Run s) context st in
@@ -339,23 +363,12 @@ module _ (program : Program) (linear : LinearProgram) (rate body : ℕ) (roomy :
         (has_after linear site.body site.regions pc (expression_size c) code
         (JumpIfZero (Temporary 0) otherwise ∷ []) (expression_length scope.names c 0 pc)
         has.test))
-        (sub_run t otherwise done mid after (price 2 0 q q) notes pc done steps (omega arith)
-        (omega arith) (omega arith) refl has.no (omega arith) (omega arith) inner
+        (branch_runs t otherwise label done mid after q notes pc steps (omega arith) (omega arith)
+        has.no has.joins (omega arith) (omega arith) inner
         (max_right (statement_notes s) (statement_notes t)) standing kept held end)
-        (normal_then program linear rate body (at (conf context site then [] mid after))
-        (λ st store. at (conf context site jump [] st store)) (W done) mid (price 0 0 ws ws)
-        (price 1 0 0 0) (price 2 0 q q) (yes mid)
-        (joins (omega arith) (omega arith) (omega arith) (omega arith)) (omega arith)
-        (sub_run s then jump mid after (price 0 0 ws ws) notes pc done steps (omega arith)
-        (omega arith) (omega arith) refl has.yes (omega arith) (omega arith) inner
-        (max_left (statement_notes s) (statement_notes t)) standing kept held refl)
-        (λ st store low kept held.
-        continue_from program linear rate body roomy n ih bih scope z shapes context site base jump
-        label [] [] st store store (price 0 0 0 0) (price 1 0 0 0) done (Gives Normal st)
-        (omega arith, omega arith, omega arith)
-        (λ k. jump_turn linear rate context site label jump [] st store k has.skip)
-        (here program linear rate body roomy n ih bih scope z shapes context site base label done st
-        store (price 0 0 0 0) end (omega arith) kept held))))
+        (branch_runs s then label done mid after q notes pc steps (omega arith) (omega arith)
+        has.yes has.skip (omega arith) (omega arith) inner
+        (max_left (statement_notes s) (statement_notes t)) standing kept held end))
     statement_runs (For ds first c next s) pc st store steps light has inner standing kept held =
         let wd = all_declared_weight ds in
         let wf = optional_weight first in
@@ -404,7 +417,7 @@ module _ (program : Program) (linear : LinearProgram) (rate body : ℕ) (roomy :
         (bih.do_run s c scope z shapes context site base pc st store steps (omega arith) has
         (part_in pc hi pc last (omega arith) (omega arith) inner) standing kept held))
     statement_runs (Return e) pc st store steps light has inner standing kept held = return_runs e 0
-        pc st store steps light has standing kept held
+        pc st store steps light has inner standing kept held
     statement_runs Break pc st store steps light has inner standing kept held = breaks_by program
         linear rate body roomy n ih bih scope z shapes context site base scope.loop_end pc st store
         (price 16 1 1 1) (omega arith) (omega arith) has.0 has.1 kept held

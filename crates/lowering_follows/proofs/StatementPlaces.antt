@@ -162,50 +162,51 @@ module _ (program : Program) (linear : LinearProgram) (rate most own : ℕ) wher
       place (IfElse t s u) b lb there i scope a owner rs at j ok light h c f n =
           let code = expression_code scope.names t 0 at in
           let l = expression_length scope.names t 0 at in
-          let then = at + expression_size t + 1 in
-          let otherwise = then + statement_size s + 1 in
-          let test = JumpIfZero (Temporary 0) otherwise in
-          let skip = Jump (otherwise + statement_size u) in
-          let yes = statement_code scope s then in
-          let no = statement_code scope u otherwise in
-          let ly = statement_length scope s then in
+          let then = at + expression_size t + 1 in let otherwise = then + statement_size s + 1 in
+          let test = JumpIfZero (Temporary 0) otherwise in let end = otherwise + statement_size u in
+          let yes = statement_code scope s then in let no = statement_code scope u otherwise in
+          let skip = Jump (end + 1) in let rest = no ++ skip ∷ [] in
           let tested = length-append code (test ∷ []) in
-          let ry = statement_regions s then in
-          let rn = statement_regions u otherwise in
+          let ly = statement_length scope s then in let ln = statement_length scope u otherwise in
+          let ry = statement_regions s then in let rn = statement_regions u otherwise in
           let fy = statement_funclets owner scope.names s in
           let fn = statement_funclets owner scope.names u in
           let count = statement_count owner scope.names s in
-          let after = (back lb.code at (at + expression_size t) code (test ∷ (yes ++ skip ∷ no))
+          let after = (back lb.code at (at + expression_size t) code (test ∷ (yes ++ skip ∷ rest))
           (omega arith) h).1 in
-          let second_part = back lb.code then (then + statement_size s) yes (skip ∷ no)
-          (omega arith) after in
-          let at_skip = then + statement_size s in record {
+          let after_yes = back lb.code then (then + statement_size s) yes (skip ∷ rest)
+          (omega arith) after in record {
             condition = expression_fits program own false i.scope a.knows t
                 (both_left _ _ (both_left _ _ (both_left _ _ ok)));
             test = code_is_at b lb there rs at (code ++ test ∷ [])
-                (with_next lb.code at code test (yes ++ skip ∷ no) h)
+                (with_next lb.code at code test (yes ++ skip ∷ rest) h)
                 (λ q lo hi. bare linear b rs (ry ++ rn) q
                 (right_only ry rn q (outside s then q (inl (omega arith)))
                 ∙ outside u otherwise q (inl (omega arith))) (c q lo (omega arith)));
             yes = place s b lb there i scope a owner rs then j (both_right _ _ (both_left _ _ ok))
-                (omega arith) (front lb.code then yes (skip ∷ no) after)
+                (omega arith) (front lb.code then yes (skip ∷ rest) after)
                 (λ q lo hi. part linear b rs (ry ++ rn) ry q
                 (left_only ry rn q (outside u otherwise q (inl (omega arith))))
                 (c q (omega arith) (omega arith)))
                 (front linear.funclets j fy fn f)
                 (count_front (j + 1) (funclets_in s) (funclets_in u) n);
-            skip = code_is_at b lb there rs at_skip (skip ∷ []) (second_part.0, tt)
+            skip = code_is_at b lb there rs (then + statement_size s) (skip ∷ []) (after_yes.0, tt)
                 (λ q lo hi. bare linear b rs (ry ++ rn) q
                 (right_only ry rn q (outside s then q (inr (omega arith)))
                 ∙ outside u otherwise q (inl (omega arith))) (c q (omega arith) (omega arith)));
             no = place u b lb there i scope a owner rs otherwise (j + length fy) (both_right _ _ ok)
-                (omega arith) second_part.1
+                (omega arith) (front lb.code otherwise no (skip ∷ []) after_yes.1)
                 (λ q lo hi. part linear b rs (ry ++ rn) rn q
                 (right_only ry rn q (outside s then q (inr (omega arith))))
                 (c q (omega arith) (omega arith)))
                 (back linear.funclets j (j + length fy) fy fn refl f)
                 (count_back (j + 1) (j + length fy + 1) (funclets_in s) (funclets_in u)
                 (omega arith) n);
+            joins = code_is_at b lb there rs end (skip ∷ [])
+                (back lb.code otherwise end no (skip ∷ []) (omega arith) after_yes.1)
+                (λ q lo hi. bare linear b rs (ry ++ rn) q
+                (right_only ry rn q (outside s then q (inr (omega arith)))
+                ∙ outside u otherwise q (inr (omega arith))) (c q (omega arith) (omega arith)));
           }
       place (For ds first' t next s) b lb there i scope a owner rs at j ok light h c f n =
           let names = scope.names in

@@ -60,12 +60,13 @@ pub record FilterParts (Numbered Kind Code Fits Light : Type 0) : Type 0 where
   pub fits : Fits
   pub light : Light
 
-pub record IfElseParts (Condition Test Yes Skip No : Type 0) : Type 0 where
+pub record IfElseParts (Condition Test Yes Skip No Joins : Type 0) : Type 0 where
   pub condition : Condition
   pub test : Test
   pub yes : Yes
   pub skip : Skip
   pub no : No
+  pub joins : Joins
 
 -- what is declared and evaluated first, and the iterations
 pub record ForParts (Declared' First Begins Iterations : Type 0) : Type 0 where
@@ -157,12 +158,14 @@ module _ (program : Program) (linear : LinearProgram) (steps_per_turn body own :
     Placed b scope (IfElse c s t) rs at =
         let then = at + expression_size c + 1 in
         let otherwise = then + statement_size s + 1 in
+        let end = otherwise + statement_size t + 1 in
         IfElseParts (ExpressionFits program own false c)
         (HasAt linear b rs at (expression_code scope.names c 0 at
         ++ JumpIfZero (Temporary 0) otherwise ∷ []))
         (Placed b scope s rs then)
-        (HasAt linear b rs (then + statement_size s) (Jump (otherwise + statement_size t) ∷ []))
+        (HasAt linear b rs (then + statement_size s) (Jump end ∷ []))
         (Placed b scope t rs otherwise)
+        (HasAt linear b rs (otherwise + statement_size t) (Jump end ∷ []))
     Placed b scope (For ds first c next s) rs at =
         let begin = at + all_declared_size ds in
         let iteration = begin + discarded_size first in

@@ -39,8 +39,8 @@ module _ (program : Program) (own : ℕ) where
     of_jump = λ label l. tt;
     of_test = λ label l. tt;
     of_unwind = λ label l. tt;
+    of_exit_jump = λ label l. tt;
     of_exit = λ label l. tt;
-    of_return = tt;
     of_landing = λ names m le o. tt;
     of_finally = λ k. tt;
   }

@@ -58,7 +58,7 @@ module _ (depth : ℕ → ℕ) where
 
   return_leads : (w : Way) → WayHas (λ label. depth label ≡ 1) w → All 1 (return_code w)
   return_leads Nowhere h = (tt, (tt, tt))
-  return_leads (Jumps label) h = (tt, (tt, tt))
+  return_leads (Jumps label) h = (h, (tt, tt))
   return_leads (Unwinds label) h = (h, (tt, tt))
 
   -- an expression, and what is after it

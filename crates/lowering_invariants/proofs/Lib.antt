@@ -38,3 +38,9 @@ pub mod BlindExpressions
 pub mod Blind
 pub mod NamedLocals
 pub mod SparedRegisters
+pub mod ColdRanges
+pub mod ColdCalls
+pub mod ColdInstructions
+pub mod ColdBranches
+pub mod ColdUnwinds
+pub mod ColdParts

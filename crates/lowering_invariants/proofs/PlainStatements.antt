@@ -128,9 +128,9 @@ finally_named n names m k le h = let room = h.1 in
 -- ---- bodies
 
 module _ (most n : ℕ) (few_temporaries : most ≤ 456) (few_locals : n ≤ 66000) where
-  pub small_body : (code : List Instruction) (regions : _) → AllGood most n code
-      → IsSmallBody (body_with n code regions)
-  small_body code regions h =
+  pub small_body : (code : List Instruction) (regions cold : _) → AllGood most n code
+      → IsSmallBody (body_with n code regions cold)
+  small_body code regions cold h =
       let t = temporaries_most most n code h in
       let p = passed_most most n code h in
       record {
@@ -168,8 +168,8 @@ module _ (program : Program) (most n own : ℕ) (wide : own ≤ n) (least : 8 �
     of_jump = λ label l. (omega arith, omega arith, tt);
     of_test = λ label l. (omega arith, omega arith, tt);
     of_unwind = λ label l. (omega arith, omega arith, tt);
+    of_exit_jump = λ label l. (omega arith, omega arith, tt);
     of_exit = λ label l. (omega arith, omega arith, tt);
-    of_return = (omega arith, omega arith, tt);
     of_landing = λ names m le k. let room = k.1 in (omega arith, omega arith, omega arith);
     of_finally = λ k. (omega arith, omega arith, tt);
   }
@@ -187,10 +187,10 @@ module _ (program : Program) (most n own : ℕ) (wide : own ≤ n) (least : 8 �
 
   module _ (linear : LinearProgram) (few_temporaries : most ≤ 456) (few_locals : n ≤ 66000) where
     owned_body : (owner : Owner) → Fitting linear n owner → (code : List Instruction) (regions : _)
-        → AllGood most n code → IsSmallBody (body_with owner.locals code regions)
+        → AllGood most n code → IsSmallBody (body_with owner.locals code regions [])
     owned_body owner fitting code regions h =
-        subst (λ m. IsSmallBody (body_with m code regions)) (sym fitting.locals)
-        (small_body most n few_temporaries few_locals code regions h)
+        subst (λ m. IsSmallBody (body_with m code regions [])) (sym fitting.locals)
+        (small_body most n few_temporaries few_locals code regions [] h)
 
     filter_small : (owner : Owner) (names : Names) (m : ℕ) (e : Expression) → Fitting linear n owner
         → Named n names m → Value program most own true e

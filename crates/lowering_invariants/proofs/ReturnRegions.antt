@@ -44,7 +44,7 @@ ends_both xs (y ∷ ys) h k = ends_after xs y ys k
 
 returned_ends : (xs : List Instruction) (exit : Way) → EndsPlain (xs ++ return_code exit)
 returned_ends xs Nowhere = ends_after xs Separator (Separator ∷ []) refl
-returned_ends xs (Jumps label) = ends_after xs (Return (Temporary 0)) (Separator ∷ []) refl
+returned_ends xs (Jumps label) = ends_after xs (Jump label) (Separator ∷ []) refl
 returned_ends xs (Unwinds label) = ends_after xs (LocalUnwind label) (Separator ∷ []) refl
 
 pieces_end : HoldsOfAnyPieces (λ at xs rs. EndsPlain xs)

@@ -11,7 +11,7 @@ use Rattle.lowering_invariants.proofs.Lemmas.{length_first, statements_length, H
 use Rattle.lowering_invariants.proofs.BlockSeparators.{lowered_is_followed}
 use Rattle.lowering_invariants.proofs.EveryBody.{every_body, every_function}
 use Rattle.lowering_invariants.proofs.FirstSeparators.{first_every, function_end, body_at}
-use Rattle.lowering_invariants.proofs.NoBlocks.{RunsNoBlock, expression_no_blocks}
+use Rattle.lowering_invariants.proofs.NoBlocks.{MayBeCold, expression_may_be_cold}
 use Rattle.lowering_invariants.proofs.ReturnRegions.{calls_stay}
 use Rattle.lowering_invariants.proofs.RegionRanges.{IsWithin, AreWithin, statements_within, NoneBegin, NoneMeet, statements_none_meet}
 use Rattle.lowering_invariants.proofs.StackTargets.{all_map, same_it}
@@ -32,7 +32,7 @@ held_between label r h =
     let p = and_parts (nat_le r.begin label) (nat_lt label r.end) h in
     (leb-true r.begin label p.0, ltb-true label r.end p.1)
 
-all_with : {X : Type 0} (P Q R : X → Type 0) (xs : List X) → ((x : X) → P x → Q x → R x)
+pub all_with : {X : Type 0} (P Q R : X → Type 0) (xs : List X) → ((x : X) → P x → Q x → R x)
     → AllByRecursion P xs → AllByRecursion Q xs → AllByRecursion R xs
 all_with P Q R [] f h k = tt
 all_with P Q R (x ∷ xs) f h k = (f x h.0 k.0, all_with P Q R xs f h.1 k.1)
@@ -155,7 +155,7 @@ filter_separate owner names e =
       leads = λ label to g. lead_at [] code code 0 label label to (omega arith)
           (lead_append [] code 0 (length (expression_code names e 0 0))
           (expression_code names e 0 0) (Return (Temporary 0) ∷ []) (omega arith)
-          (plain_lead [] code 0 (expression_code names e 0 0) (expression_no_blocks names e 0 0))
+          (plain_lead [] code 0 (expression_code names e 0 0) (expression_may_be_cold names e 0 0))
           (tt, tt)) g;
     }
 
@@ -195,7 +195,7 @@ function_separate f =
     separate f.body scope b at refl (omega arith) s
     (lead_append b.regions b.code 0 to (first ++ code) function_end (omega arith)
     (lead_append b.regions b.code 0 at first code (omega arith)
-    (plain_lead b.regions b.code 0 first (first_every RunsNoBlock refl f))
+    (plain_lead b.regions b.code 0 first (first_every MayBeCold refl f))
     (statements_lead b.regions b.code f.body scope at to refl s
     (record {
       exit = (omega arith, exit, (Return (Temporary 0), own, refl));

@@ -5,7 +5,7 @@ use Rattle.std.proofs.lemmas.List.{length-map}
 use Rattle.std.proofs.lemmas.Option.{slice_get_within}
 use Rattle.std.specs.List.{AllByRecursion}
 use Rattle.std.specs.Prelude.{true, false, slice_get, Option, Some, None}
-use Rattle.lowering_invariants.specs.Words.{Program, Function, surplus, weight, funclets, function_sound, functions_sound, main_sound, statements_code, statements_regions, own_locals, all_locals, first_separators, scope_of, lowered_function, lowered_funclets, all_funclets, lowered, expression_nesting, expression_reads, AreShallow, IsShallow, IsSmallFunction, IsSmallFunclet, statements_notes}
+use Rattle.lowering_invariants.specs.Words.{Program, Function, surplus, weight, funclets, function_sound, functions_sound, main_sound, statements_code, statements_regions, statements_cold, own_locals, all_locals, first_separators, scope_of, lowered_function, lowered_funclets, all_funclets, lowered, expression_nesting, expression_reads, AreShallow, IsShallow, IsSmallFunction, IsSmallFunclet, statements_notes}
 use Rattle.c_checked.specs.Sound as sound
 use Rattle.lowering_invariants.proofs.Lemmas.{both_left, both_right, all_append, StatementsHave, all_front, all_back, all_funclets_every, functions_count, inside_function, knows_function, statements_sound_have}
 use Rattle.lowering_invariants.specs.BoundLaws.{LoweredIsSmall}
@@ -94,6 +94,7 @@ module _ (program : Program) (h : functions_sound program.functions program.func
         locals = w.locals;
         body = small_body 456 n (omega arith) w.room
             ((first ++ code) ++ function_end) (statements_regions fn.body at)
+            (statements_cold fn.body at)
             (append 456 n (first ++ code) function_end good ends);
       }
 

@@ -151,8 +151,8 @@ module _ (L : ℕ → Type 0) where
     of_jump = λ label l. tt;
     of_test = λ label l. tt;
     of_unwind = λ label l. tt;
+    of_exit_jump = λ label l. tt;
     of_exit = λ label l. tt;
-    of_return = tt;
     of_landing = λ names m le n. n.free names.free (omega arith);
     of_finally = λ k. tt;
   }

@@ -66,8 +66,8 @@ module _ (n : ℕ) where
     of_jump = λ label l. tt;
     of_test = λ label l. tt;
     of_unwind = λ label l. l;
+    of_exit_jump = λ label l. tt;
     of_exit = λ label l. l;
-    of_return = tt;
     of_landing = λ names m le k. tt;
     of_finally = λ k. tt;
   }

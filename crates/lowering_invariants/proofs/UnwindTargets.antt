@@ -2,8 +2,8 @@
 -- holds its target begins between, or at the target.
 use Rattle.std.proofs.Common.{◌≡◌, ◌⊎◌, inl, inr, ℕ, zero, suc, ◌+◌, ◌-◌, ◌<◌, ◌≤◌, List, [], ◌∷◌, ◌++◌, length, refl, subst, arith}
 use Rattle.std.specs.List.{AllByRecursion}
-use Rattle.std.specs.Prelude.{true, false, slice_get, Option, Some, None}
-use Rattle.lowering_invariants.specs.Words.{Expression, Declared, Statement, Declare, Block, Evaluate, If, IfElse, For, DoWhile, Return, Break, Continue, Leave, TryExcept, TryFinally, Statements, Empty, Then, Temporary, Instruction, Jump, JumpIfZero, Separator, LocalUnwind, Region, expression_size, discarded_size, condition_size, all_declared_size, statement_size, statements_size, Names, Way, Nowhere, Jumps, LoweringContext, expression_code, jump_code, return_code, leave_code, returned_code, discarded_code, condition_code, declared_code, all_declared_code, initialiser_code, repeated, statement_code, statements_code, except_kind, region, statement_regions, statements_regions, in_loop, in_try, in_except, in_guarded, runs_blocks, is_target}
+use Rattle.std.specs.Prelude.{true, slice_get, Option, Some, None}
+use Rattle.lowering_invariants.specs.Words.{Expression, Declared, Statement, Declare, Block, Evaluate, If, IfElse, For, DoWhile, Return, Break, Continue, Leave, TryExcept, TryFinally, Statements, Empty, Then, Temporary, Instruction, Jump, JumpIfZero, Separator, LocalUnwind, Region, expression_size, discarded_size, condition_size, all_declared_size, statement_size, statements_size, Names, Way, Nowhere, Jumps, LoweringContext, expression_code, jump_code, return_code, leave_code, returned_code, discarded_code, condition_code, declared_code, all_declared_code, initialiser_code, repeated, statement_code, statements_code, except_kind, region, statement_regions, statements_regions, in_loop, in_try, in_except, in_guarded, is_target}
 use Rattle.linear_code.specs.declared.program.RegionKind.TheVariants as kinds
 use Rattle.lowering_expressions.specs.declared.scope.Way.TheVariants.{Unwinds}
 use Rattle.lowering_sizes.specs.Sizes.{returned_size}
@@ -11,40 +11,43 @@ use Rattle.seh_ir.proofs.EveryStatement.{unwound_has}
 use Rattle.seh_ir.proofs.StatementCodes.{returned_length}
 use Rattle.lowering_invariants.proofs.Lemmas.{expression_length, statements_length, statement_length, discarded_length, condition_length, all_declared_length, WayHas, all_append, IsSegmentAt, front, back}
 use Rattle.lowering_invariants.proofs.StackTargets.{all_map, same_it}
-use Rattle.lowering_invariants.proofs.NoBlocks.{RunNoBlocks, expression_no_blocks}
+use Rattle.lowering_invariants.proofs.NoBlocks.{MayBeCold, AllMayBeCold, expression_may_be_cold}
 use Rattle.lowering_invariants.proofs.RegionRanges.{IsWithin, AreWithin, statement_within, statements_within}
 
--- ---- code that runs no block
+-- ---- code that may be cold
 
 module _ (names : Names) where
-  used : (e : Expression) (at : ℕ) (rest : List Instruction) → RunNoBlocks rest
-      → RunNoBlocks (expression_code names e 0 at ++ rest)
-  used e at rest h = all_append (λ i. runs_blocks i ≡ false) (expression_code names e 0 at) rest
-      (expression_no_blocks names e 0 at) h
+  used : (e : Expression) (at : ℕ) (rest : List Instruction) → AllMayBeCold rest
+      → AllMayBeCold (expression_code names e 0 at ++ rest)
+  used e at rest h = all_append MayBeCold (expression_code names e 0 at) rest
+      (expression_may_be_cold names e 0 at) h
 
-  discarded_no_blocks : (e : Option Expression) (at : ℕ) → RunNoBlocks (discarded_code names e at)
-  discarded_no_blocks None at = tt
-  discarded_no_blocks (Some e) at = used e at (Separator ∷ []) (refl, tt)
+  pub discarded_may_be_cold : (e : Option Expression) (at : ℕ)
+      → AllMayBeCold (discarded_code names e at)
+  discarded_may_be_cold None at = tt
+  discarded_may_be_cold (Some e) at = used e at (Separator ∷ []) (refl, tt)
 
-  condition_no_blocks : (e : Option Expression) (label at : ℕ)
-      → RunNoBlocks (condition_code names e label at)
-  condition_no_blocks None label at = tt
-  condition_no_blocks (Some e) label at = used e at _ (refl, tt)
+  pub condition_may_be_cold : (e : Option Expression) (label at : ℕ)
+      → AllMayBeCold (condition_code names e label at)
+  condition_may_be_cold None label at = tt
+  condition_may_be_cold (Some e) label at = used e at _ (refl, tt)
 
-  returned_no_blocks : (e : Option Expression) (at : ℕ) → RunNoBlocks (returned_code names e at)
-  returned_no_blocks None at = (refl, tt)
-  returned_no_blocks (Some e) at = expression_no_blocks names e 0 at
+  pub returned_may_be_cold : (e : Option Expression) (at : ℕ)
+      → AllMayBeCold (returned_code names e at)
+  returned_may_be_cold None at = (refl, tt)
+  returned_may_be_cold (Some e) at = expression_may_be_cold names e 0 at
 
-  initialiser_no_blocks : (x : ℕ) (e : Option Expression) (at : ℕ)
-      → RunNoBlocks (initialiser_code names x e at)
-  initialiser_no_blocks x None at = tt
-  initialiser_no_blocks x (Some e) at = used e at _ (refl, (refl, tt))
+  pub initialiser_may_be_cold : (x : ℕ) (e : Option Expression) (at : ℕ)
+      → AllMayBeCold (initialiser_code names x e at)
+  initialiser_may_be_cold x None at = tt
+  initialiser_may_be_cold x (Some e) at = used e at _ (refl, (refl, tt))
 
-  declared_no_blocks : (ds : List Declared) (at : ℕ) → RunNoBlocks (all_declared_code names ds at)
-  declared_no_blocks [] at = tt
-  declared_no_blocks (d ∷ ds) at =
-      all_append (λ i. runs_blocks i ≡ false) (declared_code names d at) _
-      (refl, initialiser_no_blocks d.local d.value (at + 1)) (declared_no_blocks ds _)
+  pub declared_may_be_cold : (ds : List Declared) (at : ℕ)
+      → AllMayBeCold (all_declared_code names ds at)
+  declared_may_be_cold [] at = tt
+  declared_may_be_cold (d ∷ ds) at =
+      all_append MayBeCold (declared_code names d at) _
+      (refl, initialiser_may_be_cold d.local d.value (at + 1)) (declared_may_be_cold ds _)
 
 -- ---- ranges
 
@@ -171,11 +174,11 @@ module _ (regions : List Region) (code : List Instruction) where
       subst (λ n. AllLead n ys) same k
   lead_append at to (x ∷ xs) ys e h k = (h.0, lead_append (at + 1) to xs ys (omega arith) h.1 k)
 
-  plain_leads : (at : ℕ) (i : Instruction) → runs_blocks i ≡ false → Leads at i
+  plain_leads : (at : ℕ) (i : Instruction) → MayBeCold i → Leads at i
   plain_leads at (LocalUnwind label) e = absurd (cc)
   plain_leads at i e = tt
 
-  pub plain_lead : (at : ℕ) (is : List Instruction) → RunNoBlocks is → AllLead at is
+  pub plain_lead : (at : ℕ) (is : List Instruction) → AllMayBeCold is → AllLead at is
   plain_lead at [] h = tt
   plain_lead at (i ∷ is) h = (plain_leads at i h.0, plain_lead (at + 1) is h.1)
 
@@ -185,9 +188,7 @@ module _ (regions : List Region) (code : List Instruction) where
   jump_leads at (Unwinds label) h = ((omega arith, h.1, h.2), (tt, tt))
 
   return_leads : (at : ℕ) (w : Way) → WayHas (LeadsOn at (at + 2)) w → AllLead at (return_code w)
-  return_leads at Nowhere h = (tt, (tt, tt))
-  return_leads at (Jumps label) h = (tt, (tt, tt))
-  return_leads at (Unwinds label) h = ((omega arith, h.1, h.2), (tt, tt))
+  return_leads at w h = jump_leads at w h
 
   leave_leads : (at : ℕ) (w : Option ℕ) → AllLead at (leave_code w ∷ [])
   leave_leads at None = (tt, tt)
@@ -199,10 +200,10 @@ module _ (regions : List Region) (code : List Instruction) where
   when names c label at rest h =
       let l = expression_length names c 0 at in
       lead_append at (at + expression_size c) (expression_code names c 0 at) _ (omega arith)
-      (plain_lead at (expression_code names c 0 at) (expression_no_blocks names c 0 at)) (tt, h)
+      (plain_lead at (expression_code names c 0 at) (expression_may_be_cold names c 0 at)) (tt, h)
 
   -- what comes after a condition with its jump
-  after_test : (names : Names) (c : Expression) (label at : ℕ) (rest : List Instruction)
+  pub after_test : (names : Names) (c : Expression) (label at : ℕ) (rest : List Instruction)
       → IsSegmentAt code at (expression_code names c 0 at ++ JumpIfZero (Temporary 0) label ∷ rest)
       → IsSegmentAt code (at + expression_size c + 1) rest
   after_test names c label at rest g =
@@ -243,10 +244,10 @@ module _ (regions : List Region) (code : List Instruction) where
         → AllLead at (statement_code scope s at)
     statement_leads (Declare d) scope at to e g w own =
         plain_lead at (declared_code scope.names d at)
-        (refl, initialiser_no_blocks scope.names d.local d.value (at + 1))
+        (refl, initialiser_may_be_cold scope.names d.local d.value (at + 1))
     statement_leads (Block ss) scope at to e g w own = statements_lead ss scope at to e g w own
     statement_leads (Evaluate x) scope at to e g w own =
-        plain_lead at (discarded_code scope.names x at) (discarded_no_blocks scope.names x at)
+        plain_lead at (discarded_code scope.names x at) (discarded_may_be_cold scope.names x at)
     statement_leads (If c s) scope at to e g w own =
         let then = at + expression_size c + 1 in
         let g1 = after_test scope.names c _ at _ g in
@@ -257,24 +258,28 @@ module _ (regions : List Region) (code : List Instruction) where
         let then = at + expression_size c + 1 in
         let skips = then + statement_size s in
         let otherwise = skips + 1 in
+        let last = otherwise + statement_size t in
         let rs = statement_regions s then in
         let qs = statement_regions t otherwise in
         let l = statement_length scope s then in
+        let k = statement_length scope t otherwise in
         let yes = statement_code scope s then in
+        let no = statement_code scope t otherwise in
         let g1 = after_test scope.names c _ at _ g in
         let g2 = back code then skips yes _ (omega arith) g1 in
         when scope.names c _ at _ (lead_append then skips yes _ (omega arith)
         (statement_leads s scope then skips refl (front code then yes _ g1)
         (ways_from at to then skips scope (omega arith) (omega arith) w)
         (front_own at to then skips rs qs (omega arith) (omega arith)
-        (later_outside otherwise (otherwise + statement_size t) then skips qs (omega arith)
+        (later_outside otherwise last then skips qs (omega arith)
         (statement_within t otherwise)) own)) (
           tt,
-          statement_leads t scope otherwise to (omega arith) g2.1
-              (ways_from at to otherwise to scope (omega arith) (omega arith) w)
-              (back_own at to otherwise to rs qs (omega arith) (omega arith)
-              (earlier_outside then skips otherwise to rs (omega arith) (statement_within s then))
-              own),
+          lead_append otherwise last no _ (omega arith)
+              (statement_leads t scope otherwise last refl (front code otherwise no _ g2.1)
+              (ways_from at to otherwise last scope (omega arith) (omega arith) w)
+              (back_own at to otherwise last rs qs (omega arith) (omega arith)
+              (earlier_outside then skips otherwise last rs (omega arith) (statement_within s then))
+              own)) (tt, tt),
         ))
     statement_leads (For ds first c next s) scope at to e g w own =
         let names = scope.names in
@@ -302,11 +307,11 @@ module _ (regions : List Region) (code : List Instruction) where
         let g4 = back code start again turns _ (omega arith) g3 in
         let g5 = back code (again + 1) step steps _ (omega arith) g4.1 in
         lead_append at begin declares _ (omega arith)
-        (plain_lead at declares (declared_no_blocks names ds at))
+        (plain_lead at declares (declared_may_be_cold names ds at))
         (lead_append begin iteration begins _ (omega arith)
-        (plain_lead begin begins (discarded_no_blocks names first begin))
+        (plain_lead begin begins (discarded_may_be_cold names first begin))
         (lead_append iteration start tests _ (omega arith)
-        (plain_lead iteration tests (condition_no_blocks names c end iteration))
+        (plain_lead iteration tests (condition_may_be_cold names c end iteration))
         (lead_append start again turns _ (omega arith)
         (statement_leads s inner start again refl (front code start turns _ g3)
         (looped s scope at to start again end (omega arith) refl (omega arith) (omega arith) g4.0
@@ -314,7 +319,7 @@ module _ (regions : List Region) (code : List Instruction) where
         (narrower at to start again rs (omega arith) (omega arith) own)) (
           tt,
           lead_append (again + 1) step steps _ (omega arith)
-              (plain_lead (again + 1) steps (discarded_no_blocks names next (again + 1)))
+              (plain_lead (again + 1) steps (discarded_may_be_cold names next (again + 1)))
               (tt, (tt, tt)),
         ))))
     statement_leads (DoWhile s c) scope at to e g w own =
@@ -341,7 +346,7 @@ module _ (regions : List Region) (code : List Instruction) where
         let mid = at + returned_size x in
         let l = returned_length scope.names x at in
         lead_append at mid (returned_code scope.names x at) (return_code scope.exit) (omega arith)
-        (plain_lead at (returned_code scope.names x at) (returned_no_blocks scope.names x at))
+        (plain_lead at (returned_code scope.names x at) (returned_may_be_cold scope.names x at))
         (return_leads mid scope.exit (way_from at to mid (mid + 2) scope.exit (omega arith)
         (omega arith) w.exit))
     statement_leads Break scope at to e g w own = jump_leads at scope.loop_end

@@ -16,6 +16,7 @@ pub mod CallRegions
 pub mod UnwindLabels
 pub mod Separators
 pub mod Blind
+pub mod ColdParts
 pub mod PlaceLaws
 pub mod Registers
 pub mod Words

@@ -11,6 +11,7 @@ use Rattle.linear_machine.specs.Frames.{BodyName, body_of}
 use Rattle.seh_ir.specs.Lowered.{lowered}
 use Rattle.lowering_invariants.specs.BlockSeparators.{IsFollowed}
 use Rattle.lowering_invariants.specs.CallRegions.{HasSameRegions}
+use Rattle.lowering_invariants.specs.ColdParts.{HasColdParts}
 use Rattle.lowering_invariants.specs.Separators.{HasSeparators}
 use Rattle.lowering_invariants.specs.UnwindLabels.{StaysInside}
 use Rattle.lowering_invariants.specs.Blind.{IsFilterBody}
@@ -34,6 +35,11 @@ abbrev pub LoweredHasSeparators : Type 0
 LoweredHasSeparators =
     (program : Program) (name : BodyName) (b : LinearBody) → body_of (lowered program) name ≡ Some b
     → HasSeparators name b
+
+abbrev pub LoweredHasColdParts : Type 0
+LoweredHasColdParts =
+    (program : Program) (name : BodyName) (b : LinearBody) → body_of (lowered program) name ≡ Some b
+    → HasColdParts b
 
 -- the flag that says how a `__finally` block is run (Microsoft C language reference,
 -- `AbnormalTermination`) is a local of its body

@@ -52,6 +52,7 @@ pub use Rattle.lowering_expressions.specs.declared.scope.Way.{Way}
 pub use Rattle.lowering_expressions.specs.declared.scope.Way.TheVariants.{Nowhere, Jumps}
 pub use Rattle.seh_ir.specs.Funclets.{finally_funclet, filter_funclet, filter_funclets, in_funclet, statement_funclets, statements_funclets}
 pub use Rattle.seh_ir.specs.Lowered.{own_locals, all_locals, first_separators, scope_of, lowered_function, lowered_funclets, all_funclets, lowered}
+pub use Rattle.seh_ir.specs.ColdParts.{statement_cold, statements_cold}
 pub use Rattle.seh_ir.specs.Regions.{statements_regions, except_kind, region, statement_regions}
 pub use Rattle.seh_ir.specs.Slots.{instruction_temporaries, instruction_passes, temporaries_in, passed_in, body_with, slot_temporaries}
 pub use Rattle.seh_ir.specs.Statements.{statements_code, return_code, returned_code, repeated, jump_code, leave_code, discarded_code, condition_code, initialiser_code, declared_code, all_declared_code, landed, statement_code}

@@ -1,6 +1,6 @@
 //! Laws of places in the linear code of a program.
 
-ghost use Rattle.lowering_invariants.specs.PlaceLaws.{LoweredIsFollowed, LoweredHasSameRegions, LoweredStaysInside, LoweredHasSeparators, LoweredHasFlags, LoweredInformsFilters};
+ghost use Rattle.lowering_invariants.specs.PlaceLaws.{LoweredIsFollowed, LoweredHasSameRegions, LoweredStaysInside, LoweredHasSeparators, LoweredHasColdParts, LoweredHasFlags, LoweredInformsFilters};
 
 /// An instruction that does nothing is after each that runs `__finally` blocks.
 pub fn lowered_is_followed()
@@ -24,6 +24,13 @@ pub fn lowered_stays_inside()
 /// target of a local unwind holds the local unwind too.
 pub fn lowered_has_separators()
     ensures separators { LoweredHasSeparators }
+{}
+
+/// The cold parts of each body are one after another and apart. Nothing falls into one or out of
+/// it, no region holds an instruction of it or begins or ends at one, no local unwind is in it or
+/// leads into it, it doesn't end its body, and it holds a call.
+pub fn lowered_has_cold_parts()
+    ensures cold { LoweredHasColdParts }
 {}
 
 /// The flag of each `__finally` block is one of the locals of its body.

@@ -1,5 +1,5 @@
 -- Choices and returns beside their sets.
-use Rattle.std.proofs.Common.{◌≡◌, ℕ, suc, ◌+◌, List, ◌∷◌, ◌++◌, subst, arith}
+use Rattle.std.proofs.Common.{◌≡◌, ℕ, suc, ◌+◌, List, [], ◌∷◌, ◌++◌, subst, arith}
 use Rattle.std.proofs.lemmas.List.{length-replicate}
 use Rattle.std.specs.Prelude.{true, replicate, Option}
 use Rattle.lowering_locals.specs.Words.{Expression, Statement, If, IfElse, Return, Statements, Then, Temporary, Instruction, Jump, JumpIfZero, LinearProgram, BodyName, expression_size, returned_size, statement_size, statements_size, LoweringContext, expression_code, returned_code, return_code, statement_code, statements_code, SeenNames, IsPart, after_statement, expression_within, optional_within, locals_at, statement_sets, statements_sets, set_in}
@@ -92,21 +92,29 @@ module _ (linear : LinearProgram) (lists : BodyName → List SeenNames) (name : 
       let then = place + 1 in
       let skip = then + statement_size s in
       let otherwise = skip + 1 in
-      let out = otherwise + statement_size t in
+      let last = otherwise + statement_size t in
+      let out = last + 1 in
       let tests = replicate (suc n) seen in
       let yes = statement_sets free seen s in
-      let no = statement_sets free seen t in
+      let branch = statement_sets free seen t in
+      let no = branch ++ seen ∷ [] in
       let ln = length-replicate (suc n) seen in
       let ls = statement_long s free seen in
       let lt = statement_long t free seen in
       let l = expression_length scope.names c 0 at in
       let ly = statement_length scope s then in
-      let same : at + (n + (1 + (statement_size s + (1 + statement_size t)))) ≡ out = omega arith in
+      let lo = statement_length scope t otherwise in
+      let same : at + (n + (1 + (statement_size s + (1 + (statement_size t + 1))))) ≡ out = omega
+      arith in
       let leaves : IsRecordedAt out seen = subst (λ k. IsRecordedAt k seen) same end in
       let h1 = back (lists name) at then tests (yes ++ (seen ∷ no)) (omega arith) h in
       let h2 = back (lists name) then skip yes (seen ∷ no) (omega arith) h1 in
-      let end_no = within (sets name out) seen (after_statement seen t) leaves (grows t seen) in
-      let start_no = begins (lists name) otherwise out no seen (after_statement seen t) h2.1
+      let h3 = back (lists name) otherwise last branch (seen ∷ []) (omega arith) h2.1 in
+      let here_last = head_recorded (lists name) last seen [] h3 in
+      let end_no = within (sets name last) seen (after_statement seen t)
+      (is_same (sets name last) seen here_last) (grows t seen) in
+      let other = front (lists name) otherwise branch (seen ∷ []) h2.1 in
+      let start_no = begins (lists name) otherwise last branch seen (after_statement seen t) other
       (statement_first t free seen) (omega arith) end_no in
       let here_skip = head_recorded (lists name) skip seen no h2 in
       let end_yes = within (sets name skip) seen (after_statement seen s)
@@ -119,11 +127,11 @@ module _ (linear : LinearProgram) (lists : BodyName → List SeenNames) (name : 
       record {
         is_there = first;
         end = end_yes;
-        other_is_at = h2.1;
+        other_is_at = other;
         other_end = end_no;
         leads = λ x y. both_lead linear sets name at place (expression_code scope.names c 0 at)
-            (JumpIfZero (Temporary 0) otherwise
-            ∷ (statement_code scope s then ++ (Jump out ∷ statement_code scope t otherwise)))
+            (JumpIfZero (Temporary 0) otherwise ∷ (statement_code scope s then
+            ++ (Jump out ∷ (statement_code scope t otherwise ++ Jump out ∷ []))))
             (omega arith)
             (value_leads linear lists name locals room scope.names before seen around c at w
             (even_part (sets name) seen at then at place even (omega arith) (omega arith)
@@ -131,8 +139,12 @@ module _ (linear : LinearProgram) (lists : BodyName → List SeenNames) (name : 
               test_leads linear lists name locals room scope.names before seen around place
                   otherwise 0 (even.inside place (omega arith) (omega arith)) start_no start,
               both_lead linear sets name then skip (statement_code scope s then)
-                  (Jump out ∷ statement_code scope t otherwise) (omega arith) x
-                  (from_here linear lists name skip out seen here_skip leaves, y),
+                  (Jump out ∷ (statement_code scope t otherwise ++ Jump out ∷ [])) (omega arith) x (
+                    from_here linear lists name skip out seen here_skip leaves,
+                    both_lead linear sets name otherwise last (statement_code scope t otherwise)
+                        (Jump out ∷ []) (omega arith) y
+                        (from_here linear lists name last out seen here_last leaves, tt),
+                  ),
             );
       }
 

@@ -42,12 +42,13 @@ mutual
       (suc (expression_size c)) (statement_size s) l (statement_long s free seen) ∙ omega arith
   statement_long (IfElse c s t) free seen =
       let l = length-replicate (suc (expression_size c)) seen in
-      let m = statement_long t free seen in
-      let n = two (statement_sets free seen s) (seen ∷ statement_sets free seen t)
-      (statement_size s) (suc (statement_size t)) (statement_long s free seen) (ap suc m) in
-      two (replicate (suc (expression_size c)) seen)
-      (statement_sets free seen s ++ (seen ∷ statement_sets free seen t))
-      (suc (expression_size c)) (statement_size s + suc (statement_size t)) l n ∙ omega arith
+      let no = statement_sets free seen t ++ seen ∷ [] in
+      let m = two (statement_sets free seen t) (seen ∷ []) (statement_size t) 1
+      (statement_long t free seen) refl in
+      let n = two (statement_sets free seen s) (seen ∷ no) (statement_size s)
+      (suc (statement_size t + 1)) (statement_long s free seen) (ap suc m) in
+      two (replicate (suc (expression_size c)) seen) (statement_sets free seen s ++ (seen ∷ no))
+      (suc (expression_size c)) (statement_size s + suc (statement_size t + 1)) l n ∙ omega arith
   statement_long (For ds first c next s) free seen =
       let inner = after_all_declared seen ds in
       let tests = replicate (discarded_size first + condition_size c) inner in
@@ -281,11 +282,15 @@ mutual
       (statement_sets free seen s) (replicate_above (suc (expression_size c)) base seen p)
       (statement_above s free base seen p)
   statement_above (IfElse c s t) free base seen p =
+      let no = statement_sets free seen t ++ seen ∷ [] in
       joined base (replicate (suc (expression_size c)) seen)
-      (statement_sets free seen s ++ (seen ∷ statement_sets free seen t))
+      (statement_sets free seen s ++ (seen ∷ no))
       (replicate_above (suc (expression_size c)) base seen p)
-      (joined base (statement_sets free seen s) (seen ∷ statement_sets free seen t)
-      (statement_above s free base seen p) (p, statement_above t free base seen p))
+      (joined base (statement_sets free seen s) (seen ∷ no) (statement_above s free base seen p) (
+        p,
+        joined base (statement_sets free seen t) (seen ∷ []) (statement_above t free base seen p)
+            (p, tt),
+      ))
   statement_above (For ds first c next s) free base seen p =
       let inner = after_all_declared seen ds in
       let tests = replicate (discarded_size first + condition_size c) inner in

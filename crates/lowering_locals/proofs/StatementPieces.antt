@@ -121,10 +121,7 @@ module _ (linear : LinearProgram) (lists : BodyName → List SeenNames) (name : 
 
   pub return_leads : (w : Way) (at : ℕ) (seen : SeenNames) → WayIn seen w
       → Even (sets name) seen at (at + 2) → Lead at (return_code w)
-  return_leads Nowhere at seen h e = let o = onward at seen e in (o.0, (o.1, tt))
-  return_leads (Jumps label) at seen h e = let o = onward at seen e in (tt, (o.1, tt))
-  return_leads (Unwinds label) at seen h e = let o = onward at seen e in
-      (leads_there at label seen h e, (o.1, tt))
+  return_leads w at seen h e = jump_leads w at seen h e
 
   pub leave_leads : (w : Option ℕ) (at : ℕ) (seen : SeenNames) → LabelIn seen w
       → Even (sets name) seen at (at + 1) → Lead at (leave_code w ∷ [])

@@ -33,7 +33,7 @@ abbrev mutual
       replicate (suc (expression_size c)) seen ++ statement_sets free seen s
   statement_sets free seen (IfElse c s t) =
       replicate (suc (expression_size c)) seen
-      ++ (statement_sets free seen s ++ (seen ∷ statement_sets free seen t))
+      ++ (statement_sets free seen s ++ (seen ∷ (statement_sets free seen t ++ seen ∷ [])))
   statement_sets free seen (For ds first c next s) =
       let inner = after_all_declared seen ds in
       all_declared_sets seen ds

@@ -110,7 +110,7 @@ abbrev mutual
   statement_size (Evaluate e) = discarded_size e
   statement_size (If c s) = expression_size c + (1 + statement_size s)
   statement_size (IfElse c s t) =
-      expression_size c + (1 + (statement_size s + (1 + statement_size t)))
+      expression_size c + (1 + (statement_size s + (1 + (statement_size t + 1))))
   statement_size (For ds first c next s) =
       all_declared_size ds + (discarded_size first + (condition_size c
       + (statement_size s + (1 + (discarded_size next + 2)))))

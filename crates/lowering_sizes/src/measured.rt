@@ -102,7 +102,7 @@ fn measure_loop_or_try(stmt: &Stmt, parts: &mut Vec<u64>) -> Result<u64, AllocEr
 
 /// The size of a statement, with those of its parts put on the stack.
 #[cycle(measure)]
-fn measure(stmt: &Stmt, parts: &mut Vec<u64>) -> Result<u64, AllocError>
+pub fn measure(stmt: &Stmt, parts: &mut Vec<u64>) -> Result<u64, AllocError>
     ensures size { IfOk result (λ n. n ≡ sizes.statement_size (statements.statement stmt.now)) }
     ensures parts { OnOk result (parts.new.items
         ≡ spec.with_parts (statements.statement stmt.now) parts.old.items) }
@@ -127,7 +127,7 @@ fn measure(stmt: &Stmt, parts: &mut Vec<u64>) -> Result<u64, AllocError>
             let other = measure(otherwise, parts)?;
             let size = measure_part(then, parts)?;
             parts.push(other)?;
-            more_size(condition, sum(size, sum(other, 2)?)?)
+            more_size(condition, sum(size, sum(other, 3)?)?)
         }
         Stmt::Return(expr) => return_size(expr),
         Stmt::Break => Ok(2),

@@ -2,11 +2,11 @@
 use Rattle.std.proofs.Common.{◌≡◌, ℕ, suc, ◌+◌, ◌^◌, ◌<◌, ◌≤◌, Bool, true, false, Some, Ok, List, length, drop, refl, sym, ap, subst, ◌∙◌, arith}
 use Rattle.std.specs.Prelude.{slice_get, slice_index}
 use Rattle.std.proofs.lemmas.Bool.{eqb-false, not-true}
-use Rattle.match_bodies.specs.Words.{weight_of, Memory, Rsp, Context, context_of, kept_of, State, register, rsp, word, LinearBody, BodyName, FunctionBody, FuncletBody, body_of, Configuration, StackFrame, frame_of, HasFrame, IsFramed, Setting, Layout, IsWellFormed, AllSmall, IsAsTold, IsOwed, nothing_owed, owed_of, owed_by, caller_owed, get, Reg, KeepsRegisters, InRegister, place_of}
-use Rattle.virtual_unwind.specs.CallerOf.{has_frame, sets_frame}
+use Rattle.match_bodies.specs.Words.{frame_info, weight_of, Memory, Rsp, Context, context_of, kept_of, State, register, rsp, word, LinearBody, BodyName, FunctionBody, FuncletBody, body_of, Configuration, StackFrame, frame_of, HasFrame, IsFramed, Setting, Layout, IsWellFormed, AllSmall, IsAsTold, IsOwed, nothing_owed, owed_of, owed_by, caller_owed, get, Reg, KeepsRegisters, InRegister, place_of}
+use Rattle.virtual_unwind.specs.CallerOf.{base_if, has_frame, sets_frame}
 use Rattle.virtual_unwind.specs.Undone.{operations}
 use Rattle.frame_rules.specs.Bytes.{spell}
-use Rattle.frame_rules.specs.Codes.{depth, is_saved}
+use Rattle.frame_rules.specs.Codes.{are_allowed, depth, is_saved}
 use Rattle.x64_instr.specs.Registers.{number}
 use Rattle.x64_templates.specs.Locals.{is_of_local}
 use Rattle.x64_templates.proofs.Locals.{place_is_local}
@@ -14,7 +14,10 @@ use Rattle.frame_rules.specs.Plan.{FramePlan, epilogue, operations_of}
 use Rattle.frame_rules.proofs.Order.{Ordered, ordered}
 use Rattle.frame_rules.proofs.Planning.{codes_plan, framed_plan, ordered_plan}
 use Rattle.frame_rules.proofs.Undoing.{stack_depth}
-use Rattle.match_stack.specs.Stack.{AreAbove}
+use Rattle.eh_tables.specs.Infos.{Info}
+use Rattle.eh_tables.specs.Tables.{Entry}
+use Rattle.frame_rules.specs.Frame as rules
+use Rattle.match_stack.specs.Stack.{AreAbove, at_entry, teller}
 use Rattle.match_bodies.specs.CodeSites.{body_plan}
 use Rattle.template_code.specs.Frames.{plan_of_layout}
 use Rattle.match_bodies.specs.Layouts.{IsFramePlan, IsLaidOut, IsLayoutIf, saved_count}
@@ -46,6 +49,32 @@ told_with m c c' f e h = subst (λ (ks : List ℕ).
       others = h.others;
       above = h.above;
     })
+
+-- and by another entry that tells the same
+told_by_info : (m : Memory) (c : Context) (e : Entry) (f : StackFrame)
+    → teller f.entry ≡ teller e → IsAsTold m c f → IsAsTold m c (record f { entry = e })
+told_by_info m c e f same h =
+    let ops = λ (i : Info). operations i.codes in
+    let old = at_entry c f in
+    record {
+      offset = subst (λ (i : Info). i.frame_offset ≤ 2 ^ 64) same h.offset;
+      allowed = subst (λ (i : Info). are_allowed i.frame_register (ops i) ≡ true) same h.allowed;
+      base = subst (λ (i : Info). base_if i c (has_frame i) ≡ rsp c) same h.base;
+      stack = subst (λ (i : Info). rules.Stack m old f.return_address (rsp c) (rsp c) (ops i)) same
+          h.stack;
+      framed = subst (λ (i : Info). rules.Framed i.frame_register i.frame_offset (get c) (rsp c)
+          (ops i)) same h.framed;
+      others = subst (λ (i : Info). rules.Others old (get c) (ops i)) same h.others;
+      above = subst (λ (i : Info). AreAbove (rsp c + f.slots) (rsp c) (rsp c) (ops i)) same h.above;
+    }
+
+pub told_by : (m : Memory) (c : Context) (e : Entry) (f : StackFrame)
+    → teller f.entry ≡ teller e → (slots : ℕ) → f.slots ≡ slots → (size : ℕ) → f.size ≡ size
+    → IsAsTold m c f → IsAsTold m c (record f { entry = e; slots = slots; size = size })
+told_by m c e f same slots wide size deep h =
+    subst (λ n. IsAsTold m c (record f { entry = e; slots = slots; size = n })) deep
+    (subst (λ n. IsAsTold m c (record f { entry = e; slots = n })) wide
+    (told_by_info m c e f same h))
 
 -- and so is a body's, where the nonvolatile registers are the same
 pub frame_with : (s : State) (cpu : Cpu) (leaf : Bool) (f : StackFrame)
@@ -146,12 +175,12 @@ module _ (setting : Setting) where
 
     -- its codes are those of its plan
     pub codes_are : p.leaf name ≡ false
-        → operations (p.entry name 0).info.codes ≡ operations_of framing
+        → operations (frame_info p name).codes ≡ operations_of framing
     codes_are e = ap operations (image.plans name b is e).codes ∙ codes_plan spell framing
 
     -- and save the registers of its locals
     locals_saved : p.leaf name ≡ false
-        → SavesLocals (p.layout name) (operations (p.entry name 0).info.codes)
+        → SavesLocals (p.layout name) (operations (frame_info p name).codes)
     locals_saved e x r at = subst (λ ops. is_saved (number r) ops ≡ true) (sym (codes_are e))
         (by name (image.laid_out name b is) e x r at)
       where
@@ -172,7 +201,7 @@ module _ (setting : Setting) where
         local : is_of_local r ≡ true
         local = place_is_local (p.layout name) x r at
 
-        by : (leaf : Bool) → p.leaf name ≡ leaf → IsOwn (owed_by (p.entry name 0).info leaf) r
+        by : (leaf : Bool) → p.leaf name ≡ leaf → IsOwn (owed_by (frame_info p name) leaf) r
         by false e = record {
           local = local;
           saved = locals_saved e x r at;
@@ -184,19 +213,19 @@ module _ (setting : Setting) where
             absurd (leaf_in_none (p.layout name) leaf.in_frame x r at)
 
     -- where it has a frame register, its codes set it
-    sets : p.leaf name ≡ false → has_frame (p.entry name 0).info ≡ true
-        → sets_frame (operations (p.entry name 0).info.codes) ≡ true
+    sets : p.leaf name ≡ false → has_frame (frame_info p name) ≡ true
+        → sets_frame (operations (frame_info p name).codes) ≡ true
     sets e h =
         let same = (image.plans name b is e).frame_register in
         ap sets_frame (codes_are e) ∙ framed_plan framing
-        (λ z. eqb-false (p.entry name 0).info.frame_register 0 (not-true _ h) (same ∙ z))
+        (λ z. eqb-false (frame_info p name).frame_register 0 (not-true _ h) (same ∙ z))
 
     -- what its codes tell of is owed
     pub framed_owed : (m : Memory) (c : Context) (back : ℕ) (others : List ℕ) → p.leaf name ≡ false
         → IsFramed p m name c back others
         → IsOwed m c (owed_of p name) (p.layout name).frame back others
     framed_owed m c back others e h =
-        subst (λ (leaf : Bool). IsOwed m c (owed_by (p.entry name 0).info leaf)
+        subst (λ (leaf : Bool). IsOwed m c (owed_by (frame_info p name) leaf)
         (p.layout name).frame back others) (sym e)
         (record {
           kept = h.kept;
@@ -222,7 +251,7 @@ module _ (setting : Setting) where
         codes_depth = by (p.leaf name) refl
           where
             by : (leaf : Bool) → p.leaf name ≡ leaf
-                → depth (owed_by (p.entry name 0).info leaf).codes ≡ (p.layout name).frame
+                → depth (owed_by (frame_info p name) leaf).codes ≡ (p.layout name).frame
             by false e = ap depth (codes_are e)
                 ∙ plan_depth framing (p.layout name).frame (frame_plan_is e).whole
             by true e = sym (leaf_layout t fs program p q name b e
@@ -230,7 +259,7 @@ module _ (setting : Setting) where
 
     -- nothing that they tell of is below its slots
     above_slots : p.leaf name ≡ false → (at : ℕ)
-        → AreAbove (at + (p.layout name).slots) at at (operations (p.entry name 0).info.codes)
+        → AreAbove (at + (p.layout name).slots) at at (operations (frame_info p name).codes)
     above_slots e at =
         let plan = frame_plan_is e in
         subst (AreAbove (at + (p.layout name).slots) at at) (sym (codes_are e))
@@ -241,7 +270,7 @@ module _ (setting : Setting) where
         → p.leaf name ≡ false → IsOwed m c (owed_of p name) size back others
         → IsFramed p m name c back others
     owed_framed m c size back others e o =
-        let i = (p.entry name 0).info in
+        let i = frame_info p name in
         let h = subst (λ (leaf : Bool). IsOwed m c (owed_by i leaf) size back others) e o in
         let whole = owed_frame m c size back others o in
         let k = subst (λ n. IsOwed m c (owed_by i false) n back others) whole h in
@@ -269,7 +298,7 @@ module _ (setting : Setting) where
     codes_above at = by (p.leaf name) refl
       where
         by : (leaf : Bool) → p.leaf name ≡ leaf → AreAbove (at + (p.layout name).slots) at at
-            (owed_by (p.entry name 0).info leaf).codes
+            (owed_by (frame_info p name) leaf).codes
         by false e = above_slots e at
         by true e =
             let none = (leaf_layout t fs program p q name b e (image.laid_out name b is)).slots in
@@ -284,7 +313,7 @@ module _ (setting : Setting) where
         by : (leaf : Bool) → p.leaf name ≡ leaf → HasFrame s leaf (frame_of p name back others)
         by false e = (owed_framed s.memory (context_of s.cpu) size back others e o).is_told
         by true e =
-            let i = (p.entry name 0).info in
+            let i = frame_info p name in
             let n = at_return s.memory (context_of s.cpu) size back others (subst (λ (leaf : Bool).
             IsOwed s.memory (context_of s.cpu) (owed_by i leaf) size back others) e o) in
             record { returns = n.returns; others = n.others_are }
@@ -338,7 +367,7 @@ module _ (setting : Setting) where
             (record { kept = refl; eight = eight; room = room; is_told = h })
         by true e h =
             let none = (leaf_layout t fs program p q name b e (image.laid_out name b is)).frame in
-            subst (λ (leaf : Bool). IsOwed s.memory c (owed_by (p.entry name 0).info leaf)
+            subst (λ (leaf : Bool). IsOwed s.memory c (owed_by (frame_info p name) leaf)
             (p.layout name).frame back others) (sym e)
             (subst (λ n. IsOwed s.memory c nothing_owed n back others) (sym none)
             (subst (IsOwed s.memory c nothing_owed 0 back) h.others

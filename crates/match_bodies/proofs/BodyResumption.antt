@@ -3,7 +3,9 @@ use Rattle.std.proofs.Common.{◌≡◌, ℕ, ◌+◌, ◌≤◌, Bool, true, fa
 use Rattle.std.specs.Prelude.{slice_set, slice_get, slice_index}
 use Rattle.std.specs.List.{AllByRecursion}
 use Rattle.match_bodies.specs.Words.{Event, STACK_END, Memory, Rsp, Context, context_of, State, register, rsp, Functions, word, Funclet, Layout, Region, LinearProgram, LinearBody, LinearFunclet, BodyName, FunctionBody, FuncletBody, Frame, Item, Waits, Searches, Unwinds, body_of, holds, regions_of, StackFrame, StackItem, Framed, Leaf, FrameIsAt, after_leaf, context_below, IsWellFormed, ImagePlan, InCode, Activation, activations_below, HoldsWords, HasActivation, temporaries_end, home_end, HasSpace, below_end, BodyWaits, HasPointers, IsAbove, FuncletIsAbove, On, Sites, IsLaidOut, IsProgramImage, frame_of, slots_end, last_temporary, HasFrame, InBody, setting_of, IsAsTold, get, now_of, RegistersHold, leaf_values}
-use Rattle.eh_tables.specs.Tables.{Entry}
+use Rattle.eh_tables.specs.Infos.{Info}
+use Rattle.match_stack.specs.Stack.{teller}
+use Rattle.match_bodies.specs.Callers.{frame_info}
 use Rattle.virtual_unwind.specs.Undone.{operations}
 use Rattle.frame_rules.specs.Codes.{depth}
 use Rattle.match_stack.specs.HostUnwind.{on_top}
@@ -13,7 +15,7 @@ use Rattle.match_bodies.proofs.InstructionEffects.{others_of}
 use Rattle.match_bodies.proofs.StackTop.{leaf_layout}
 use Rattle.match_bodies.proofs.FramePlaces.{activation_with}
 use Rattle.match_bodies.proofs.LeafRegisters.{leaf_with}
-use Rattle.match_bodies.proofs.BodyFrames.{codes_are, frame_plan_is, small_others, told_with}
+use Rattle.match_bodies.proofs.BodyFrames.{codes_are, frame_plan_is, small_others, told_by, told_with}
 use Rattle.match_bodies.proofs.FrameCode.{plan_depth}
 
 all_same : (label : ℕ) (rs : List Region) → AllByRecursion
@@ -69,18 +71,20 @@ module _ (t : Functions) (fs : List Funclet) (program : LinearProgram) (p : Imag
         by_funclet f below h = absurd h
 
     module _ (image : IsProgramImage t fs program p q) where
-      -- the entry of a body's instruction is the one that the body begins in
-      same_entry : (f : StackFrame) (name : BodyName) (b : LinearBody) (label : ℕ)
-          → body_of program name ≡ Some b → f.entry ≡ p.entry name label → f.entry ≡ p.entry name 0
-      same_entry f name b label there entry = entry ∙ (image.pieces name b there).entries label 0
+      -- the entry of a body's instruction tells of the body's frame
+      pub same_teller : (f : StackFrame) (name : BodyName) (b : LinearBody) (label : ℕ)
+          → body_of program name ≡ Some b → p.leaf name ≡ false → f.entry ≡ p.entry name label
+          → teller f.entry ≡ frame_info p name
+      same_teller f name b label there leaf entry =
+          ap teller entry ∙ (image.one_frame name b there leaf).tells label
 
       pub frame_size : (m : Memory) (c : Context) (f : StackFrame) (name : BodyName)
           (b : LinearBody) (label : ℕ)
           → body_of program name ≡ Some b → p.leaf name ≡ false → f.entry ≡ p.entry name label
           → FrameIsAt t m c f → f.size ≡ (p.layout name).frame
       frame_size m c f name b label there leaf entry s =
-          let codes = ap (λ (e : Entry). operations e.info.codes)
-          (same_entry f name b label there entry)
+          let codes = ap (λ (i : Info). operations i.codes)
+          (same_teller f name b label there leaf entry)
           ∙ codes_are (setting_of t fs program p q image) name b there leaf in
           let plan = frame_plan_is (setting_of t fs program p q image) name b there leaf in
           let d =
@@ -88,19 +92,16 @@ module _ (t : Functions) (fs : List Funclet) (program : LinearProgram) (p : Imag
           let h = told_depth m c f s.is_told in
           omega arith
 
-      -- it is the body's
-      pub frame_is : (m : Memory) (c : Context) (f : StackFrame) (name : BodyName) (b : LinearBody)
-          (label : ℕ)
+      -- and its frame is as told by the entry that the body begins in
+      pub frame_told : (m : Memory) (c : Context) (f : StackFrame) (name : BodyName)
+          (b : LinearBody) (label : ℕ)
           → body_of program name ≡ Some b → p.leaf name ≡ false → f.entry ≡ p.entry name label
           → f.slots ≡ (p.layout name).slots → FrameIsAt t m c f
-          → f ≡ frame_of p name f.return_address f.others
-      frame_is m c f name b label there leaf entry slots s = λ i. record {
-        entry = same_entry f name b label there entry i;
-        slots = slots i;
-        size = frame_size m c f name b label there leaf entry s i;
-        return_address = f.return_address;
-        others = f.others;
-      }
+          → IsAsTold m c (frame_of p name f.return_address f.others)
+      frame_told m c f name b label there leaf entry slots s =
+          told_by m c (p.entry name 0) f (same_teller f name b label there leaf entry)
+          (p.layout name).slots slots (p.layout name).frame
+          (frame_size m c f name b label there leaf entry s) s.is_told
 
       -- ---- on top of the list
 
@@ -160,9 +161,7 @@ module _ (t : Functions) (fs : List Funclet) (program : LinearProgram) (p : Imag
             frame = subst (λ (leaf : Bool). HasFrame u leaf (frame_of p name f.return_address
                 f.others)) (sym l.0.framed)
                 (told_with m c (context_of u.cpu) (frame_of p name f.return_address f.others) same
-                (subst (IsAsTold m c)
-                (frame_is m c f name w.code w.label w.body l.0.framed l.0.entry l.0.slots s.0)
-                s.0.is_told));
+                (frame_told m c f name w.code w.label w.body l.0.framed l.0.entry l.0.slots s.0));
             is = is;
             below = subst (λ x. On t fs program p m (context_below f.return_address x f.others) is
                 below (activations_below name acts)) up

@@ -3,7 +3,7 @@
 use Rattle.std.proofs.Common.{◌≡◌, ℕ, ◌+◌, ◌-◌, ◌≤◌, Bool, true, false, Some, None, List, [], ◌∷◌, ◌++◌, length, refl, sym, ap, subst, ◌∙◌, arith, append_assoc}
 use Rattle.std.specs.Prelude.{slice_get, slice_index}
 use Rattle.std.proofs.lemmas.List.{append-nil}
-use Rattle.match_bodies.specs.Words.{Memory, Rsp, Instr, Context, State, register, with_rip, Instruction, LinearBody, BodyName, body_of, size, sizes, thunk, IsNear, call, template, IsReturn, Steps, HasCode, HasThunk, StackItem, Framed, Leaf, ItemIsAt, OwnedBy, context_after, context_below, is_call, KeepsShadow, AllKeep, links_of, frame_at_label, FindsReturn, FindsOwed, Owed, IsOwed, nothing_owed, owed_of, owed_by, Setting, IsResumed, Indirect}
+use Rattle.match_bodies.specs.Words.{frame_info, Memory, Rsp, Instr, Context, State, register, with_rip, Instruction, LinearBody, BodyName, body_of, size, sizes, thunk, IsNear, call, template, IsReturn, Steps, HasCode, HasThunk, StackItem, Framed, Leaf, ItemIsAt, OwnedBy, context_after, context_below, is_call, KeepsShadow, AllKeep, links_of, frame_at_label, FindsReturn, FindsOwed, Owed, IsOwed, nothing_owed, owed_of, owed_by, Setting, IsResumed, Indirect}
 use Rattle.x64_instr.specs.declared.operand.Base.TheVariants as bases
 use Rattle.x64_instr.specs.declared.operand.RegisterOrMemory.TheVariants as places
 use Rattle.match_bodies.proofs.Lemmas.{thunk_encodable, code_split, straight, keep_first, frame_low}
@@ -13,7 +13,8 @@ use Rattle.match_bodies.proofs.BodyFrames.{codes_above, owed_framed, owed_frame,
 use Rattle.match_bodies.proofs.OwedCallers.{at_return}
 use Rattle.match_bodies.proofs.RoutineWalks.{read_here, effect_here, StepsTo, steps_split, keeps_split, Beneath, beneath_stays, callers_above, gives_above, AllPlain, plain_steady, Finds, Ran, ran}
 use Rattle.match_bodies.proofs.ShadowTurns.{called, owed_called, call_keeps_shadow, beneath_callee}
-use Rattle.match_bodies.proofs.ReturnAddresses.{resumed_found, within_found, template_there}
+use Rattle.match_bodies.proofs.ReturnAddresses.{resumed_found, within_found}
+use Rattle.match_bodies.proofs.LabelPlaces.{template_there}
 use Rattle.match_bodies.specs.Setting.{HasProgram}
 
 module _ (setting : Setting) where
@@ -182,7 +183,7 @@ module _ (setting : Setting) where
               }
           by true e =
               let high = beneath.above.high in
-              let i = (p.entry name 0).info in
+              let i = frame_info p name in
               let n = at_return v.memory from_here first.beneath.size back others
               (subst (λ (leaf : Bool). IsOwed v.memory from_here (owed_by i leaf)
               first.beneath.size back others) e owes) in

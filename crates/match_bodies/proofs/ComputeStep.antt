@@ -199,7 +199,7 @@ module _ (setting : Setting) (roomy : HaveRoom setting.program) (s : State)
       ∙ writes to value m fits next in
       let lt = inside (stored to value m) acts body b.body.slots.body in
       let at = next_address setting roomy s c b counted
-      (instructions.Compute to o first second) e in
+      (instructions.Compute to o first second) e refl in
       let small = label_small setting roomy s c b counted around (c.frame.next + 1)
       lt in
       let run : Computed (frame setting roomy s c b counted) to o first second

@@ -1,6 +1,6 @@
 -- From a routine's first byte its frame is made, and the shadow is kept.
 use Rattle.std.proofs.Common.{◌≡◌, ℕ, ◌+◌, ◌^◌, ◌<◌, ◌≤◌, Bool, true, false, List, length, Some, sym, ap, subst, arith}
-use Rattle.match_bodies.specs.Words.{Rsp, context_of, State, register, AllSmall, LinearBody, BodyName, body_of, sizes, StackItem, AllKeep, begin_of, making_size, frame_code, Owed, nothing_owed, owed_of, owed_by, Setting}
+use Rattle.match_bodies.specs.Words.{frame_info, Rsp, context_of, State, register, AllSmall, LinearBody, BodyName, body_of, sizes, StackItem, AllKeep, begin_of, making_size, frame_code, Owed, nothing_owed, owed_of, owed_by, Setting}
 use Rattle.frame_rules.specs.Plan.{FramePlan}
 use Rattle.x64_templates.specs.Prologues.{prologue_turns}
 use Rattle.match_bodies.specs.CodeSites.{body_plan}
@@ -52,7 +52,7 @@ module _ (setting : Setting) where
           (λ l. sizes (frame_code framing l)) leaf in
           subst (FrameMade 0 e) r (record {
             keeps = tt;
-            beneath = subst (λ l. Beneath t e (owed_by (p.entry name 0).info l) top from back others
+            beneath = subst (λ l. Beneath t e (owed_by (frame_info p name) l) top from back others
                 list) (sym leaf) beneath;
             has = has;
             rip = omega arith;

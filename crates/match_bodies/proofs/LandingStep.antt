@@ -98,7 +98,7 @@ module _ (setting : Setting) (roomy : HaveRoom setting.program) (s : State)
       let acts = lands to value landed fits in
       let lt = inside (taken_over to value) acts body b.body.slots.body in
       let at = next_address setting roomy s c b counted (instructions.Landing to)
-      e in
+      e refl in
       let near = label_small setting roomy s c b counted around (c.frame.next + 1)
       lt in
       let y = p.layout c.frame.body in

@@ -1,13 +1,12 @@
 -- The lemmas of the crates below that files of this crate cite.
 pub use Rattle.x64_encode.proofs.Lengths.{longest}
 pub use Rattle.template_code.proofs.Lengths.{compute_length, keep_length}
-pub use Rattle.template_code.proofs.Sizes.{call_size, sizes_spelled, sizes_append, body_sizes, template_sizes, arrives, short, jump_if_zero_size, offset_next, jump_size, call_code_size, passing_call_size}
+pub use Rattle.template_code.proofs.Sizes.{call_size, sizes_spelled, sizes_append, body_sizes, template_sizes, arrives, short, jump_if_zero_size, jump_size, call_code_size, passing_call_size}
 pub use Rattle.x64_templates.proofs.Chains.{all_turns, rest_of}
 pub use Rattle.x64_templates.proofs.Computes.{code_split, compute_run, Begun, operands_run, Worked, work_run}
 pub use Rattle.x64_templates.proofs.Encoded.{near, Fine}
 pub use Rattle.x64_templates.proofs.Flows.{work_flow, separator_flow, jump_flow, keep_flow, operands_flow, information_flow, jump_if_zero_flow, IsFlow}
-pub use Rattle.x64_templates.proofs.InstructionRuns.{body_instruction_run, LabelsNear, body_most, labels_near}
-pub use Rattle.x64_templates.proofs.Linked.{template_placed}
+pub use Rattle.x64_templates.proofs.InstructionRuns.{instruction_run, LabelsNear}
 pub use Rattle.x64_templates.proofs.PlacedCode.{thunk_encodable, Encodable, same_number, bytes_kept, outside_page, bytes_split, spells, reads, all_may}
 pub use Rattle.match_runs.proofs.Shadows.{past_frame, straight, keep_first, HeadAbove, call_keeps, return_keeps, past_host, at_end, head_above, unique, none_below, one_below}
 pub use Rattle.match_stack.proofs.ItemVisits.{set_head, frame_is_visited, leaf_is_visited, search_is_passed, unwinding_is_passed}

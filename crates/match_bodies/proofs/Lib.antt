@@ -13,6 +13,7 @@ pub mod OwedCallers
 pub mod BodyFrames
 pub mod BodyResumption
 pub mod TemplateSizes
+pub mod LabelPlaces
 pub mod ReturnAddresses
 pub mod PrologueInstructions
 pub mod PrologueSteps

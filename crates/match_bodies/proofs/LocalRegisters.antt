@@ -19,7 +19,7 @@ use Rattle.frame_rules.specs.Frame as rules
 use Rattle.frame_rules.proofs.Planning.{nonvolatile_number}
 use Rattle.frame_rules.proofs.Undoing.{framed_saved}
 use Rattle.template_code.specs.Frames.{frame_register_if}
-use Rattle.match_stack.specs.Stack.{AreAbove, told}
+use Rattle.match_stack.specs.Stack.{AreAbove, teller, told}
 use Rattle.x64_templates.specs.Locals.{is_of_local}
 use Rattle.x64_templates.proofs.Locals.{locals_stay}
 
@@ -203,10 +203,10 @@ module _ (y : Layout) (c c' : Cpu) (keeps : KeepsRegisters y c.registers c'.regi
 
   -- so the frame is as told with these registers too
   pub told_kept : (m : Memory) (f : StackFrame) (framed : Bool) → SavesLocals y (told f)
-      → f.entry.info.frame_register ≡ frame_register_if framed
+      → (teller f.entry).frame_register ≡ frame_register_if framed
       → IsAsTold m (context_of c) f → IsAsTold m (context_of c') f
   told_kept m f framed saves register h =
-      let i = f.entry.info in
+      let i = teller f.entry in
       let up = sym same_stack in
       let frame = same_frame framed i.frame_register register in
       let entry : ℕ → Context = λ n. record {

@@ -3,8 +3,7 @@
 use Rattle.std.specs.Prelude.{slice_set}
 use Rattle.std.proofs.Common.{◌≡◌, ◌≢◌, ℕ, ◌+◌, ◌^◌, ◌<◌, ◌≤◌, Bool, true, false, Ok, List, [], ◌∷◌, length, drop, refl, sym, ap, subst, ◌∙◌, arith, inl, inr}
 use Rattle.std.proofs.lemmas.Bool.{cases_eq, false≢true}
-use Rattle.match_bodies.specs.Words.{Memory, Protection, with_bytes, Context, rsp, get, Functions, word, caller_above, caller_owed, HasCaller, FindsReturn, Owed, IsOwed, nothing_owed, owed_by, owed_of, ImagePlan, BodyName, StackFrame, IsAsTold, Reg}
-use Rattle.eh_tables.specs.Tables.{Entry}
+use Rattle.match_bodies.specs.Words.{frame_info, Memory, Protection, with_bytes, Context, rsp, get, Functions, word, caller_above, caller_owed, HasCaller, FindsReturn, Owed, IsOwed, nothing_owed, owed_by, owed_of, ImagePlan, BodyName, StackFrame, IsAsTold, Reg}
 use Rattle.eh_tables.specs.Infos.{Info}
 use Rattle.eh_tables.specs.declared.code.UnwindOperation.{UnwindOperation}
 use Rattle.eh_tables.specs.declared.code.UnwindOperation.TheVariants.{Push, Allocate, SetFrame, Save, SaveVector, MachineFrame}
@@ -13,7 +12,7 @@ use Rattle.virtual_unwind.specs.Contexts.{is_nonvolatile}
 use Rattle.x64_templates.specs.Locals.{is_of_local}
 use Rattle.frame_rules.specs.Codes.{depth, is_saved}
 use Rattle.frame_rules.specs.Frame as rules
-use Rattle.match_stack.specs.Stack.{AreAbove, IsSavedAt}
+use Rattle.match_stack.specs.Stack.{teller, AreAbove, IsSavedAt}
 use Rattle.match_stack.proofs.FrameWords.{saved_low, saved_high, stack_same}
 use Rattle.virtual_unwind.specs.CallerOf.{base_if, sets_frame}
 use Rattle.frame_rules.proofs.Order.{Ordered, framed_above}
@@ -169,13 +168,13 @@ module _ (m : Memory) (c : Context) (o : Owed) (size back : ℕ) (others : List 
 
 -- of a body that waits the codes of its frame are owed
 pub frame_is_owed : (p : ImagePlan) (name : BodyName) (m : Memory) (c : Context) (f : StackFrame)
-    → p.leaf name ≡ false → f.entry ≡ p.entry name 0 → length c.kept ≡ 9 → length f.others ≡ 8
-    → rsp c + f.size + 8 < 2 ^ 64 → IsAsTold m c f
+    → p.leaf name ≡ false → teller f.entry ≡ frame_info p name → length c.kept ≡ 9
+    → length f.others ≡ 8 → rsp c + f.size + 8 < 2 ^ 64 → IsAsTold m c f
     → IsOwed m c (owed_of p name) f.size f.return_address f.others
-frame_is_owed p name m c f framed entry kept eight room h =
-    subst (λ (leaf : Bool). IsOwed m c (owed_by (p.entry name 0).info leaf) f.size f.return_address
+frame_is_owed p name m c f framed same kept eight room h =
+    subst (λ (leaf : Bool). IsOwed m c (owed_by (frame_info p name) leaf) f.size f.return_address
     f.others) (sym framed)
-    (subst (λ (e : Entry). IsOwed m c (owed_by e.info false) f.size f.return_address f.others) entry
+    (subst (λ (i : Info). IsOwed m c (owed_by i false) f.size f.return_address f.others) same
     (record {
       kept = kept;
       eight = eight;

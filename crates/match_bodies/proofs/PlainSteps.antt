@@ -3,10 +3,11 @@ use Rattle.std.proofs.Common.{◌≡◌, ℕ, zero, suc, ◌+◌, ◌*◌, ◌^�
 use Rattle.std.specs.Prelude.{nat_eq, slice_get, slice_index, slice_set}
 use Rattle.std.proofs.lemmas.List.{append-nil}
 use Rattle.std.proofs.lemmas.Option.{slice_get_within}
-use Rattle.match_bodies.specs.Words.{Event, Memory, State, Slot, Local, Temporary, Instruction, BodyState, IsSlot, LinearBody, body_of, Configuration, Next, local_of, read, forth, with_some, act, Layout, machine, InstructionDone, ReachesBody, template, template_size, body_size, offset_of, counts_of, locals_of, Moves, HaveRoom, links_of, turns_left, with_values, Setting, RepresentsAt, JumpsTo, IsHeld, at_label, with_last, pick, tested, IsReached}
+use Rattle.match_bodies.specs.Words.{Event, Memory, State, Slot, Local, Temporary, Instruction, BodyState, IsSlot, LinearBody, body_of, Configuration, Next, local_of, read, forth, with_some, act, machine, InstructionDone, ReachesBody, template, template_size, counts_of, locals_of, Moves, HaveRoom, links_of, turns_left, with_values, Setting, RepresentsAt, JumpsTo, IsHeld, at_label, with_last, pick, tested, IsReached}
 use Rattle.linear_code.specs.declared.instruction.Instruction.TheVariants as instructions
 use Rattle.linear_code.specs.Meaning as meanings
 use Rattle.lowering_invariants.specs.Registers.{SlotHas, SlotsHave}
+use Rattle.match_bodies.proofs.LabelPlaces.{label_near}
 use Rattle.match_bodies.proofs.ActivationPlaces.{locals_count}
 use Rattle.match_bodies.proofs.ActivationStores.{activated, same_activations}
 use Rattle.match_bodies.proofs.BodyViews.{IsCounted, placed, count, slots_here, locals_here}
@@ -16,14 +17,6 @@ use Rattle.match_bodies.proofs.TemplateSlots.{Leaves}
 use Rattle.match_bodies.proofs.TemplateRuns.{code, frame, slots, v, same_state, done, has_slots, next_address, Surroundings, to_label, RunsSpare, template_spared}
 use Rattle.match_bodies.proofs.TemplateShadows.{RunsKeep}
 use Rattle.match_bodies.proofs.TemplateKeeping.{separator_keeps, jump_keeps, jump_if_zero_keeps}
-
--- an instruction of a body begins within it
-offset_most : (y : Layout) (body : List Instruction) (number : ℕ)
-    → offset_of y body number ≤ body_size y body
-offset_most y [] zero = omega arith
-offset_most y [] (suc number) = omega arith
-offset_most y (i ∷ body) zero = omega arith
-offset_most y (i ∷ body) (suc number) = let r = offset_most y body number in omega arith
 
 -- an element of a front of a list
 taken : (i : ℕ) (xs : List ℕ) (j v : ℕ) → slice_get (take i xs) j ≡ Some v → slice_get xs j ≡ Some v
@@ -168,10 +161,7 @@ module _ (setting : Setting) (roomy : HaveRoom setting.program) where
 
     pub label_small : (label : ℕ) → label < length body.code → p.address c.frame.body label < 2 ^ 64
     label_small label lt =
-        let a = image.addresses c.frame.body body b.body.slots.body in
-        let high = a.inside.high in
-        let most = offset_most (p.layout c.frame.body) body.code label in
-        let e = a.labels label in
+        let n = (label_near setting c.frame.body body b.body.slots.body label).1 in
         omega arith
 
     pub jump_step : (label : ℕ) → c.frame.landed ≡ None
@@ -252,7 +242,7 @@ module _ (setting : Setting) (roomy : HaveRoom setting.program) where
         let r = done setting roomy s c b counted instructions.Separator e in
         let most = r.most in
         let lt = inside (forth (with_last [] c)) (λ next. refl) body b.body.slots.body in
-        let at = next_address setting roomy s c b counted instructions.Separator e in
+        let at = next_address setting roomy s c b counted instructions.Separator e refl in
         let small = label_small (c.frame.next + 1) lt in
         moves_within 1 instructions.Separator 1 (c.frame.next + 1)
         (s.cpu.rip + template_size (p.layout c.frame.body) instructions.Separator) slots_now
@@ -392,7 +382,7 @@ module _ (setting : Setting) (roomy : HaveRoom setting.program) where
             to_tested slot label turns (s.cpu.rip
             + template_size (p.layout c.frame.body) (instructions.JumpIfZero slot label))
             (c.frame.next + 1) free (sym (next_address setting roomy s c b counted
-            (instructions.JumpIfZero slot label) e))
+            (instructions.JumpIfZero slot label) e refl))
             (from_here turns (s.cpu.rip + template_size (p.layout c.frame.body)
             (instructions.JumpIfZero slot label)) slots_now d.follows) held inside keep spare
             (continues slot label r.value r.reads (ap (λ x. nat_eq x 0) (sym r.same) ∙ z)) d.least

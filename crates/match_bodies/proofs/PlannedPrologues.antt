@@ -3,7 +3,8 @@ use Rattle.std.proofs.Common.{◌≡◌, ℕ, ◌+◌, ◌^◌, ◌<◌, ◌≤�
 use Rattle.std.specs.Prelude.{nat_le, if◌then◌else◌}
 use Rattle.std.specs.List.{flat_map}
 use Rattle.std.proofs.lemmas.Bool.{and_parts, leb-false}
-use Rattle.match_bodies.specs.Words.{Memory, W32, W64, Rax, Rsp, Instr, State, size, AllSmall, LinearBody, BodyName, body_of, sizes, IsNear, call, code_from, HasCode, StackItem, AllKeep, links_of, begin_of, making_size, frame_code, arguments_code, entry_code, FindsOwed, Owed, nothing_owed, owed_of, owed_by, Setting, is_encodable}
+use Rattle.template_code.specs.ColdParts.{hot_code}
+use Rattle.match_bodies.specs.Words.{frame_info, Memory, W32, W64, Rax, Rsp, Instr, State, size, AllSmall, LinearBody, BodyName, body_of, sizes, IsNear, call, code_from, HasCode, StackItem, AllKeep, links_of, begin_of, making_size, frame_code, arguments_code, entry_code, FindsOwed, Owed, nothing_owed, owed_of, owed_by, Setting, is_encodable}
 use Rattle.eh_tables.specs.Infos.{Info}
 use Rattle.eh_tables.specs.declared.code.UnwindCode.{UnwindCode}
 use Rattle.eh_tables.specs.declared.code.UnwindOperation.{UnwindOperation}
@@ -66,7 +67,7 @@ module _ (setting : Setting) where
         × HasCode m (begin + making_size p q name) (arguments_code program p name)
     frame_there m has =
         let entry = code_split m begin (entry_code program p q name)
-        (code_from (links_of p q name) (p.layout name) (p.address name 0) b.code)
+        (code_from (links_of p q name) (p.layout name) (p.address name 0) (hot_code b))
         (has.code name b is) in
         code_split m begin (frame_code (body_plan p q name) (p.leaf name))
         (arguments_code program p name) entry.0
@@ -114,7 +115,7 @@ module _ (setting : Setting) where
       framing = body_plan p q name
 
       abbrev info : Info
-      info = (p.entry name 0).info
+      info = (frame_info p name)
 
       abbrev f : ℕ
       f = framing.frame

@@ -1,8 +1,9 @@
 -- The program stays in a memory in which no byte of the image has changed.
 use Rattle.std.proofs.Common.{◌≡◌, ℕ, ◌+◌, ◌<◌, ◌≤◌, true, Some, List, [], ◌∷◌, length, sym, ap, subst, ◌∙◌, arith}
-use Rattle.match_bodies.specs.Words.{Service, address_of, Protection, is_readable, is_writable, Memory, Functions, Funclet, Instr, is_reserved, LinearProgram, LinearBody, BodyName, body_of, spelled, sizes, thunk, check_stack, code_from, body_size, HasCode, HasThunk, ImagePlan, Sites, links_of, begin_of, entry_code, code_of, service_of, HasService, HasProgram, IsProgramImage, IMAGE_BASE, IMAGE_RANGE_END, IsInImage}
+use Rattle.match_bodies.specs.Words.{Service, address_of, Protection, is_readable, is_writable, Memory, Functions, Funclet, Instr, is_reserved, LinearProgram, LinearBody, BodyName, body_of, spelled, sizes, thunk, check_stack, code_from, body_size, HasCode, HasThunk, ImagePlan, Sites, links_of, begin_of, entry_code, code_of, cold_code_of, service_of, HasService, HasProgram, IsProgramImage, IMAGE_BASE, IMAGE_RANGE_END, IsInImage}
 use Rattle.host_layout.specs.declared.service.Service.TheVariants as services
 use Rattle.match_bodies.proofs.Lemmas.{sizes_spelled, sizes_append, body_sizes, same_number}
+use Rattle.template_code.specs.ColdParts.{hot_code, cold_code}
 use Rattle.x64_templates.specs.Placed.{IsCodeAt}
 use Rattle.x64_templates.proofs.Services.{thunk_size}
 
@@ -93,15 +94,15 @@ module _ (t : Functions) (fs : List Funclet) (program : LinearProgram) (p : Imag
     module _ (image : IsProgramImage t fs program p q) where
       code_size : (name : BodyName) (b : LinearBody) → body_of program name ≡ Some b
           → begin_of p q name + sizes (code_of program p q name b)
-          ≡ p.address name 0 + body_size (p.layout name) b.code
+          ≡ p.address name 0 + body_size (p.layout name) (hot_code b)
       code_size name b e =
           let a = image.addresses name b e in
           omega (
             arith,
             a.first,
             sizes_append (entry_code program p q name)
-                (code_from (links_of p q name) (p.layout name) (p.address name 0) b.code),
-            body_sizes (links_of p q name) (p.layout name) (p.address name 0) b.code,
+                (code_from (links_of p q name) (p.layout name) (p.address name 0) (hot_code b)),
+            body_sizes (links_of p q name) (p.layout name) (p.address name 0) (hot_code b),
           )
 
       pub program_stays : (m m' : Memory) → KeepsImage program.globals m m'
@@ -109,11 +110,19 @@ module _ (t : Functions) (fs : List Funclet) (program : LinearProgram) (p : Imag
       program_stays m m' keeps h = record {
         code = λ name b e.
             let inside = there m m' (begin_of p q name)
-            (p.address name 0 + body_size (p.layout name) b.code) keeps
+            (p.address name 0 + body_size (p.layout name) (hot_code b)) keeps
             (image.addresses name b e).inside in
             has_code_there m m' (begin_of p q name) (code_of program p q name b)
             (subst (SameThere m m' (begin_of p q name)) (sym (code_size name b e)) inside)
             (h.code name b e);
+        cold_code = λ name b e.
+            let size = body_sizes (links_of p q name) (p.layout name) (q.cold name) (cold_code b) in
+            let inside = there m m' (q.cold name)
+            (q.cold name + body_size (p.layout name) (cold_code b)) keeps
+            (image.addresses name b e).cold_inside in
+            has_code_there m m' (q.cold name) (cold_code_of p q name b)
+            (subst (λ n. SameThere m m' (q.cold name) (q.cold name + n)) (sym size) inside)
+            (h.cold_code name b e);
         thunks = λ f called. service_there m m' (q.thunk f) (service_of f) keeps
             (h.thunks f called);
         local_unwind = service_there m m' q.local_unwind services.LocalUnwind keeps h.local_unwind;

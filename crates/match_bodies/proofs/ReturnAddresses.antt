@@ -1,11 +1,11 @@
 -- Where an image's code is, a walk finds the return address of its routine.
-use Rattle.std.proofs.Common.{◌≡◌, ℕ, ◌+◌, ◌<◌, ◌≤◌, Bool, true, false, Some, List, [], ◌∷◌, ◌++◌, length, get_or, refl, sym, ap, subst, ◌∙◌, arith, inl, inr}
+use Rattle.std.proofs.Common.{◌≡◌, ℕ, ◌+◌, ◌<◌, ◌≤◌, Bool, true, false, Some, List, [], ◌∷◌, ◌++◌, length, refl, sym, ap, subst, ◌∙◌, arith, inl, inr}
 use Rattle.std.specs.Prelude.{slice_get, slice_set}
-use Rattle.std.proofs.lemmas.Option.{slice_get_cases, slice_get_within, get_or_from_slice_get}
+use Rattle.std.proofs.lemmas.Option.{slice_get_cases}
 use Rattle.std.proofs.lemmas.List.{append-nil}
-use Rattle.match_bodies.specs.Words.{Memory, Rax, Instr, Context, rsp, Instruction, LinearBody, BodyName, body_of, sizes, fetch, template, offset_of, code_from, IsReturn, HasCode, after_frame, after_leaf, links_of, begin_of, making_size, frame_code, arguments_code, entry_code, frame_at_label, caller_left, HasCaller, FindsOwed, IsOwed, owed_of, owed_by, Setting, IsResumed}
+use Rattle.match_bodies.specs.Words.{Memory, Rax, Instr, Context, rsp, Instruction, LinearBody, BodyName, body_of, sizes, fetch, template, IsReturn, after_frame, after_leaf, links_of, begin_of, making_size, frame_code, arguments_code, frame_at_label, caller_left, HasCaller, FindsOwed, IsOwed, owed_of, owed_by, frame_info, Setting, IsResumed}
 use Rattle.linear_code.specs.declared.instruction.Instruction.TheVariants as instructions
-use Rattle.match_bodies.proofs.Lemmas.{sizes_append, template_sizes, code_split, template_placed, frame_is_visited, leaf_is_visited}
+use Rattle.match_bodies.proofs.Lemmas.{sizes_append, template_sizes, frame_is_visited, leaf_is_visited}
 use Rattle.match_bodies.specs.CodeSites.{body_plan}
 use Rattle.match_bodies.proofs.BodyFrames.{owed_framed, owed_frame}
 use Rattle.match_bodies.proofs.OwedCallers.{first_set, at_return}
@@ -56,7 +56,7 @@ module _ (setting : Setting) where
             } in
             subst (λ n. HasCaller t m c (caller_left c n back others)) (sym deep) k
         by true e =
-            let i = (p.entry name 0).info in
+            let i = frame_info p name in
             let n = at_return m c size back others (subst (λ (leaf : Bool).
             IsOwed m c (owed_by i leaf) size back others) e o) in
             let room = o.room in
@@ -126,23 +126,3 @@ module _ (setting : Setting) where
           | inl x ↦ subst (λ a. FindsOwed t m a (owed_of p name)) z (label_found 0 x.0 x.2)
           | inr x ↦ let le = x.0 in absurd (omega arith)
         ]
-
-    -- the code of an instruction
-    pub template_there : (label : ℕ) (i : Instruction) → slice_get b.code label ≡ Some i
-        → HasCode m (p.address name label) (template (links_of p q name) (p.layout name)
-        (p.address name label) i)
-    template_there label i at =
-        let a = image.addresses name b is in
-        let y = p.layout name in
-        let k = links_of p q name in
-        let same : get_or b.code label instructions.Separator
-        ≡ i = get_or_from_slice_get b.code label i instructions.Separator at in
-        let h = code_split m (begin_of p q name) (entry_code program p q name)
-        (code_from k y (p.address name 0) b.code) (has.code name b is) in
-        let all = subst (λ x. HasCode m x (code_from k y (p.address name 0) b.code)) (sym a.first)
-        h.1 in
-        subst (λ x. HasCode m x (template k y x i)) (sym (a.labels label))
-        (subst (λ j. HasCode m (p.address name 0 + offset_of y b.code label)
-        (template k y (p.address name 0 + offset_of y b.code label) j)) same
-        (template_placed k y m (p.address name 0) b.code label instructions.Separator all
-        (slice_get_within b.code label i at)))

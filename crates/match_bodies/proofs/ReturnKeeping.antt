@@ -4,7 +4,7 @@ use Rattle.std.proofs.Common.{◌≡◌, ℕ, suc, ◌+◌, ◌^◌, ◌<◌, �
 use Rattle.std.specs.Prelude.{slice_get}
 use Rattle.std.proofs.lemmas.Bool.{and_parts, eqb-true, false≢true}
 use Rattle.std.proofs.lemmas.List.{append-nil}
-use Rattle.match_bodies.specs.Words.{Memory, Rax, Rsp, Instr, State, register, get, AllSmall, Functions, Funclet, Slot, Local, Temporary, LinearBody, BodyName, body_of, Layout, size, sizes, is_encodable, fetch, fetch_local, local_at, Steps, HasCode, StackItem, KeepsShadow, AllKeep, context_below, FindsReturn, FindsOwed, Owed, nothing_owed, owed_of, owed_by, Setting, return_code, Place, InRegister, InFrame, Arriving, place_of, fetch_placed}
+use Rattle.match_bodies.specs.Words.{frame_info, Memory, Rax, Rsp, Instr, State, register, get, AllSmall, Functions, Funclet, Slot, Local, Temporary, LinearBody, BodyName, body_of, Layout, size, sizes, is_encodable, fetch, fetch_local, local_at, Steps, HasCode, StackItem, KeepsShadow, AllKeep, context_below, FindsReturn, FindsOwed, Owed, nothing_owed, owed_of, owed_by, Setting, return_code, Place, InRegister, InFrame, Arriving, place_of, fetch_placed}
 use Rattle.eh_tables.specs.declared.code.UnwindOperation.{UnwindOperation}
 use Rattle.x64_instr.specs.Registers as numbers
 use Rattle.x64_instr.specs.declared.instruction.Instr.TheVariants as instrs
@@ -38,7 +38,7 @@ use Rattle.match_bodies.proofs.SilentTurns.{program_kept}
 use Rattle.match_bodies.proofs.RoutineWalks.{code_next, StepsTo, steps_split, keeps_split, Beneath, AllPlain, plain_steady, Finds, Ran, ran}
 use Rattle.match_bodies.proofs.ShadowTurns.{return_keeps_shadow, returned_others}
 use Rattle.match_bodies.proofs.InstructionEffects.{others_of}
-use Rattle.match_bodies.proofs.ReturnAddresses.{template_there}
+use Rattle.match_bodies.proofs.LabelPlaces.{template_there}
 use Rattle.match_bodies.proofs.PrologueSteps.{of_codes, fits, holds}
 use Rattle.match_bodies.proofs.EpilogueSteps.{none_left, opening_made, pop_made, returns_found}
 use Rattle.match_bodies.proofs.LoadSteps.{load_made, loads_done}
@@ -128,14 +128,14 @@ module _ (setting : Setting) where
     owed_is framed =
         let h = image.plans name b is framed in
         let codes' = ap operations h.codes ∙ codes_plan spell framing in
-        ap (owed_by (p.entry name 0).info) framed ∙ (λ j. record {
+        ap (owed_by (frame_info p name)) framed ∙ (λ j. record {
           register = h.frame_register j;
           offset = h.frame_offset j;
           codes = codes' j;
         })
 
     owed_none : p.leaf name ≡ true → owed ≡ nothing_owed
-    owed_none leaf = ap (owed_by (p.entry name 0).info) leaf
+    owed_none leaf = ap (owed_by (frame_info p name)) leaf
 
     -- where nothing is saved, the codes but for the saves are all
     bare_is : framing.saves ≡ [] → owed_opening framing ≡ of_codes f offset (operations_of framing)

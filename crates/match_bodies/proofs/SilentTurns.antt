@@ -4,7 +4,8 @@ use Rattle.std.proofs.Common.{◌≡◌, ◌≢◌, ℕ, zero, suc, ◌+◌, ◌
 use Rattle.std.specs.Prelude.{slice_get}
 use Rattle.std.proofs.lemmas.Bool.{ne_eqb}
 use Rattle.std.proofs.lemmas.Option.{slice_get_cases}
-use Rattle.match_bodies.specs.Words.{W64, Event, Service, address_of, Protection, is_readable, is_writable, Memory, executable, may_write, Rsp, Instr, leading, chosen, State, Functions, distance, Funclet, arrivals, LinearProgram, LinearFunclet, FuncletBody, LinearBody, BodyName, body_of, spelled, thunk, check_stack, code_from, Steps, Reaches, RunsInside, ReachesInside, Enters, HasCode, HasThunk, ImagePlan, AllKeep, Comes, Sites, begin_of, making_size, frame_code, arguments_code, entry_code, links_of, code_of, service_of, HasService, HasProgram, IsProgramImage, funclet_body, takes_frame, Runs, IsLive}
+use Rattle.template_code.specs.ColdParts.{hot_code}
+use Rattle.match_bodies.specs.Words.{W64, Event, Service, address_of, Protection, is_readable, is_writable, Memory, executable, may_write, Rsp, Instr, leading, chosen, State, Functions, distance, Funclet, arrivals, LinearProgram, LinearFunclet, FuncletBody, LinearBody, BodyName, body_of, spelled, thunk, check_stack, code_from, Steps, Reaches, RunsInside, ReachesInside, Enters, HasCode, HasThunk, ImagePlan, AllKeep, Comes, Sites, begin_of, making_size, frame_code, arguments_code, entry_code, links_of, code_of, cold_code_of, service_of, HasService, HasProgram, IsProgramImage, funclet_body, takes_frame, Runs, IsLive}
 use Rattle.host_layout.specs.declared.service.Service.TheVariants as services
 use Rattle.x64_instr.specs.declared.operand.RegisterOrMemory.TheVariants as places
 use Rattle.x64_instr.specs.declared.operand.Operand.TheVariants as operands
@@ -71,6 +72,8 @@ module _ (t : Functions) (fs : List Funclet) (program : LinearProgram) (p : Imag
     program_kept m m' k h = record {
       code = λ name b e. code_kept m m' (begin_of p q name) (code_of program p q name b) k
           (h.code name b e);
+      cold_code = λ name b e. code_kept m m' (q.cold name) (cold_code_of p q name b) k
+          (h.cold_code name b e);
       thunks = λ f called. service_kept m m' (q.thunk f) (service_of f) k (h.thunks f called);
       local_unwind = service_kept m m' q.local_unwind services.LocalUnwind k h.local_unwind;
       check_stack = code_kept m m' q.check_stack check_stack k h.check_stack;
@@ -125,7 +128,7 @@ module _ (t : Functions) (fs : List Funclet) (program : LinearProgram) (p : Imag
           let first = frame_code (body_plan p q name) (p.leaf name) in
           let all = has.code name f.body is in
           let entry = code_split m (p.funclet k) (entry_code program p q name)
-          (code_from (links_of p q name) y (p.address name 0) f.body.code) all in
+          (code_from (links_of p q name) y (p.address name 0) (hot_code f.body)) all in
           let frame = code_split m (p.funclet k) first (arguments_code program p name) entry.0 in
           entered_by m (p.funclet k) y.frame j n (omega arith)
           (subst (HasCode m (p.funclet k)) (made_small y (body_plan p q name).probe

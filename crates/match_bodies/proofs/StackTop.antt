@@ -5,6 +5,12 @@ use Rattle.match_bodies.specs.Words.{weight_of, Rsp, context_of, State, register
 use Rattle.match_bodies.proofs.Lemmas.{in_stack}
 use Rattle.match_bodies.specs.ProgramImages.{IsResumed}
 use Rattle.match_bodies.specs.Bodies.{IsLeafFrame}
+use Rattle.eh_tables.specs.Tables.{Entry}
+use Rattle.virtual_unwind.specs.CallerOf.{entry_of}
+
+-- what is there is one
+entry_is : (a b : Entry) → Some a ≡ Some b → a ≡ b
+entry_is a b e = cc
 
 module _ (t : Functions) (fs : List Funclet) (program : LinearProgram) (p : ImagePlan) (q : Sites)
   where
@@ -46,14 +52,17 @@ module _ (t : Functions) (fs : List Funclet) (program : LinearProgram) (p : Imag
       pub is : List StackItem
       pub on : On t fs program p u.memory (context_of u.cpu) is (Waits c.frame ∷ c.below) acts
 
-    -- a body whose frame is there, with the one entry of all its instructions
+    -- a body whose frame is there, with the entry of the instruction whose code RIP is in
     pub framed_top : (u : State) (c : Configuration) (label : ℕ) (at : InBody t fs program p q u c)
-        → ((other : ℕ) → p.entry c.frame.body label ≡ p.entry c.frame.body other)
+        → p.entry c.frame.body label ≡ p.entry c.frame.body at.slots.label
         → p.leaf c.frame.body ≡ false → FrameIsAt t u.memory (context_of u.cpu)
         (frame_at_label p c.frame.body label at.back at.others) → OnTop u c at.acts
-    framed_top u c label at one e f =
+    framed_top u c label at same e f =
         let name = c.frame.body in
         let y = p.layout name in
+        let w = subst (λ (leaf : Bool). (w : BodyWaits t fs program p u.memory (context_of u.cpu)
+        (now_of leaf u.cpu) (slots_end y leaf) (last_temporary y name leaf) c.frame at.acts)
+        × (w.label ≡ at.slots.label)) e (at.slots, refl) in
         record {
           is = Framed (frame_at_label p name label at.back at.others) ∷ at.is;
           on = record {
@@ -64,10 +73,8 @@ module _ (t : Functions) (fs : List Funclet) (program : LinearProgram) (p : Imag
                   framed = e;
                   slots = refl;
                   small = at.small;
-                  waits = subst (λ (leaf : Bool). BodyWaits t fs program p u.memory
-                      (context_of u.cpu) (now_of leaf u.cpu)
-                      (slots_end y leaf) (last_temporary y name leaf) c.frame at.acts) e at.slots;
-                  entry = one _;
+                  waits = w.0;
+                  entry = same ∙ ap (p.entry name) (sym w.1);
                   pointers = at.pointers;
                   returns = at.returns_to;
                 },
@@ -146,13 +153,23 @@ module _ (t : Functions) (fs : List Funclet) (program : LinearProgram) (p : Imag
             };
           }
 
+      -- the entry that is found by RIP is that of each instruction whose code it is in
+      pub one_entry : (u : State) (c : Configuration) (label : ℕ) (at : InBody t fs program p q u c)
+          → p.leaf c.frame.body ≡ false
+          → entry_of t u.cpu.rip ≡ Some (p.entry c.frame.body label)
+          → p.entry c.frame.body label ≡ p.entry c.frame.body at.slots.label
+      one_entry u c label at e found =
+          entry_is (p.entry c.frame.body label) (p.entry c.frame.body at.slots.label)
+          (sym found ∙ (image.one_frame c.frame.body at.slots.code at.slots.body e).found
+          at.slots.label u.cpu.rip at.slots.instruction)
+
       framed_on_top : (u : State) (c : Configuration) (label : ℕ) (at : InBody t fs program p q u c)
           → IsResumed t fs program p q c.frame.body at.slots.code label u.cpu.rip
           → HasProgram t fs program p q u.memory → p.leaf c.frame.body ≡ false → OnTop u c at.acts
       framed_on_top u c label at resumed has e =
-          framed_top u c label at ((image.pieces c.frame.body at.slots.code at.slots.body).entries
-          label) e (image.frames u.memory c.frame.body at.slots.code label
-          (context_of u.cpu) at.back at.others at.slots.body e has resumed (framed_here u c at e))
+          let f = image.frames u.memory c.frame.body at.slots.code label (context_of u.cpu) at.back
+          at.others at.slots.body e has resumed (framed_here u c at e) in
+          framed_top u c label at (one_entry u c label at e f.found) e f
 
       leaf_on_top : (u : State) (c : Configuration) (label : ℕ) (at : InBody t fs program p q u c)
           → IsResumed t fs program p q c.frame.body at.slots.code label u.cpu.rip

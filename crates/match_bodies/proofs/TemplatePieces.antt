@@ -3,7 +3,8 @@ use Rattle.std.proofs.Common.{◌≡◌, ℕ, ◌+◌, ◌^◌, ◌<◌, Some, L
 use Rattle.std.specs.Prelude.{slice_get}
 use Rattle.match_bodies.specs.Words.{Memory, Rsp, Instr, Context, kept_of, State, register, Instruction, LinearBody, BodyName, body_of, sizes, template, Reaches, HasCode, IsReturn, AllKeep, links_of, FindsOwed, owed_of, Setting, WalkGives}
 use Rattle.match_bodies.proofs.Lemmas.{sizes_append, code_split, IsFlow}
-use Rattle.match_bodies.proofs.ReturnAddresses.{within_found, template_there}
+use Rattle.match_bodies.proofs.ReturnAddresses.{within_found}
+use Rattle.match_bodies.proofs.LabelPlaces.{template_there}
 use Rattle.match_bodies.proofs.FlowKeeping.{IsBelow, below_both, from_state, flow_keeps}
 use Rattle.match_bodies.specs.Setting.{HasProgram}
 

@@ -1,10 +1,11 @@
 -- A run of a template of the body that runs, and the turn of linear code that it is.
-use Rattle.std.proofs.Common.{◌≡◌, ℕ, suc, ◌+◌, ◌^◌, ◌<◌, true, Option, Some, None, List, [], length, get_or, refl, sym, ap, subst, ◌∙◌, arith}
+use Rattle.std.proofs.Common.{◌≡◌, ℕ, ◌+◌, ◌^◌, ◌<◌, true, Option, Some, None, List, [], length, get_or, refl, sym, ap, subst, ◌∙◌}
 use Rattle.std.specs.Prelude.{slice_get}
 use Rattle.std.proofs.lemmas.Option.{slice_get_within, get_or_from_slice_get}
-use Rattle.match_bodies.specs.Words.{Event, Rsp, State, register, distance, arrivals, Instruction, BodyState, LinearBody, BodyName, FuncletBody, Configuration, Layout, template, template_size, code_from, offset_of, MachineView, machine, HasCode, ReachesBody, InstructionDone, Comes, HaveRoom, links_of, begin_of, entry_code, seen_by_templates, counts_of, frame_at, state_of, OwnerHasFrame, Setting, RepresentsAt, HasSlots, step, FramePlace, OtherRegisters, AreArrived, KeepsArrivals, IsSpare, IsReturn, Reaches, arrived_in, parameter_register}
-use Rattle.linear_code.specs.declared.instruction.Instruction.TheVariants as instructions
-use Rattle.match_bodies.proofs.Lemmas.{offset_next, code_split, body_instruction_run, template_placed, LabelsNear}
+use Rattle.match_bodies.specs.Words.{Event, Rsp, State, register, distance, arrivals, Instruction, BodyState, LinearBody, BodyName, FuncletBody, Configuration, Layout, template, template_size, MachineView, machine, HasCode, ReachesBody, InstructionDone, Comes, HaveRoom, links_of, seen_by_templates, counts_of, frame_at, state_of, OwnerHasFrame, Setting, RepresentsAt, HasSlots, step, FramePlace, OtherRegisters, AreArrived, KeepsArrivals, IsSpare, IsReturn, Reaches, arrived_in, parameter_register}
+use Rattle.match_bodies.proofs.Lemmas.{instruction_run, LabelsNear}
+use Rattle.template_code.specs.ColdParts.{falls_through}
+use Rattle.match_bodies.proofs.LabelPlaces.{template_there, labels_near, code_ends, address_next}
 use Rattle.x64_templates.specs.CallStates.{sp_of}
 use Rattle.x64_instr.specs.Registers.{number}
 use Rattle.x64_templates.proofs.SparedRegisters.{run_spares, template_spares, parameter_number}
@@ -13,7 +14,7 @@ use Rattle.match_bodies.proofs.StackTop.{leaf_layout, arrives_in_leaf}
 use Rattle.match_bodies.proofs.ArrivedParameters.{each, arriving_is, keeps_arrivals}
 use Rattle.match_bodies.proofs.SilentTurns.{reaches_silently}
 use Rattle.match_bodies.proofs.HomeSpace.{CallerHasFrame}
-use Rattle.match_bodies.proofs.TemplateShadows.{is_after, ends_at, near_here, RunsKeep}
+use Rattle.match_bodies.proofs.TemplateShadows.{is_after, ends_at, RunsKeep}
 use Rattle.match_bodies.proofs.BodyViews.{IsCounted, is_machine, room_here, holds_here, placed}
 use Rattle.match_bodies.proofs.ChainKeeping.{reaches_keeps, stays_well_formed}
 use Rattle.match_bodies.proofs.TemplateSlots.{Leaves}
@@ -60,58 +61,31 @@ module _ (setting : Setting) (roomy : HaveRoom setting.program) where
     pub same_state : s ≡ machine v s.cpu.rip s.cpu.flags
     same_state = is_machine s b.well_formed.count
 
-    -- the instructions, one after another
-    pub body_code : HasCode s.memory (p.address name 0)
-        (code_from (links_of p q name) y (p.address name 0) code.code)
-    body_code =
-        let a = image.addresses name code b.body.slots.body in
-        let h = code_split s.memory (begin_of p q name) (entry_code program p q name)
-        (code_from (links_of p q name) y (p.address name 0) code.code)
-        (b.memory.code.code name code b.body.slots.body) in
-        subst (λ x. HasCode s.memory x (code_from (links_of p q name) y (p.address name 0)
-        code.code)) (sym a.first) h.1
-
     -- the template of an instruction
     pub template_here : (i : Instruction) → slice_get code.code c.frame.next ≡ Some i
         → HasCode s.memory s.cpu.rip (template (links_of p q name) y s.cpu.rip i)
     template_here i e =
-        let a = image.addresses name code b.body.slots.body in
-        let g = get_or_is code.code c.frame.next i instructions.Separator e in
-        let at : p.address name 0 + offset_of y code.code c.frame.next
-        ≡ s.cpu.rip = sym (a.labels c.frame.next) ∙ sym b.rip in
-        subst (λ x. HasCode s.memory x (template (links_of p q name) y x i)) at
-        (subst (λ j. HasCode s.memory (p.address name 0 + offset_of y code.code c.frame.next)
-        (template (links_of p q name) y (p.address name 0 + offset_of y code.code c.frame.next)
-        j)) g.0
-        (template_placed (links_of p q name) y s.memory (p.address name 0) code.code c.frame.next
-        instructions.Separator body_code g.1))
+        subst (λ x. HasCode s.memory x (template (links_of p q name) y x i)) (sym b.rip)
+        (template_there setting name code b.body.slots.body s.memory b.memory.code c.frame.next i e)
 
     pub has_slots : (i : Instruction) → slice_get code.code c.frame.next ≡ Some i
         → HasSlots (counts_of code) i
     has_slots i e = each (HasSlots (counts_of code)) code.code c.frame.next i
         (roomy name code b.body.slots.body).slots e
 
-    -- the next instruction is right after the template
+    -- the next instruction is right after the template, where this one falls through
     pub next_address : (i : Instruction) → slice_get code.code c.frame.next ≡ Some i
+        → falls_through i ≡ true
         → p.address name (c.frame.next + 1) ≡ s.cpu.rip + template_size y i
-    next_address i e =
-        let a = image.addresses name code b.body.slots.body in
-        let g = get_or_is code.code c.frame.next i instructions.Separator e in
-        let o = offset_next y code.code c.frame.next instructions.Separator g.1 in
-        let z : template_size y (get_or code.code c.frame.next instructions.Separator)
-        ≡ template_size y i = ap (template_size y) g.0 in
-        let n : offset_of y code.code (c.frame.next + 1)
-        ≡ offset_of y code.code (suc c.frame.next) =
-        (let k : c.frame.next + 1 ≡ suc c.frame.next = omega arith in
-        ap (offset_of y code.code) k) in
-        omega (arith, a.labels (c.frame.next + 1), a.labels c.frame.next, b.rip, n, o, z)
+    next_address i e falls =
+        address_next setting name code b.body.slots.body c.frame.next i e falls
+        ∙ ap (λ n. n + template_size y i) (sym b.rip)
 
     -- where the instruction's code ends
     pub code_end : (i : Instruction) → slice_get code.code c.frame.next ≡ Some i
         → p.after name c.frame.next ≡ s.cpu.rip + template_size y i
-    code_end i e =
-        let g = get_or_is code.code c.frame.next i instructions.Separator e in
-        (image.pieces name code b.body.slots.body).ends c.frame.next g.1 ∙ next_address i e
+    code_end i e = code_ends setting name code b.body.slots.body c.frame.next i e
+        ∙ ap (λ n. n + template_size y i) (sym b.rip)
 
     -- the parameters that stay in registers are there
     pub are_here : AreArrived frame v
@@ -130,23 +104,11 @@ module _ (setting : Setting) (roomy : HaveRoom setting.program) where
         → InstructionDone frame (links_of p q name) v s.cpu.rip s.cpu.flags slots i
         (step frame.reserved i slots)
     done i e =
-        let a = image.addresses name code b.body.slots.body in
-        let low = a.inside.low in
-        let high = a.inside.high in
-        let g = get_or_is code.code c.frame.next i instructions.Separator e in
-        let at : p.address name 0 + offset_of y code.code c.frame.next
-        ≡ s.cpu.rip = sym (a.labels c.frame.next) ∙ sym b.rip in
-        let first = a.first in
-        subst (λ j. InstructionDone frame (links_of p q name) v s.cpu.rip s.cpu.flags slots j
-        (step frame.reserved j slots)) g.0
-        (subst (λ x. InstructionDone frame (links_of p q name) v x s.cpu.flags slots
-        (get_or code.code c.frame.next instructions.Separator)
-        (step frame.reserved (get_or code.code c.frame.next instructions.Separator) slots)) at
-        (body_instruction_run frame (links_of p q name) (p.address name 0) code.code c.frame.next v
-        s.cpu.flags slots (room_here setting s c b counted) a.labels (omega arith) (omega arith) g.1
-        (subst (HasSlots (counts_of code)) (sym g.0) (has_slots i e))
-        (subst (KeepsArrivals y) (sym g.0) (keeps_here i e)) are_here sp_is
-        (holds_here setting s c b counted) body_code))
+        instruction_run frame (links_of p q name) i v s.cpu.rip s.cpu.flags slots
+        (room_here setting s c b counted) (has_slots i e) (keeps_here i e) are_here
+        (subst (λ x. LabelsNear (links_of p q name) y x i) (sym b.rip)
+        (labels_near setting name code b.body.slots.body c.frame.next i e)) sp_is
+        (holds_here setting s c b counted) (template_here i e)
 
     -- a run over the template leaves them where they are
     abbrev pub RunsSpare : ℕ → Type 0
@@ -161,8 +123,8 @@ module _ (setting : Setting) (roomy : HaveRoom setting.program) where
         (image.laid_out name code b.body.slots.body) in
         let spare = each IsSpare code.code c.frame.next i l.spares e in
         let links = links_of p q name in
-        let near = subst (λ a. LabelsNear links y a i) (sym b.rip) (near_here setting s c b counted
-        i e goes) in
+        let near = subst (λ a. LabelsNear links y a i) (sym b.rip)
+        (labels_near setting name code b.body.slots.body c.frame.next i e) in
         run_spares (template links y s.cpu.rip i) s u
         (template_encodable frame links (room_here setting s c b counted) i s.cpu.rip
         (has_slots i e) near spare goes)

@@ -1,12 +1,11 @@
 -- The walk from a body that runs gives its caller and those of the list below, also where a
 -- template's run has come; so each turn of that run keeps the shadow.
-use Rattle.std.proofs.Common.{◌≡◌, ℕ, suc, ◌+◌, ◌^◌, ◌<◌, ◌≤◌, true, Some, List, [], ◌∷◌, ◌++◌, length, get_or, refl, sym, ap, subst, ◌∙◌, arith, append_assoc, length-append}
+use Rattle.std.proofs.Common.{◌≡◌, ℕ, ◌+◌, ◌^◌, ◌<◌, ◌≤◌, true, Some, List, [], ◌∷◌, ◌++◌, length, get_or, refl, sym, ap, subst, ◌∙◌, arith, append_assoc, length-append}
 use Rattle.std.specs.Prelude.{slice_get, slice_index}
 use Rattle.std.proofs.lemmas.List.{append-nil}
-use Rattle.std.proofs.lemmas.Option.{slice_get_within, get_or_from_slice_get}
-use Rattle.match_bodies.specs.Words.{Memory, Rsp, Instr, Context, context_of, kept_of, State, register, Instruction, BodyState, LinearBody, FuncletBody, Configuration, is_reserved, Layout, sizes, template, template_size, Agrees, IsBytes, Reaches, IsReturn, WalkGives, AllKeep, links_of, FindsOwed, Owed, owed_of, counts_of, state_of, OwnerHasFrame, Setting, RepresentsAt, MachineView, OtherRegisters, local_registers, other_registers, registers_of, FrameHolds, frame_at, arrived_in, GivesCallers, state}
-use Rattle.linear_code.specs.declared.instruction.Instruction.TheVariants as instructions
-use Rattle.match_bodies.proofs.Lemmas.{offset_next, IsFlow, LabelsNear, body_most, labels_near}
+use Rattle.match_bodies.specs.Words.{Memory, Rsp, Instr, Context, context_of, kept_of, State, register, Instruction, BodyState, LinearBody, FuncletBody, Configuration, is_reserved, Layout, sizes, template, Agrees, IsBytes, Reaches, IsReturn, WalkGives, AllKeep, links_of, FindsOwed, Owed, owed_of, counts_of, state_of, OwnerHasFrame, Setting, RepresentsAt, MachineView, OtherRegisters, local_registers, other_registers, registers_of, FrameHolds, frame_at, arrived_in, GivesCallers, state}
+use Rattle.match_bodies.proofs.Lemmas.{IsFlow, LabelsNear}
+use Rattle.match_bodies.proofs.LabelPlaces.{labels_near}
 use Rattle.x64_templates.proofs.Bodies.{holds_same, changes_same}
 use Rattle.match_bodies.proofs.StackWalks.{callers, on_stack, keep_then}
 use Rattle.match_bodies.proofs.SilentTurns.{program_kept}
@@ -251,16 +250,4 @@ module _ (setting : Setting) (s : State) (c : Configuration)
     pub near_here : LabelsNear (links_of p q c.frame.body) layout_here
         (p.address c.frame.body c.frame.next) i
     near_here =
-        let a = image.addresses c.frame.body code_here b.body.slots.body in
-        let lt = slice_get_within code_here.code c.frame.next i at in
-        let same = ap (template_size layout_here)
-        (get_or_from_slice_get code_here.code c.frame.next i instructions.Separator at) in
-        let next = offset_next layout_here code_here.code c.frame.next instructions.Separator lt in
-        let most = body_most layout_here code_here.code (suc c.frame.next) in
-        let low = a.inside.low in
-        let high = a.inside.high in
-        let first = a.first in
-        subst (λ x. LabelsNear (links_of p q c.frame.body) layout_here x i)
-        (sym (a.labels c.frame.next))
-        (labels_near (links_of p q c.frame.body) layout_here (p.address c.frame.body 0)
-        code_here.code c.frame.next i a.labels (omega arith) (omega arith) (omega arith))
+        labels_near setting c.frame.body code_here b.body.slots.body c.frame.next i at

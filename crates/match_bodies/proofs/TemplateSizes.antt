@@ -1,5 +1,5 @@
 -- Where an instruction begins, RIP is in its code: each template has a byte at least.
-use Rattle.std.proofs.Common.{◌≡◌, ℕ, suc, ◌+◌, ◌*◌, ◌%◌, ◌<◌, ◌≤◌, List, ◌++◌, length, get_or, Option, Some, None, ap, ◌∙◌, arith, length-append}
+use Rattle.std.proofs.Common.{◌≡◌, ℕ, ◌+◌, ◌*◌, ◌%◌, ◌<◌, ◌≤◌, List, ◌++◌, length, Option, Some, None, arith, length-append}
 use Rattle.seh_num.specs.declared.width.Width.TheVariants.{W64}
 use Rattle.template_code.specs.Operations.{move, work}
 use Rattle.match_bodies.specs.Words.{Width, Reg, Rax, Rcx, Rsp, RegisterOrMemory, Functions, Funclet, Slot, Local, Temporary, Instruction, LinearProgram, LinearBody, BodyName, body_of, Layout, size, sizes, fetched, local_at, fetch_local, keep_local, fetch, keep, operands_code, finish_code, template_size, ImagePlan, InCode, Sites, IsProgramImage, prefixes, modrm_bits, opcode_bytes, place_bytes, modrm, put_back, finally_arguments, Place, InRegister, InFrame, Arriving, parameter_register, place_of, fetch_placed, keep_placed}
@@ -8,7 +8,7 @@ use Rattle.x64_encode.specs.declared.writing.Opcode.TheVariants as opcodes
 use Rattle.linear_code.specs.declared.instruction.Instruction.TheVariants as instructions
 use Rattle.frame_rules.specs.Plan.{epilogue}
 use Rattle.template_code.specs.Frames.{plan_of_layout}
-use Rattle.match_bodies.proofs.Lemmas.{sizes_append, call_size, jump_size, jump_if_zero_size, call_code_size, passing_call_size, offset_next}
+use Rattle.match_bodies.proofs.Lemmas.{sizes_append, call_size, jump_size, jump_if_zero_size, call_code_size, passing_call_size}
 
 -- ---- bytes
 
@@ -97,27 +97,6 @@ template_some y (instructions.Return from) = omega
 
 module _ (t : Functions) (fs : List Funclet) (program : LinearProgram) (p : ImagePlan) (q : Sites)
     (image : IsProgramImage t fs program p q) where
-  -- the next instruction's code begins where this one's ends
-  pub address_next : (name : BodyName) (b : LinearBody) (label : ℕ) → body_of program name ≡ Some b
-      → label < length b.code → p.address name (label + 1)
-      ≡ p.address name label + template_size (p.layout name)
-      (get_or b.code label instructions.Separator)
-  address_next name b label e lt =
-      let a = (image.addresses name b e).labels in
-      let n : label + 1 ≡ suc label = omega arith in
-      let o = offset_next (p.layout name) b.code label instructions.Separator lt in
-      let x = a label in
-      let z = ap (p.address name) n ∙ a (suc label) in
-      omega arith
-
-  -- this one's code ends after its template
-  pub code_ends : (name : BodyName) (b : LinearBody) (label : ℕ) → body_of program name ≡ Some b
-      → label < length b.code → p.after name label
-      ≡ p.address name label + template_size (p.layout name)
-      (get_or b.code label instructions.Separator)
-  code_ends name b label e lt = (image.pieces name b e).ends label lt
-      ∙ address_next name b label e lt
-
   pub first_in_code : (name : BodyName) (b : LinearBody) (label : ℕ) → body_of program name ≡ Some b
       → label < length b.code → InCode p name label (p.address name label)
   first_in_code name b label e lt =

@@ -14,7 +14,7 @@ use Rattle.virtual_unwind.specs.Undone.{operations}
 use Rattle.linear_machine.specs.Frames.{BodyName}
 use Rattle.seh_walk.specs.Walk as walk
 use Rattle.seh_walk.specs.Walk.{visited}
-use Rattle.match_stack.specs.Stack.{StackItem, Framed, Leaf, Searching, Unwinding, after_frame, after_leaf}
+use Rattle.match_stack.specs.Stack.{StackItem, Framed, Leaf, Searching, Unwinding, after_frame, after_leaf, teller}
 use Rattle.match_stack.specs.ImagePlan.{ImagePlan}
 use Rattle.match_stack.specs.PlainWalks.{state}
 
@@ -109,5 +109,9 @@ owed_opening f =
 abbrev pub owed_pops : FramePlan → List ℕ → Owed
 owed_pops f left = record { register = f.frame; offset = f.distance; codes = pushed left }
 
+-- what tells of a body's frame: the entry that the body begins in
+abbrev pub frame_info : ImagePlan → BodyName → Info
+frame_info p name = teller (p.entry name 0)
+
 abbrev pub owed_of : ImagePlan → BodyName → Owed
-owed_of p name = owed_by (p.entry name 0).info (p.leaf name)
+owed_of p name = owed_by (frame_info p name) (p.leaf name)

@@ -17,15 +17,17 @@ use Rattle.template_code.specs.Frames.{plan_of_layout, probing}
 use Rattle.template_code.specs.Calls as calls
 use Rattle.template_code.specs.Calls.{keep_register, parameters_code}
 use Rattle.template_code.specs.Template.{Links, code_from}
+use Rattle.template_code.specs.ColdParts.{hot_code, cold_code}
 use Rattle.frame_rules.specs.Bytes.{prologue_code}
 use Rattle.frame_rules.specs.Plan.{FramePlan}
 use Rattle.frame_rules.specs.Plan as rules
 use Rattle.match_stack.specs.ImagePlan.{ImagePlan}
 
--- the first bytes of functions, the thunks of the built-in functions and of `_local_unwind`, and
--- `__chkstk`
+-- the first bytes of functions, where the cold parts of a body begin, the thunks of the built-in
+-- functions and of `_local_unwind`, and `__chkstk`
 pub record Sites : Type 0 where
   pub function : ℕ → ℕ
+  pub cold : BodyName → ℕ
   pub thunk : BuiltIn → ℕ
   pub local_unwind : ℕ
   pub check_stack : ℕ
@@ -111,8 +113,13 @@ entry_code program p q name =
     frame_code (body_plan p q name) (p.leaf name)
     ++ arguments_code program p name
 
--- all of its code
+-- all of its code but that of its cold parts
 abbrev pub code_of : LinearProgram → ImagePlan → Sites → BodyName → LinearBody → List Instr
 code_of program p q name b =
     entry_code program p q name ++ code_from (links_of p q name) (p.layout name)
-    (p.address name 0) b.code
+    (p.address name 0) (hot_code b)
+
+-- and theirs
+abbrev pub cold_code_of : ImagePlan → Sites → BodyName → LinearBody → List Instr
+cold_code_of p q name b =
+    code_from (links_of p q name) (p.layout name) (q.cold name) (cold_code b)

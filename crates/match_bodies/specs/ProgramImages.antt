@@ -1,5 +1,5 @@
 -- What an image has of a linear program: its code in memory, and what is known of its addresses.
-use Rattle.std.specs.Prelude.{◌≡◌, ◌≢◌, ℕ, ◌+◌, ◌^◌, ◌<◌, ◌≤◌, Bool, true, false, List, [], ◌∷◌, ◌++◌, length, slice_get, Some, Ok}
+use Rattle.std.specs.Prelude.{◌≡◌, ◌≢◌, ℕ, ◌+◌, ◌^◌, ◌<◌, ◌≤◌, Bool, true, false, List, [], ◌∷◌, ◌++◌, length, slice_get, get_or, Some, Ok}
 use Rattle.std.specs.List.{AllByRecursion}
 use Rattle.host_layout.specs.declared.range.TheConstants.{IMAGE_BASE, IMAGE_RANGE_END, STACK_START, STACK_END}
 use Rattle.host_layout.specs.Ranges.{in_arena}
@@ -15,7 +15,7 @@ use Rattle.x64_instr.specs.declared.register.Reg.TheVariants.{Rax, Rcx, Rdx}
 use Rattle.x64_machine.specs.declared.cpu.Cpu.{Cpu}
 use Rattle.x64_machine.specs.Effect.{register}
 use Rattle.virtual_unwind.specs.Contexts.{rsp}
-use Rattle.virtual_unwind.specs.CallerOf.{Functions, distance}
+use Rattle.virtual_unwind.specs.CallerOf.{Functions, distance, entry_of}
 use Rattle.virtual_unwind.specs.Undone.{word}
 use Rattle.host_model.specs.declared.funclet.Funclet.{Funclet}
 use Rattle.host_model.specs.Funclets.{by_kind, arrivals}
@@ -38,7 +38,8 @@ use Rattle.template_code.specs.Operands as operands
 use Rattle.template_code.specs.Slots.{fetch, operands_code}
 use Rattle.template_code.specs.Calls.{return_at}
 use Rattle.template_code.specs.Probing.{check_stack}
-use Rattle.template_code.specs.Template.{template, HasLabels, body_size}
+use Rattle.template_code.specs.Template.{template, template_size, body_size}
+use Rattle.template_code.specs.ColdParts.{HasLabelsApart, hot_code, cold_code, falls_through}
 use Rattle.template_code.specs.Places.{register_of}
 use Rattle.x64_templates.specs.Straight.{local_registers, other_registers, MachineView}
 use Rattle.x64_templates.specs.Frames.{Agrees}
@@ -46,8 +47,8 @@ use Rattle.x64_templates.specs.Implements.{IsReady}
 use Rattle.x64_templates.specs.Runs.{HasCode}
 use Rattle.x64_templates.specs.Thunks.{HasThunk}
 use Rattle.x64_templates.specs.Epilogues.{IsReturn}
-use Rattle.match_stack.specs.Stack.{StackFrame, FrameIsAt, LeafIsAt, IsAsTold}
-use Rattle.match_stack.specs.ImagePlan.{ImagePlan, Gives}
+use Rattle.match_stack.specs.Stack.{StackFrame, FrameIsAt, LeafIsAt, IsAsTold, teller}
+use Rattle.match_stack.specs.ImagePlan.{ImagePlan, InCode, Gives}
 use Rattle.match_stack.specs.ControlAddresses.{NumbersFunctions}
 use Rattle.match_stack.specs.StackRecords.{IsData}
 use Rattle.seh_walk.specs.Walk.{filter_return, finally_return}
@@ -55,12 +56,12 @@ use Rattle.seh_walk.specs.Controls.{number_at}
 use Rattle.frame_rules.specs.Bytes.{spell}
 use Rattle.frame_rules.specs.Plan as rules
 use Rattle.frame_rules.specs.Plan.{Saved}
-use Rattle.match_bodies.specs.CodeSites.{Sites, body_plan, links_of, begin_of, making_size, epilogue_through, arguments_code, entry_code, code_of}
+use Rattle.match_bodies.specs.CodeSites.{Sites, body_plan, links_of, begin_of, making_size, epilogue_through, arguments_code, entry_code, code_of, cold_code_of}
 use Rattle.lowering_invariants.specs.Registers.{SlotsHave, FlagHas}
 use Rattle.match_bodies.specs.Layouts.{AreLaidOut}
 use Rattle.match_bodies.specs.LocalRegisters.{now_of, RegistersHold}
 use Rattle.match_bodies.specs.BodyViews.{IsReached}
-use Rattle.match_bodies.specs.Callers.{FindsReturn, FindsOwed, owed_after, owed_of, owed_opening, owed_pops}
+use Rattle.match_bodies.specs.Callers.{FindsReturn, FindsOwed, frame_info, owed_after, owed_of, owed_opening, owed_pops}
 
 -- the service of a built-in function
 abbrev pub service_of : BuiltIn → Service
@@ -120,23 +121,38 @@ module _ (t : Functions) (fs : List Funclet) (program : LinearProgram) (p : Imag
     pub high : to < IMAGE_RANGE_END
     pub own : (a : ℕ) → from ≤ a → a < to → is_reserved program.globals a ≡ true
 
-  -- a body's instructions follow what comes before them, one after another
+  -- a body's instructions follow what comes before them, one after another, but for those of its
+  -- cold parts, which are one after another at a place of their own
   pub record HasAddresses (name : BodyName) (b : LinearBody) : Type 0 where
     pub first : p.address name 0 ≡ begin_of p q name + sizes (entry_code program p q name)
-    pub labels : HasLabels (links_of p q name) (p.layout name) (p.address name 0) b.code
+    pub labels : HasLabelsApart (links_of p q name) (p.layout name) (p.address name 0)
+        (q.cold name) b
     pub rises : (label : ℕ) → label < length b.code → p.address name label < p.after name label
-    pub inside : IsInImage (begin_of p q name) (p.address name 0 + body_size (p.layout name) b.code)
+    pub inside : IsInImage (begin_of p q name)
+        (p.address name 0 + body_size (p.layout name) (hot_code b))
+    pub cold_inside : IsInImage (q.cold name)
+        (q.cold name + body_size (p.layout name) (cold_code b))
     pub not_first : (label k : ℕ) → label < length b.code → k < length program.funclets
         → p.address name label ≢ p.funclet k
     -- past its first byte no funclet begins
     pub no_funclet : (a k : ℕ) → begin_of p q name < a
-        → a < p.address name 0 + body_size (p.layout name) b.code → k < length program.funclets
-        → a ≢ p.funclet k
+        → a < p.address name 0 + body_size (p.layout name) (hot_code b)
+        → k < length program.funclets → a ≢ p.funclet k
 
-  -- a body's code is in one piece, which has one entry
-  pub record IsInOnePiece (name : BodyName) (b : LinearBody) : Type 0 where
-    pub ends : (label : ℕ) → label < length b.code → p.after name label ≡ p.address name (label + 1)
-    pub entries : (label other : ℕ) → p.entry name label ≡ p.entry name other
+  -- the code of an instruction is its template; the next one's follows where it falls through
+  pub record HasEnds (name : BodyName) (b : LinearBody) : Type 0 where
+    pub sized : (label : ℕ) → label < length b.code
+        → p.after name label ≡ p.address name label
+        + template_size (p.layout name) (get_or b.code label instructions.Separator)
+    pub ends : (label : ℕ) (i : Instruction) → slice_get b.code label ≡ Some i
+        → falls_through i ≡ true → p.after name label ≡ p.address name (label + 1)
+
+  -- the entries of a body's instructions are found by their code, and all tell of the body's frame:
+  -- that of a cold part is chained to the one that the body begins in
+  pub record HasOneFrame (name : BodyName) : Type 0 where
+    pub found : (label rip : ℕ) → InCode p name label rip
+        → entry_of t rip ≡ Some (p.entry name label)
+    pub tells : (label : ℕ) → teller (p.entry name label) ≡ frame_info p name
 
   -- ---- memory
 
@@ -150,6 +166,8 @@ module _ (t : Functions) (fs : List Funclet) (program : LinearProgram) (p : Imag
   pub record HasProgram (m : Memory) : Type 0 where
     pub code : (name : BodyName) (b : LinearBody) → body_of program name ≡ Some b
         → HasCode m (begin_of p q name) (code_of program p q name b)
+    pub cold_code : (name : BodyName) (b : LinearBody) → body_of program name ≡ Some b
+        → HasCode m (q.cold name) (cold_code_of p q name b)
     pub thunks : (f : BuiltIn) → CallsBuiltIn program f → HasService m (q.thunk f) (service_of f)
     pub local_unwind : HasService m q.local_unwind services.LocalUnwind
     pub check_stack : HasCode m q.check_stack check_stack
@@ -187,12 +205,12 @@ module _ (t : Functions) (fs : List Funclet) (program : LinearProgram) (p : Imag
       → IsResumed name b label c.rip → IsFramed p m name c back others
       → FrameIsAt t m c (frame_at_label p name label back others)
 
-  -- the unwind info of the entry that a body begins in tells of the prologue of its plan
+  -- what tells of a body's frame is the prologue of its plan
   pub record IsPlanned (name : BodyName) : Type 0 where
-    pub codes : (p.entry name 0).info.codes ≡ (rules.unwind_of spell (body_plan p q name)).codes
-    pub frame_register : (p.entry name 0).info.frame_register ≡ (body_plan p q name).frame
-    pub frame_offset : (p.entry name 0).info.frame_offset ≡ (body_plan p q name).distance
-    pub prologue_size : (p.entry name 0).info.prologue_size
+    pub codes : (frame_info p name).codes ≡ (rules.unwind_of spell (body_plan p q name)).codes
+    pub frame_register : (frame_info p name).frame_register ≡ (body_plan p q name).frame
+    pub frame_offset : (frame_info p name).frame_offset ≡ (body_plan p q name).distance
+    pub prologue_size : (frame_info p name).prologue_size
         ≡ (rules.unwind_of spell (body_plan p q name)).prologue_size
 
   -- a leaf function has no entry
@@ -279,8 +297,8 @@ module _ (t : Functions) (fs : List Funclet) (program : LinearProgram) (p : Imag
     pub entries : (m : Memory) → (p.leaf name ≡ true → 0 < length b.code)
         → FindsReturn t m (begin_of p q name)
     pub making : (m : Memory) (d : ℕ) → p.leaf name ≡ false
-        → d < (p.entry name 0).info.prologue_size
-        → FindsOwed t m (begin_of p q name + d) (owed_after (p.entry name 0).info d)
+        → d < (frame_info p name).prologue_size
+        → FindsOwed t m (begin_of p q name + d) (owed_after (frame_info p name) d)
     pub arguments :
         (m : Memory) (done left : List Instr) (item : Instr)
         → HasProgram m → arguments_code program p name ≡ done ++ (item ∷ left)
@@ -330,8 +348,10 @@ module _ (t : Functions) (fs : List Funclet) (program : LinearProgram) (p : Imag
     pub laid_out : AreLaidOut program p
     pub addresses : (name : BodyName) (b : LinearBody) → body_of program name ≡ Some b
         → HasAddresses name b
-    pub pieces : (name : BodyName) (b : LinearBody) → body_of program name ≡ Some b
-        → IsInOnePiece name b
+    pub ends : (name : BodyName) (b : LinearBody) → body_of program name ≡ Some b
+        → HasEnds name b
+    pub one_frame : (name : BodyName) (b : LinearBody) → body_of program name ≡ Some b
+        → p.leaf name ≡ false → HasOneFrame name
     pub check_stack : IsInImage q.check_stack (q.check_stack + sizes check_stack)
     -- a function's locals stand where its layout says
     pub registers : (f x : ℕ) → p.register (FunctionBody f) x

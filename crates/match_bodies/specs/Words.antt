@@ -77,8 +77,8 @@ pub use Rattle.match_stack.specs.StackRecords.{On, IsData}
 pub use Rattle.match_stack.specs.WalkLaws.{context_below}
 pub use Rattle.match_bodies.specs.Bodies.{slots_end, last_temporary, HasFrame, InBody, turns_left}
 pub use Rattle.match_bodies.specs.BodyViews.{counts_of, seen_by_templates, arrived_in, frame_at, state_of, HasSlotsOf, KeepsRegisters, IsReached}
-pub use Rattle.match_bodies.specs.Callers.{HasCaller, FindsReturn, FindsOwed, Owed, IsOwed, nothing_owed, owed_by, owed_of, caller_above, caller_left, caller_owed}
-pub use Rattle.match_bodies.specs.CodeSites.{Sites, links_of, arguments_code, begin_of, making_size, frame_code, entry_code, code_of}
+pub use Rattle.match_bodies.specs.Callers.{frame_info, HasCaller, FindsReturn, FindsOwed, Owed, IsOwed, nothing_owed, owed_by, owed_of, caller_above, caller_left, caller_owed}
+pub use Rattle.match_bodies.specs.CodeSites.{Sites, links_of, arguments_code, begin_of, making_size, frame_code, entry_code, code_of, cold_code_of}
 pub use Rattle.match_bodies.specs.ConfigurationFacts.{IsWellMade, IsKnown}
 pub use Rattle.match_bodies.specs.Layouts.{IsFunctionLayout, IsLayoutIf, IsLaidOut, AreLaidOut, IsLeafLayout, IsFuncletLayout, IsFuncletPlan}
 pub use Rattle.match_bodies.specs.LocalRegisters.{now_of, IsInRegister, RegistersHold}

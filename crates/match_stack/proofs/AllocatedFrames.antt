@@ -1,6 +1,6 @@
 -- Frames that save nothing.
 use Rattle.std.proofs.Common.{◌≡◌, ◌≢◌, ℕ, zero, suc, ◌+◌, ◌^◌, ◌<◌, ◌≤◌, true, false, not, eqb, Option, Some, None, Ok, List, [], ◌∷◌, length, drop, get_or, refl, sym, ap, subst, ◌∙◌, arith}
-use Rattle.match_stack.specs.Words.{Memory, first_refused, may_read, number_at, access, Context, rsp, readable, word, operations, base_if, IsWord, told, at_entry}
+use Rattle.match_stack.specs.Words.{Memory, first_refused, may_read, number_at, access, Context, rsp, readable, word, operations, base_if, IsWord, teller, told, at_entry}
 use Rattle.eh_tables.specs.declared.code.UnwindOperation.TheVariants.{Allocate}
 use Rattle.virtual_unwind.specs.Contexts.{get, kept_at, kept_index, is_nonvolatile}
 use Rattle.frame_rules.specs.Codes.{are_allowed}
@@ -44,13 +44,14 @@ allocations_are_told m c entry offset size back codes none small nine room retur
     let old = at_entry c f in
     let tells : told f ≡ Allocate size ∷ [] = ap operations codes in
     let is = is_word m (rsp c + size) back (omega arith) returns in
-    let allowed : are_allowed entry.info.frame_register (Allocate size ∷ []) ≡ true = refl in
+    let allowed : are_allowed (teller entry).frame_register (Allocate size ∷ []) ≡ true = refl in
     record {
       offset = omega arith;
-      allowed = subst (λ ops. are_allowed entry.info.frame_register ops ≡ true) (sym tells) allowed;
-      base = ap (λ r. base_if entry.info c (not (eqb r 0))) none;
+      allowed = subst (λ ops. are_allowed (teller entry).frame_register ops ≡ true) (sym tells)
+          allowed;
+      base = ap (λ r. base_if (teller entry) c (not (eqb r 0))) none;
       stack = subst (rules.Stack m old back (rsp c) (rsp c)) (sym tells) (refl, is);
-      framed = subst (rules.Framed entry.info.frame_register entry.info.frame_offset (get c)
+      framed = subst (rules.Framed (teller entry).frame_register (teller entry).frame_offset (get c)
           (rsp c)) (sym tells) tt;
       others = λ r nv ne z. others_same c back (rsp c + size) r (omega arith) nv ne;
       above = subst (AreAbove (rsp c + size) (rsp c) (rsp c)) (sym tells) (omega arith);

@@ -2,10 +2,10 @@
 use Rattle.std.proofs.Common.{◌≡◌, ◌⊎◌, inl, inr, ℕ, suc, ◌+◌, Bool, true, false, cond, Option, Some, None, List, [], ◌∷◌, drop, refl, ap, ◌∙◌, arith}
 use Rattle.std.specs.Prelude.{filter, ◌==◌, ◌++◌}
 use Rattle.std.specs.List.{AllByRecursion}
-use Rattle.match_stack.specs.Words.{ScopeRecord, Functions, distance, holding, first_with_jump_target, Funclet, row_before, Region, RegionKind, LinearProgram, BodyName, holds, handlers_in, ImagePlan, InCode, IsHandlerRow, IsOfKind, AreRegions, NoHandler, FirstHandler, handlers_of, SearchFindsTheHandlers}
+use Rattle.match_stack.specs.Words.{ScopeRecord, Functions, distance, holding, first_with_jump_target, Funclet, row_before, Region, RegionKind, LinearProgram, BodyName, holds, handlers_in, ImagePlan, InCode, IsHandlerRow, IsOfKind, AreRegions, HasRows, NoHandler, FirstHandler, handlers_of, SearchFindsTheHandlers}
 use Rattle.seh_walk.specs.Asked as rows
 use Rattle.linear_code.specs.declared.program.RegionKind.TheVariants as kinds
-use Rattle.match_stack.proofs.ScopeRows.{row_before_dropped, regions_dropped, dropped_again, all_dropped}
+use Rattle.match_stack.proofs.ScopeRows.{row_before_dropped, regions_dropped, dropped_again, all_dropped, none_asked, none_held_from}
 
 module _ (t : Functions) (fs : List Funclet) (program : LinearProgram) (p : ImagePlan)
     (name : BodyName) (next label rip : ℕ) (inside : InCode p name label rip) where
@@ -127,10 +127,7 @@ module _ (t : Functions) (fs : List Funclet) (program : LinearProgram) (p : Imag
   first_handler n (x ∷ xs) [] s same = absurd s
 
 pub search_finds_the_handlers : SearchFindsTheHandlers
-search_finds_the_handlers t fs program p name next rip row scopes rs s =
-    of (first_handler t fs program p name next s.label rip s.inside row (drop row scopes)
-    (drop row rs) (regions_dropped t fs program p name row scopes rs s.rows)
-    (all_dropped (λ (r : Region). holds s.label r ≡ holds next r) row rs s.same))
+search_finds_the_handlers t fs program p name next rip row scopes rs s = by s.rows
   where
     of : Found t fs program p name next s.label rip s.inside row (drop row scopes) (drop row rs)
         → NoHandler t fs program p (holding (distance t.base rip) row (drop row scopes))
@@ -159,3 +156,18 @@ search_finds_the_handlers t fs program p name next rip row scopes rs s =
               ≡ suc (row + f.off) = omega arith in a)
               ∙ row_before_dropped row f.off scopes f.row f.before;
         })
+
+    by : HasRows t fs program p name s.label scopes rs
+        → NoHandler t fs program p (holding (distance t.base rip) row (drop row scopes))
+        (filter (holds next) (drop row rs))
+        ⊎ FirstHandler t fs program p name scopes
+        (holding (distance t.base rip) row (drop row scopes)) (filter (holds next) (drop row rs))
+        (λ row. filter (holds next) (drop row rs))
+    by (inl rows) = of (first_handler t fs program p name next s.label rip s.inside row
+        (drop row scopes) (drop row rs) (regions_dropped t fs program p name row scopes rs rows)
+        (all_dropped (λ (r : Region). holds s.label r ≡ holds next r) row rs s.same))
+    by (inr bare) = inl (record {
+      first = ap first_with_jump_target (none_asked (distance t.base rip) row scopes bare.none);
+      handlers = λ a d. ap (λ (rs : List Region). handlers_in rs a d)
+          (none_held_from s.label next row rs bare.unheld s.same);
+    })

@@ -4,10 +4,10 @@ use Rattle.std.proofs.Common.{◌≡◌, ◌≢◌, ◌⊎◌, inl, inr, ℕ, su
 use Rattle.std.specs.Prelude.{filter, ◌==◌, ◌&&◌, ◌||◌}
 use Rattle.std.specs.List.{AllByRecursion}
 use Rattle.std.proofs.lemmas.Bool.{eq-eqb, ne_eqb}
-use Rattle.match_stack.specs.Words.{ScopeRecord, Functions, distance, AskedRecord, holding, is_end, until, first_finally, Funclet, row_before, Region, RegionKind, LinearProgram, Target, Waits, Unwinds, Store, Configuration, Seen, Next, pick, holds, left_store, unwind_body, ImagePlan, InCode, IsOfKind, AreRegions, NoBlock, Arrives, FirstBlock, leads_to, stops, arrive, run_finally, leave_region, IsFinallyRow, target_rva, UnwindingRunsTheBlocks, UnwindingStopsAtTheTarget}
+use Rattle.match_stack.specs.Words.{ScopeRecord, Functions, distance, AskedRecord, holding, is_end, until, first_finally, Funclet, row_before, Region, RegionKind, LinearProgram, Target, Waits, Unwinds, Store, Configuration, Seen, Next, pick, holds, left_store, unwind_body, ImagePlan, InCode, IsOfKind, AreRegions, HasRows, HasNoRows, NoBlock, Arrives, FirstBlock, leads_to, stops, arrive, run_finally, leave_region, IsFinallyRow, target_rva, UnwindingRunsTheBlocks, UnwindingStopsAtTheTarget}
 use Rattle.seh_walk.specs.Asked as rows
 use Rattle.linear_code.specs.declared.program.RegionKind.TheVariants as kinds
-use Rattle.match_stack.proofs.ScopeRows.{row_before_dropped, regions_dropped, dropped_again, all_dropped}
+use Rattle.match_stack.proofs.ScopeRows.{row_before_dropped, regions_dropped, dropped_again, all_dropped, none_asked, none_held_from}
 
 module _ (t : Functions) (fs : List Funclet) (program : LinearProgram) (p : ImagePlan)
     (target : Target) (c : Configuration) (label rip : ℕ) (inside : InCode p c.frame.body label rip)
@@ -323,17 +323,79 @@ module _ (t : Functions) (fs : List Funclet) (program : LinearProgram) (p : Imag
     reached_or_run row scopes rs (inl none) = inl none
     reached_or_run row scopes rs (inr f) = inr (counted row scopes rs _ f)
 
+-- without rows it leaves the frame, or stops there
+module _ (t : Functions) (fs : List Funclet) (program : LinearProgram) (p : ImagePlan)
+    (target : Target) (c : Configuration) (label rip row : ℕ) (scopes : List ScopeRecord)
+    (rs : List Region) (inside : InCode p c.frame.body label rip)
+    (same : AllByRecursion (λ (r : Region). holds label r ≡ holds c.frame.next r) rs)
+    (bare : HasNoRows t fs program p label scopes rs) where
+  none_here : filter (holds c.frame.next) (drop row rs) ≡ []
+  none_here = none_held_from label c.frame.next row rs bare.unheld same
+
+  asked_here : holding (distance t.base rip) row (drop row scopes) ≡ []
+  asked_here = none_asked (distance t.base rip) row scopes bare.none
+
+  leaves_unheld : target.depth ≢ length c.below
+      → NoBlock t fs program p target c (holding (distance t.base rip) row (drop row scopes))
+      (filter (holds c.frame.next) (drop row rs))
+  unfolding pick
+  leaves_unheld away = record {
+    first = ap first_finally asked_here;
+    leaves = λ next out.
+        ap (λ (rs : List Region). unwind_body program next target out rs c) none_here
+        ∙ ap (λ b. pick b (arrive target target.code next c)
+        (out (left_store c.frame.body c.frame.activation c.store)))
+        (ne_eqb target.depth (length c.below) away);
+  }
+
+  arrives_unheld : target.depth ≡ length c.below
+      → Arrives t fs program p target c (until (target_rva t fs program p c.frame.body target.label)
+      (holding (distance t.base rip) row (drop row scopes)))
+      (filter (holds c.frame.next) (drop row rs))
+  unfolding pick
+  arrives_unheld here = record {
+    first = ap (λ (xs : List AskedRecord). first_finally
+        (until (target_rva t fs program p c.frame.body target.label) xs)) asked_here;
+    arrives = λ next out.
+        ap (λ (rs : List Region). unwind_body program next target out rs c) none_here
+        ∙ ap (λ b. pick b (arrive target target.code next c)
+        (out (left_store c.frame.body c.frame.activation c.store)))
+        (eq-eqb target.depth (length c.below) here);
+  }
+
 pub unwinding_runs_the_blocks : UnwindingRunsTheBlocks
-unwinding_runs_the_blocks t fs program p rip row scopes rs target c s away =
-    left_or_run t fs program p target c s.label rip s.inside row scopes rs
-    (leaves_the_frame t fs program p target c s.label rip s.inside away row (drop row scopes)
-    (drop row rs) (regions_dropped t fs program p c.frame.body row scopes rs s.rows)
-    (all_dropped (λ (r : Region). holds s.label r ≡ holds c.frame.next r) row rs s.same))
+unwinding_runs_the_blocks t fs program p rip row scopes rs target c s away = by s.rows
+  where
+    by : HasRows t fs program p c.frame.body s.label scopes rs
+        → NoBlock t fs program p target c (holding (distance t.base rip) row (drop row scopes))
+        (filter (holds c.frame.next) (drop row rs))
+        ⊎ FirstBlock t fs program p target c scopes
+        (holding (distance t.base rip) row (drop row scopes))
+        (filter (holds c.frame.next) (drop row rs))
+        (λ row. filter (holds c.frame.next) (drop row rs))
+    by (inl rows) = left_or_run t fs program p target c s.label rip s.inside row scopes rs
+        (leaves_the_frame t fs program p target c s.label rip s.inside away row (drop row scopes)
+        (drop row rs) (regions_dropped t fs program p c.frame.body row scopes rs rows)
+        (all_dropped (λ (r : Region). holds s.label r ≡ holds c.frame.next r) row rs s.same))
+    by (inr bare) = inl
+        (leaves_unheld t fs program p target c s.label rip row scopes rs s.inside s.same bare away)
 
 pub unwinding_stops_at_the_target : UnwindingStopsAtTheTarget
-unwinding_stops_at_the_target t fs program p rip row scopes rs target c s here lands =
-    reached_or_run t fs program p target c s.label rip s.inside row scopes rs
-    (stops_at_the_target t fs program p target c s.label rip s.inside here lands row
-    (drop row scopes) (drop row rs) (regions_dropped t fs program p c.frame.body row scopes rs
-    s.rows)
-    (all_dropped (λ (r : Region). holds s.label r ≡ holds c.frame.next r) row rs s.same))
+unwinding_stops_at_the_target t fs program p rip row scopes rs target c s here lands = by s.rows
+  where
+    asked : List AskedRecord
+    asked = until (target_rva t fs program p c.frame.body target.label)
+        (holding (distance t.base rip) row (drop row scopes))
+
+    by : HasRows t fs program p c.frame.body s.label scopes rs
+        → Arrives t fs program p target c asked (filter (holds c.frame.next) (drop row rs))
+        ⊎ FirstBlock t fs program p target c scopes asked
+        (filter (holds c.frame.next) (drop row rs))
+        (λ row. filter (holds c.frame.next) (drop row rs))
+    by (inl rows) = reached_or_run t fs program p target c s.label rip s.inside row scopes rs
+        (stops_at_the_target t fs program p target c s.label rip s.inside here lands row
+        (drop row scopes) (drop row rs)
+        (regions_dropped t fs program p c.frame.body row scopes rs rows)
+        (all_dropped (λ (r : Region). holds s.label r ≡ holds c.frame.next r) row rs s.same))
+    by (inr bare) = inl
+        (arrives_unheld t fs program p target c s.label rip row scopes rs s.inside s.same bare here)

@@ -2,7 +2,7 @@
 use Rattle.std.proofs.Common.{◌≡◌, inl, inr, ℕ, ◌+◌, ◌<◌, ◌≤◌, true, ◌&&◌, leb, List, [], ◌∷◌, length, refl, ap, ◌∙◌, arith}
 use Rattle.std.specs.Prelude.{slice_index}
 use Rattle.std.proofs.lemmas.Bool.{and_parts, false≢true, leb-true}
-use Rattle.match_stack.specs.Words.{Memory, with_bytes, Context, rsp, IsWord, StackFrame, IsBetween, IsAsTold, told, at_entry, after_frame}
+use Rattle.match_stack.specs.Words.{Memory, with_bytes, Context, rsp, IsWord, StackFrame, IsBetween, IsAsTold, teller, told, at_entry, after_frame}
 use Rattle.eh_tables.specs.declared.code.UnwindOperation.{UnwindOperation}
 use Rattle.eh_tables.specs.declared.code.UnwindOperation.TheVariants.{Push, Allocate, SetFrame, Save, SaveVector, MachineFrame}
 use Rattle.frame_rules.specs.Codes.{depth, allocation, are_apart, may_save, is_allowed, are_allowed}
@@ -104,7 +104,7 @@ owned_low m c f a h o = saved_low (rsp c + f.slots) (rsp c) (rsp c) (told f) a h
 pub owned_high : (m : Memory) (c : Context) (f : StackFrame) (a : ℕ) → IsAsTold m c f
     → IsSavedAt (rsp c) (rsp c) (told f) a → a < rsp c + f.size + 8
 owned_high m c f a h o =
-    let e = saved_high f.entry.info.frame_register (rsp c) (rsp c) (told f) a h.allowed
+    let e = saved_high (teller f.entry).frame_register (rsp c) (rsp c) (told f) a h.allowed
     (omega arith) o in
     let d = told_depth m c f h in
     omega arith
@@ -180,7 +180,7 @@ told_above m m' low top c f w le fits h =
       allowed = h.allowed;
       base = h.base;
       stack = stack_above m m' (at_entry c f) f.return_address (rsp c + f.slots) top
-          f.entry.info.frame_register (rsp c) (rsp c) (told f)
+          (teller f.entry).frame_register (rsp c) (rsp c) (told f)
           (λ a v p q x. w a v (omega arith) q x) (omega arith) (omega arith) h.allowed h.above
           h.stack;
       framed = h.framed;

@@ -1,10 +1,12 @@
 -- What a walk comes to at each kind of item.
-use Rattle.std.proofs.Common.{◌≡◌, ℕ, ◌+◌, ◌-◌, ◌%◌, ◌^◌, ◌<◌, ◌≤◌, true, Option, Some, None, Ok, List, [], ◌∷◌, length, refl, ap, ◌∙◌, arith}
+use Rattle.std.proofs.Common.{◌≡◌, ℕ, ◌+◌, ◌-◌, ◌%◌, ◌^◌, ◌<◌, ◌≤◌, Bool, true, false, Option, Some, None, Ok, Err, List, [], ◌∷◌, length, refl, ap, ◌∙◌, arith}
 use Rattle.std.specs.Prelude.{nat_lt, nat_eq, not, slice_index, slice_set}
 use Rattle.std.proofs.lemmas.Bool.{lt-ltb}
-use Rattle.match_stack.specs.Words.{Memory, Instr, Context, context_of, Info, Entry, rsp, word, Functions, distance, fetched, RECORD_SIZE, WalkState, walk_in, filter_return, finally_return, StackFrame, FrameIsAt, LeafIsAt, after_frame, after_leaf, caller_frame, caller_of_leaf, state, rsp_raised, Answer, popped, operations, CallerFrame, found, in_body, by_distance, past_prologue, of_entry, rising, risen, caller_in, visited, if_over, if_filter, framed, past_filter, past_finally, if_search, above, if_above, saved_in, FrameIsVisited, LeafIsVisited, SearchIsPassed, UnwindingIsPassed, StackIsOver, IsAsTold, told, at_entry}
+use Rattle.match_stack.specs.Words.{Memory, Instr, Context, context_of, Info, Entry, rsp, word, Functions, distance, fetched, RECORD_SIZE, WalkState, walk_in, filter_return, finally_return, StackFrame, FrameIsAt, LeafIsAt, after_frame, after_leaf, caller_frame, caller_of_leaf, state, rsp_raised, Answer, popped, operations, CallerFrame, found, in_body, by_distance, past_prologue, of_entry, rising, risen, caller_in, visited, if_over, if_filter, framed, past_filter, past_finally, if_search, above, if_above, saved_in, FrameIsVisited, LeafIsVisited, SearchIsPassed, UnwindingIsPassed, StackIsOver, IsAsTold, IsChain, IsFragment, telling, teller, told, at_entry, get, base_if}
 use Rattle.seh_num.specs.Answers.{◌>>=◌}
-use Rattle.virtual_unwind.specs.CallerOf.{unwound}
+use Rattle.eh_tables.specs.declared.code.UnwindCode.{UnwindCode}
+use Rattle.virtual_unwind.specs.CallerOf.{unwound, at_start, has_frame}
+use Rattle.virtual_unwind.specs.Undone.{Undo, undone, returned}
 use Rattle.seh_walk.specs.Walk.{if_finally}
 use Rattle.match_stack.proofs.Lemmas.{undoing}
 use Rattle.match_stack.proofs.FrameWords.{left_is}
@@ -16,18 +18,60 @@ set_head (k ∷ ks) v lt = refl
 abbrev up_by : ℕ → List ℕ → ℕ → Answer Context
 up_by x ks v = Ok (rsp_raised (record { rip = v; kept = x ∷ ks }) 8)
 
+-- the base of a fragment is its function's
+base_same : (i p : Info) (c : Context) (b : Bool) → IsFragment i p → base_if i c b ≡ base_if p c b
+base_same i p c false h = refl
+base_same i p c true h = ap (λ k. (get c k + (2 ^ 64 - i.frame_offset)) % 2 ^ 64) h.register
+    ∙ ap (λ k. (get c p.frame_register + (2 ^ 64 - k)) % 2 ^ 64) h.offset
+
+base_of : (i p : Info) (c : Context) → IsFragment i p
+    → base_if i c (has_frame i) ≡ base_if p c (has_frame p)
+base_of i p c h = ap (λ k. base_if i c (not (nat_eq k 0))) h.register
+    ∙ base_same i p c (has_frame p) h
+
+-- and it has no codes beside those of its function
+rest_alone : (m : Memory) (a : Answer Undo)
+    → ((a >>= λ u. Ok u) >>= returned m) ≡ (a >>= λ u. returned m u)
+rest_alone m (Ok u) = refl
+rest_alone m (Err e) = refl
+
+unwound_by : (m : Memory) (base : ℕ) (i p : Info) (c : Context) → i.codes ≡ []
+    → unwound m base i (p ∷ []) (operations i.codes) c
+    ≡ unwound m base p [] (operations p.codes) c
+unwound_by m base i p c e =
+    ap (λ (xs : List UnwindCode). unwound m base i (p ∷ []) (operations xs) c) e
+    ∙ rest_alone m (undone m base p (operations p.codes) (at_start c))
+
 -- undoing the codes of a frame gives its caller, with the registers that were saved
-body_found : (m : Memory) (c : Context) (f : StackFrame) → f.entry.parents ≡ []
+undone_found : (m : Memory) (c : Context) (f : StackFrame)
+    → length c.kept ≡ 9 → length f.others ≡ 8 → rsp c + f.size + 8 < 2 ^ 64 → IsAsTold m c f
+    → unwound m (rsp c) (teller f.entry) [] (told f) c ≡ Ok (after_frame c f)
+undone_found m c f kept eight room h =
+    undoing (teller f.entry) m c (rsp c) (at_entry c f) f.return_address (told f) kept room
+    h.offset h.allowed h.stack h.framed h.others ∙ ap Ok (left_is c f eight)
+
+found_by : (m : Memory) (c : Context) (f : StackFrame) (parents : List Info)
+    → IsChain f.entry.info parents
+    → base_if (telling f.entry.info parents) c (has_frame (telling f.entry.info parents)) ≡ rsp c
+    → unwound m (rsp c) (telling f.entry.info parents) []
+    (operations (telling f.entry.info parents).codes) c ≡ Ok (after_frame c f)
+    → in_body m f.entry.info parents c ≡ Ok (caller_frame c f)
+found_by m c f [] chain base e =
+    let i = f.entry.info in
+    ap (λ b. found b (Some i) (unwound m b i [] (operations i.codes) c)) base
+    ∙ ap (found (rsp c) (Some i)) e
+found_by m c f (p ∷ []) chain base e =
+    let i = f.entry.info in
+    ap (λ b. found b (Some i) (unwound m b i (p ∷ []) (operations i.codes) c))
+    (base_of i p c chain ∙ base)
+    ∙ ap (found (rsp c) (Some i)) (unwound_by m (rsp c) i p c chain.codes ∙ e)
+found_by m c f (p ∷ r ∷ ps) chain base e = absurd chain
+
+body_found : (m : Memory) (c : Context) (f : StackFrame) → IsChain f.entry.info f.entry.parents
     → length c.kept ≡ 9 → length f.others ≡ 8 → rsp c + f.size + 8 < 2 ^ 64 → IsAsTold m c f
     → in_body m f.entry.info f.entry.parents c ≡ Ok (caller_frame c f)
-body_found m c f no_parents kept eight room h =
-    let i = f.entry.info in
-    ap (λ b. found b (Some i) (unwound m b i f.entry.parents (operations i.codes) c)) h.base
-    ∙ ap (λ (a : List Info). found (rsp c) (Some i) (unwound m (rsp c) i a (operations i.codes) c))
-    no_parents
-    ∙ ap (λ (r : Answer Context). found (rsp c) (Some i) r)
-    (undoing i m c (rsp c) (at_entry c f) f.return_address (told f) kept room h.offset h.allowed
-    h.stack h.framed h.others ∙ ap Ok (left_is c f eight))
+body_found m c f chain kept eight room h =
+    found_by m c f f.entry.parents chain h.base (undone_found m c f kept eight room h)
 
 pub frame_called : (t : Functions) (m : Memory) (c : Context) (f : StackFrame) → FrameIsAt t m c f
     → caller_in t m c ≡ Ok (caller_frame c f)
@@ -41,7 +85,7 @@ frame_called t m c f h =
     ∙ ap (λ (o : Option (List Instr)). past_prologue m f.entry.info f.entry.parents c o
     >>= rising c) h.not_epilogue
     ∙ ap (λ (r : Answer CallerFrame). r >>= rising c)
-    (body_found m c f h.no_parents h.kept h.eight h.room h.is_told)
+    (body_found m c f h.chain h.kept h.eight h.room h.is_told)
     ∙ ap (risen c (caller_frame c f)) rises
 
 pub frame_is_visited : FrameIsVisited

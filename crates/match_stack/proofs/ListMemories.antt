@@ -164,7 +164,7 @@ module _ (m m' : Memory) (top : ℕ) where
       found = s.found;
       past_prologue = s.past_prologue;
       not_epilogue = r.tails f.entry.info.frame_register c.rip ∙ s.not_epilogue;
-      no_parents = s.no_parents;
+      chain = s.chain;
       kept = s.kept;
       eight = s.eight;
       slots = s.slots;

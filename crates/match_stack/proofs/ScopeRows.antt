@@ -1,9 +1,10 @@
 -- Records and regions from a row on, and the record before a row.
-use Rattle.std.proofs.Common.{◌≡◌, ℕ, zero, suc, ◌+◌, ◌≤◌, List, [], ◌∷◌, length, drop, Some, sym, ap, ◌∙◌, arith}
+use Rattle.std.proofs.Common.{◌≡◌, ℕ, zero, suc, ◌+◌, ◌≤◌, false, cond, List, [], ◌∷◌, length, drop, Some, refl, sym, ap, ◌∙◌, arith}
+use Rattle.std.specs.Prelude.{filter}
 use Rattle.std.specs.List.{AllByRecursion}
 use Rattle.std.proofs.Math.Seq.{drop-nil}
 use Rattle.std.proofs.lemmas.List.{drop-drop}
-use Rattle.match_stack.specs.Words.{ScopeRecord, Functions, Funclet, row_before, Region, LinearProgram, BodyName, ImagePlan, AreRegions}
+use Rattle.match_stack.specs.Words.{ScopeRecord, Functions, Funclet, holding, row_before, Region, LinearProgram, BodyName, holds, ImagePlan, AreRegions}
 
 pub row_before_dropped : (row off : ℕ) (xs : List ScopeRecord) (q : ScopeRecord)
     → row_before (drop row xs) (suc off) ≡ Some q → row_before xs (suc (row + off)) ≡ Some q
@@ -44,3 +45,32 @@ pub all_dropped : {A : Type 0} (P : A → Type 0) (row : ℕ) (xs : List A) → 
 all_dropped P zero xs h = h
 all_dropped P (suc row) [] h = tt
 all_dropped P (suc row) (x ∷ xs) h = all_dropped P row xs h.1
+
+-- ---- without rows
+
+-- where no region holds an instruction, none holds one that the same regions hold
+pub none_held : (label next : ℕ) (rs : List Region)
+    → AllByRecursion (λ (r : Region). holds label r ≡ false) rs
+    → AllByRecursion (λ (r : Region). holds label r ≡ holds next r) rs
+    → filter (holds next) rs ≡ []
+none_held label next [] none same = refl
+none_held label next (r ∷ rs) none same =
+    ap (λ b. cond b (r ∷ filter (holds next) rs) (filter (holds next) rs)) (sym same.0 ∙ none.0)
+    ∙ none_held label next rs none.1 same.1
+
+-- nor of those from a row on
+pub none_held_from : (label next row : ℕ) (rs : List Region)
+    → AllByRecursion (λ (r : Region). holds label r ≡ false) rs
+    → AllByRecursion (λ (r : Region). holds label r ≡ holds next r) rs
+    → filter (holds next) (drop row rs) ≡ []
+none_held_from label next row rs none same =
+    none_held label next (drop row rs)
+    (all_dropped (λ (r : Region). holds label r ≡ false) row rs none)
+    (all_dropped (λ (r : Region). holds label r ≡ holds next r) row rs same)
+
+-- and no record is asked
+pub none_asked : (rva row : ℕ) (scopes : List ScopeRecord) → scopes ≡ []
+    → holding rva row (drop row scopes) ≡ []
+none_asked rva row scopes e =
+    ap (λ (xs : List ScopeRecord). holding rva row (drop row xs)) e
+    ∙ ap (holding rva row) (drop-nil row)

@@ -2,7 +2,7 @@
 use Rattle.std.proofs.Common.{◌≡◌, ◌⊎◌, inl, inr, ℕ, suc, ◌+◌, ◌%◌, ◌^◌, ◌<◌, ◌≤◌, Option, Some, None, List, [], ◌∷◌, ◌++◌, length, refl, sym, ap, subst, ◌∙◌, arith}
 use Rattle.std.specs.Prelude.{filter, drop}
 use Rattle.std.proofs.Math.Seq.{drop-nil}
-use Rattle.match_stack.specs.Words.{Memory, Context, context_of, ScopeRecord, Entry, get, rsp, Functions, distance, rows_from, first_with_jump_target, SearchResult, search, Funclet, row_before, Region, LinearProgram, BodyName, FunctionBody, FuncletBody, body_of, Frame, Handler, Item, Waits, Searches, Unwinds, holds, regions_of, handlers_in, handlers, StackFrame, StackItem, Framed, Leaf, Searching, Unwinding, FrameIsAt, LeafIsAt, IsStack, after_frame, after_leaf, state, asked_row, chosen_or, plain_search, ImagePlan, AreRegions, IsFlagged, IsHandlerRow, Gives, Activation, activations_below, HasActivation, Reaches, FrameWaits, LeafWaits, regions_from, IsAtRow, Onward, Aimed, Linked, NoHandler, FirstHandler, left_from, IsWide, FindsHandler, SearchedAs, by_handler, chosen, rows_of, IsEntryOf, HasEntries, IsGiven, IsActivation, IsInstruction}
+use Rattle.match_stack.specs.Words.{Memory, Context, context_of, ScopeRecord, Entry, get, rsp, Functions, distance, rows_from, first_with_jump_target, SearchResult, search, Funclet, row_before, Region, LinearProgram, BodyName, FunctionBody, FuncletBody, body_of, Frame, Handler, Item, Waits, Searches, Unwinds, holds, regions_of, handlers_in, handlers, StackFrame, StackItem, Framed, Leaf, Searching, Unwinding, FrameIsAt, LeafIsAt, IsStack, after_frame, after_leaf, state, asked_row, chosen_or, plain_search, ImagePlan, HasRows, IsFlagged, IsHandlerRow, Gives, Activation, activations_below, HasActivation, Reaches, FrameWaits, LeafWaits, regions_from, IsAtRow, Onward, Aimed, Linked, NoHandler, FirstHandler, left_from, IsWide, FindsHandler, SearchedAs, by_handler, chosen, rows_of, IsEntryOf, HasEntries, IsGiven, IsActivation, IsInstruction}
 use Rattle.seh_search.specs.declared.search_result.SearchResult.TheVariants as searches
 use Rattle.match_stack.proofs.StackKeeping.{rises}
 use Rattle.match_stack.proofs.ListWalks.{search_is_of_the_list}
@@ -140,9 +140,9 @@ module _ (t : Functions) (fs : List Funclet) (program : LinearProgram) (p : Imag
         label = body.waits.label;
         inside = body.waits.instruction;
         same = body.waits.same;
-        rows = subst (λ (e : Entry). AreRegions t fs program p b.body e.info.scopes
+        rows = subst (λ (e : Entry). HasRows t fs program p b.body body.waits.label e.info.scopes
             (regions_of (body_of program b.body))) (sym body.entry)
-            (subst (λ (rs : List Region). AreRegions t fs program p b.body
+            (subst (λ (rs : List Region). HasRows t fs program p b.body body.waits.label
             (p.entry b.body body.waits.label).info.scopes rs) (sym (ap regions_of body.waits.body))
             (entry_of_body m c f b below acts body).rows);
       }

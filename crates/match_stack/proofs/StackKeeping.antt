@@ -46,7 +46,7 @@ item_is_same t m byte c (Framed f) code same s =
       not_epilogue = tail_at_same m (with_bytes m byte)
           (record { execute = λ x. refl; byte = code }) f.entry.info.frame_register c.rip
           ∙ s.not_epilogue;
-      no_parents = s.no_parents;
+      chain = s.chain;
       kept = s.kept;
       eight = s.eight;
       slots = s.slots;

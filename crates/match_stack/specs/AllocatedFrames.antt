@@ -6,7 +6,7 @@ use Rattle.eh_tables.specs.declared.code.UnwindOperation.TheVariants.{Allocate}
 use Rattle.eh_tables.specs.Tables.{Entry}
 use Rattle.virtual_unwind.specs.Contexts.{rsp}
 use Rattle.virtual_unwind.specs.Undone.{word}
-use Rattle.match_stack.specs.Stack.{StackFrame, IsAsTold}
+use Rattle.match_stack.specs.Stack.{StackFrame, IsAsTold, teller}
 
 -- its slots end at the return address, and its caller has the registers that are there
 abbrev pub allocated_frame : Entry → ℕ → ℕ → Context → StackFrame
@@ -22,8 +22,9 @@ allocated_frame entry size back c =
 abbrev pub AllocationsAreTold : Type 0
 AllocationsAreTold =
     (m : Memory) (c : Context) (entry : Entry) (offset size back : ℕ)
-    → entry.info.codes ≡ record { offset = offset; operation = Allocate size } ∷ []
-    → entry.info.frame_register ≡ 0 → entry.info.frame_offset < 2 ^ 16 → length c.kept ≡ 9
+    → (teller entry).codes ≡ record { offset = offset; operation = Allocate size } ∷ []
+    → (teller entry).frame_register ≡ 0 → (teller entry).frame_offset < 2 ^ 16
+    → length c.kept ≡ 9
     → rsp c + size + 8 < 2 ^ 64 → word m (rsp c + size) ≡ Ok back
     → IsAsTold m c (allocated_frame entry size back c)
 
@@ -35,5 +36,5 @@ pub record IsAllocated (m : Memory) (c : Context) (f : StackFrame) : Type 0 wher
 abbrev pub ToldAllocations : Type 0
 ToldAllocations =
     (m : Memory) (c : Context) (f : StackFrame) (offset : ℕ)
-    → f.entry.info.codes ≡ record { offset = offset; operation = Allocate f.size } ∷ []
+    → (teller f.entry).codes ≡ record { offset = offset; operation = Allocate f.size } ∷ []
     → length c.kept ≡ 9 → length f.others ≡ 8 → IsAsTold m c f → IsAllocated m c f

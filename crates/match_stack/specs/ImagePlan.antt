@@ -1,5 +1,6 @@
 -- Where an image has the code of a linear program, and what its function table says of it.
 use Rattle.std.specs.Prelude.{◌≡◌, ◌⊎◌, ℕ, ◌+◌, ◌%◌, ◌^◌, ◌<◌, ◌≤◌, Bool, true, false, ◌||◌, ◌==◌, List, [], ◌∷◌, length, slice_get, Option, Some, None}
+use Rattle.std.specs.List.{AllByRecursion}
 use Rattle.seh_num.specs.declared.event.Event.TheVariants as events
 use Rattle.x64_machine.specs.declared.cpu.Cpu.{Cpu}
 use Rattle.eh_tables.specs.declared.layout.TheConstants.{EXCEPTION_EXECUTE_HANDLER}
@@ -137,9 +138,18 @@ module _ (t : Functions) (fs : List Funclet) (program : LinearProgram) (p : Imag
 
   -- ---- the whole table
 
-  -- the entry of an instruction has the regions of its body as rows
+  -- the entry of a cold part has no rows, and no region holds its instructions
+  pub record HasNoRows (label : ℕ) (scopes : List ScopeRecord) (rs : List Region) : Type 0 where
+    pub none : scopes ≡ []
+    pub unheld : AllByRecursion (λ (r : Region). regions.holds label r ≡ false) rs
+
+  -- any other entry has the regions of its body as rows
+  abbrev pub HasRows : BodyName → ℕ → List ScopeRecord → List Region → Type 0
+  HasRows name label scopes rs = AreRegions name scopes rs ⊎ HasNoRows label scopes rs
+
+  -- the entry of an instruction
   pub record IsEntryOf (name : BodyName) (b : LinearBody) (label : ℕ) : Type 0 where
-    pub rows : AreRegions name (p.entry name label).info.scopes b.regions
+    pub rows : HasRows name label (p.entry name label).info.scopes b.regions
     pub flagged : IsFlagged (p.entry name label).info
     pub few : length (p.entry name label).info.scopes < 2 ^ 32
 

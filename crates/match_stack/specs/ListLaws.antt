@@ -14,7 +14,7 @@ use Rattle.linear_code.specs.Program.{LinearProgram}
 use Rattle.linear_machine.specs.Frames.{BodyName, Target, Item, Configuration}
 use Rattle.linear_machine.specs.Regions.{holds}
 use Rattle.match_stack.specs.Stack.{StackItem, IsStack}
-use Rattle.match_stack.specs.ImagePlan.{ImagePlan, InCode, AreRegions, target_rva}
+use Rattle.match_stack.specs.ImagePlan.{ImagePlan, InCode, HasRows, target_rva}
 use Rattle.match_stack.specs.ItemMatches.{Activation, Linked}
 use Rattle.match_stack.specs.FrameHandlers.{NoHandler, FirstHandler, NoBlock, Arrives, FirstBlock}
 
@@ -25,7 +25,7 @@ abbrev pub left_from : ℕ → List Region → ℕ → List Region
 left_from label regions row = filter (holds label) (drop row regions)
 
 -- an instruction of a body, an address in the code of one that the same regions hold, and the
--- body's records, which are its regions
+-- records of its entry, which are the body's regions, or none where no region holds it
 pub record IsInstruction (t : Functions) (fs : List Funclet) (program : LinearProgram)
     (p : ImagePlan)
     (name : BodyName) (next rip : ℕ) (scopes : List ScopeRecord)
@@ -33,7 +33,7 @@ pub record IsInstruction (t : Functions) (fs : List Funclet) (program : LinearPr
   pub label : ℕ
   pub inside : InCode p name label rip
   pub same : AllByRecursion (λ (r : Region). holds label r ≡ holds next r) regions
-  pub rows : AreRegions t fs program p name scopes regions
+  pub rows : HasRows t fs program p name label scopes regions
 
 -- from any row on
 abbrev pub SearchFindsTheHandlers : Type 0

@@ -6,6 +6,7 @@ use Rattle.x64_machine.specs.declared.context.Context.{Context}
 use Rattle.x64_machine.specs.Contexts.{context_of}
 use Rattle.eh_tables.specs.declared.code.UnwindOperation.{UnwindOperation}
 use Rattle.eh_tables.specs.declared.code.UnwindOperation.TheVariants.{Push, Allocate, Save}
+use Rattle.eh_tables.specs.Infos.{Info}
 use Rattle.eh_tables.specs.Tables.{Entry}
 use Rattle.virtual_unwind.specs.Contexts.{get, rsp}
 use Rattle.virtual_unwind.specs.Undone.{word, operations}
@@ -18,8 +19,9 @@ use Rattle.seh_records.specs.Record.{fetched}
 use Rattle.seh_records.specs.declared.layout.TheConstants.{RECORD_SIZE, POINTERS_AT}
 use Rattle.seh_walk.specs.Walk.{filter_return, finally_return, is_search}
 
--- a frame of a body: its entry in the function table; how far above RSP its slots end, and its
--- return address is; that address; and what its caller has in RBX, RBP, RSI, RDI and R12 to R15
+-- a frame of a body: the entry of the function table that RIP is in; how far above RSP its slots
+-- end, and its return address is; that address; and what its caller has in RBX, RBP, RSI, RDI and
+-- R12 to R15
 pub record StackFrame : Type 0 where
   pub entry : Entry
   pub slots : ℕ
@@ -63,9 +65,30 @@ caller_of_leaf c back = record { frame = rsp c; context = after_leaf c back; ask
 
 -- ---- what is in memory
 
--- what the unwind codes of a frame's entry tell
+-- what tells of an entry's frames: its own info, or where it is chained, that of its function
+abbrev pub telling : Info → List Info → Info
+telling i [] = i
+telling i (p ∷ ps) = p
+
+abbrev pub teller : Entry → Info
+teller e = telling e.info e.parents
+
+-- what the unwind codes tell of a frame
 abbrev pub told : StackFrame → List UnwindOperation
-told f = operations f.entry.info.codes
+told f = operations (teller f.entry).codes
+
+-- the info of a fragment: no codes, no prologue, and the frame fields of its function's
+pub record IsFragment (i p : Info) : Type 0 where
+  pub codes : i.codes ≡ []
+  pub prologue : i.prologue_size ≡ 0
+  pub register : i.frame_register ≡ p.frame_register
+  pub offset : i.frame_offset ≡ p.frame_offset
+
+-- an entry is a function's own, or a fragment's, whose function's isn't chained
+abbrev pub IsChain : Info → List Info → Type 0
+IsChain i [] = Unit {0}
+IsChain i (p ∷ []) = IsFragment i p
+IsChain i (p ∷ r ∷ ps) = ⊥
 
 -- the registers at the function's first byte, by their numbers: RSP is at the return address
 abbrev pub at_entry : Context → StackFrame → ℕ → ℕ
@@ -83,12 +106,12 @@ AreAbove low base at (x ∷ xs) = AreAbove low base at xs
 -- address, the frame register, if it has one, leads to RSP, and what isn't saved is as the caller
 -- has it
 pub record IsAsTold (m : Memory) (c : Context) (f : StackFrame) : Type 0 where
-  pub offset : f.entry.info.frame_offset ≤ 2 ^ 64
-  pub allowed : are_allowed f.entry.info.frame_register (told f) ≡ true
-  pub base : base_if f.entry.info c (has_frame f.entry.info) ≡ rsp c
+  pub offset : (teller f.entry).frame_offset ≤ 2 ^ 64
+  pub allowed : are_allowed (teller f.entry).frame_register (told f) ≡ true
+  pub base : base_if (teller f.entry) c (has_frame (teller f.entry)) ≡ rsp c
   pub stack : rules.Stack m (at_entry c f) f.return_address (rsp c) (rsp c) (told f)
-  pub framed : rules.Framed f.entry.info.frame_register f.entry.info.frame_offset (get c) (rsp c)
-      (told f)
+  pub framed : rules.Framed (teller f.entry).frame_register (teller f.entry).frame_offset (get c)
+      (rsp c) (told f)
   pub others : rules.Others (at_entry c f) (get c) (told f)
   pub above : AreAbove (rsp c + f.slots) (rsp c) (rsp c) (told f)
 
@@ -101,7 +124,7 @@ pub record FrameIsAt (t : Functions) (m : Memory) (c : Context) (f : StackFrame)
   pub past_prologue : nat_lt (distance t.base c.rip - f.entry.range.begin)
       f.entry.info.prologue_size ≡ false
   pub not_epilogue : tail_at f.entry.info.frame_register m c.rip ≡ None
-  pub no_parents : f.entry.parents ≡ []
+  pub chain : IsChain f.entry.info f.entry.parents
   pub kept : length c.kept ≡ 9
   pub eight : length f.others ≡ 8
   pub slots : f.slots ≤ f.size

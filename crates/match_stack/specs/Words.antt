@@ -61,13 +61,13 @@ pub use Rattle.match_stack.specs.DispatchSteps.{placed_in, AsksHost, IsException
 pub use Rattle.match_stack.specs.FrameHandlers.{NoHandler, FirstHandler, NoBlock, Arrives, FirstBlock}
 pub use Rattle.match_stack.specs.HostSearch.{IsWide, FindsHandler, SearchedAs, CanBeKept, Asks, Accepts}
 pub use Rattle.match_stack.specs.HostUnwind.{store_of, Course, RunsBlock, UnwoundAs, on_top, Lands}
-pub use Rattle.match_stack.specs.ImagePlan.{ImagePlan, IsFlagged, InCode, IsHandlerRow, IsOfKind, AreRegions, Gives, AllFinally, AllExcept, IsFinallyRow, target_rva, IsFunclet, IsEntryOf, HasEntries, IsGiven}
+pub use Rattle.match_stack.specs.ImagePlan.{ImagePlan, IsFlagged, InCode, IsHandlerRow, IsOfKind, AreRegions, HasRows, HasNoRows, Gives, AllFinally, AllExcept, IsFinallyRow, target_rva, IsFunclet, IsEntryOf, HasEntries, IsGiven}
 pub use Rattle.match_stack.specs.ItemMatches.{Activation, HasSpace, below_end, record_room, Onward, Linked, Reaches, activations_below, HoldsWords, IsInPlace, HoldsPlaces, temporaries_end, HasActivation, FrameWaits, LeafWaits, regions_from, IsAtRow, Aimed, Leads, home_end, HasPointers, BodyWaits, IsOwnRecord, IsActivation, locals_of, IsAbove, AimedHere, HasPurpose, ResumesFrom}
 pub use Rattle.match_stack.specs.ListLaws.{IsLinkedStack, KeepsAbove, left_from, SearchFindsTheHandlers, UnwindingRunsTheBlocks, UnwindingStopsAtTheTarget, KeptByStoresBelow, KeptByOtherMemories, IsInstruction}
 pub use Rattle.match_stack.specs.PlainWalks.{state, chosen_or, asked_row, plain_search, decided_or, plain_unwind}
 pub use Rattle.match_stack.specs.RecordLaws.{RecordLeavesTheList, SearchIsOneMore, UnwindingIsOneMore, PushedRecordLeavesOthers, ReturnAddressIsPushed}
 pub use Rattle.frame_rules.specs.Frame.{IsWord}
-pub use Rattle.match_stack.specs.Stack.{told, at_entry, IsAsTold, StackFrame, FrameIsAt, LeafIsAt, after_frame, after_leaf, StackItem, Searching, Unwinding, Framed, Leaf, IsStack, caller_frame, caller_of_leaf, RecordIsAt, IsBetween, Owned, ItemIsAt, OwnedBy, context_after, context_at}
+pub use Rattle.match_stack.specs.Stack.{teller, telling, told, IsChain, IsFragment, at_entry, IsAsTold, StackFrame, FrameIsAt, LeafIsAt, after_frame, after_leaf, StackItem, Searching, Unwinding, Framed, Leaf, IsStack, caller_frame, caller_of_leaf, RecordIsAt, IsBetween, Owned, ItemIsAt, OwnedBy, context_after, context_at}
 pub use Rattle.match_stack.specs.StackRecords.{On, RecordHasRoom, IsData, pushed, IsUntouched}
 pub use Rattle.match_stack.specs.TurnLaws.{IsSearching, SearchTurns, IsUnwinding, UnwindTurns}
 pub use Rattle.match_stack.specs.WalkLaws.{context_below, FrameIsVisited, LeafIsVisited, SearchIsPassed, UnwindingIsPassed, StackIsOver, SearchIsOfTheList, UnwindingIsOfTheList, CanBePlaced, RecordIsOneMore, KeptByOtherStores, NothingBelowIsOwned, SlotsAreFree}

@@ -3,7 +3,7 @@ use Rattle.std.proofs.Common.{◌≡◌, ℕ, ◌+◌, ◌^◌, ◌<◌, ◌≤�
 use Rattle.std.specs.Prelude.{slice_get}
 use Rattle.match_turns.specs.Words.{kept_of, context_of, Rax, Rsp, State, register, Slot, Local, Temporary, IsSlot, Configuration, read, Layout, return_code, fetch, local_at, fetch_local, MachineView, machine, HasBack, Returned, HaveRoom, IsWellFormed, AllKeep, counts_of, owed_of, Setting, RepresentsAt, Place, InRegister, InFrame, fetch_placed, IsReached, Arriving}
 use Rattle.template_code.specs.Places.{place_of}
-use Rattle.match_bodies.specs.Callers.{owed_by}
+use Rattle.match_bodies.specs.Callers.{frame_info, owed_by}
 use Rattle.match_bodies.specs.CodeSites.{body_plan}
 use Rattle.virtual_unwind.specs.Undone.{operations}
 use Rattle.frame_rules.specs.Bytes.{spell}
@@ -143,12 +143,12 @@ module _ (setting : Setting) (roomy : HaveRoom setting.program) where
         by true e =
             let none = (leaf_layout t fs program p q c.frame.body b.body.slots.code e
             (image.laid_out c.frame.body b.body.slots.code b.body.slots.body)).plan in
-            ap (owed_by (p.entry c.frame.body 0).info) e
+            ap (owed_by (frame_info p c.frame.body)) e
             ∙ ap (λ (k : FramePlan). of_codes k.frame k.distance (operations_of k)) (sym none)
         by false e =
             let h = image.plans c.frame.body b.body.slots.code b.body.slots.body e in
             let codes = ap operations h.codes ∙ codes_plan spell (body_plan p q c.frame.body) in
-            ap (owed_by (p.entry c.frame.body 0).info) e ∙ (λ j. record {
+            ap (owed_by (frame_info p c.frame.body)) e ∙ (λ j. record {
               register = h.frame_register j;
               offset = h.frame_offset j;
               codes = codes j;

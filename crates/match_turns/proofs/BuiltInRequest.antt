@@ -5,9 +5,9 @@ use Rattle.std.specs.Prelude.{◌==◌, false, slice_get, take}
 use Rattle.match_turns.specs.Words.{kept_of, W64, loaded, IMAGE_BASE, IMAGE_RANGE_END, STACK_START, STACK_END, address_of, Rsp, Instr, opcode_register, Cpu, State, register, BuiltIn, Put, Protect, RaiseException, Walk, Temporary, BodyState, LinearBody, Configuration, body_of, regions_of, waiting, instruction_at, Layout, size, sizes, put_back, keep, temporary_at, call, IsNear, return_at, begin_call, clear_result, template, template_size, MachineView, machine, pushed, HasCode, InCode, KeepsAbove, IsWellFormed, IsLive, Comes, links_of, service_of, CallsBuiltIn, IsWellMade, IsKnown, Setting, InBody, IsMachineMemory, IsResumed, RepresentsAt, arguments_code}
 use Rattle.x64_templates.specs.Runs.{Reaches}
 use Rattle.linear_code.specs.declared.instruction.Instruction.TheVariants as instructions
-use Rattle.match_turns.proofs.Lemmas.{sizes_append, call_size, template_sizes, set_small, template_some, reaches_silently, counted_here, code_at, reaches_keeps, stays_well_formed, frame, slots, v, same_state, template_here, has_slots, next_address, code_end, sp_is, IsCounted, sp_low, frame_top, room_here, holds_here, others_of}
+use Rattle.match_turns.proofs.Lemmas.{sizes_append, call_size, template_sizes, set_small, template_some, reaches_silently, counted_here, code_at, reaches_keeps, stays_well_formed, frame, slots, v, same_state, template_here, has_slots, label_near, end_near, code_end, sp_is, IsCounted, sp_low, frame_top, room_here, holds_here, others_of}
 use Rattle.match_turns.proofs.FunctionFrame.{same_itself}
-use Rattle.match_turns.proofs.CallResult.{offset_most, caller_framed}
+use Rattle.match_turns.proofs.CallResult.{caller_framed}
 use Rattle.match_turns.proofs.BuiltInCall.{with_arguments_of, ServiceReached, service_reached}
 use Rattle.match_turns.proofs.BuiltInShadow.{calls_it, built_in_keeps}
 use Rattle.match_turns.proofs.HostRequest.{Asks, asks_host}
@@ -98,35 +98,29 @@ module _ (setting : Setting) (made : IsWellMade setting.program setting.plan) wh
         let five = call_size back (q.thunk f) in
         omega (arith, sizes_append (arguments_code y first) (call back (q.thunk f) ∷ []))
 
-    pub back_inside : (place ≤ back) × (back < p.address c.frame.body (c.frame.next + 1))
+    back_inside : (place ≤ back)
+        × (back < place + template_size y (instructions.CallBuiltIn f first))
     back_inside =
-        let n = next_address setting made.room s c b counted
-        (instructions.CallBuiltIn f first) here in
         let z = template_sizes (links_of p q c.frame.body) y place
         (instructions.CallBuiltIn f first) in
         let k = keep_some y first in
         let e = back_is in
-        (omega arith, omega (arith, n, z, b.rip, k, sizes_append done (keep y (Temporary first))))
+        (omega arith, omega (arith, z, b.rip, k, sizes_append done (keep y (Temporary first))))
 
     in_code : InCode p c.frame.body c.frame.next back
     in_code =
-        let n = next_address setting made.room s c b counted (instructions.CallBuiltIn f first)
-        here in
         let e = code_end setting made.room s c b counted (instructions.CallBuiltIn f first) here in
         let h = back_inside.1 in
-        record { low = back_inside.0; high = omega arith }
+        record { low = back_inside.0; high = omega (arith, b.rip) }
 
     back_near : (IMAGE_BASE < back) × (back < IMAGE_RANGE_END)
     back_near =
-        let a = image.addresses c.frame.body body b.body.slots.body in
-        let low = a.inside.low in
-        let high = a.inside.high in
-        let first = a.first in
-        let from = a.labels c.frame.next in
-        let most = offset_most y body.code (c.frame.next + 1) in
-        let e = a.labels (c.frame.next + 1) in
+        let n = (label_near setting c.frame.body body b.body.slots.body c.frame.next).0 in
+        let e = end_near setting c.frame.body body b.body.slots.body c.frame.next
+        (instructions.CallBuiltIn f first) here in
         let r = back_inside.1 in
         let l = back_inside.0 in
+        let at = b.rip in
         (omega arith, omega arith)
 
     near : IsNear back (q.thunk f)

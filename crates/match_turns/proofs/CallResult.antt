@@ -1,12 +1,13 @@
 -- RAX goes to the temporary after those that a body has kept: where what it called has returned,
 -- the next instruction begins.
-use Rattle.std.proofs.Common.{◌≡◌, ℕ, zero, suc, ◌+◌, ◌^◌, ◌<◌, ◌≤◌, Bool, true, false, cond, Option, Some, None, List, [], ◌∷◌, ◌++◌, length, refl, sym, ap, subst, ◌∙◌, arith, inl, inr, length-append}
+use Rattle.std.proofs.Common.{◌≡◌, ℕ, zero, suc, ◌+◌, ◌^◌, ◌<◌, Bool, true, false, cond, Option, Some, None, List, [], ◌∷◌, ◌++◌, length, refl, sym, ap, subst, ◌∙◌, arith, inl, inr, length-append}
 use Rattle.std.specs.Prelude.{◌⊎◌, slice_get, slice_index}
 use Rattle.std.proofs.lemmas.Bool.{eq-eqb, ne_eqb, false≢true}
 use Rattle.std.proofs.lemmas.Option.{slice_get_within}
-use Rattle.match_turns.specs.Words.{kept_of, Event, Memory, Rax, Rsp, Instr, Context, State, register, Functions, distance, Funclet, arrivals, Temporary, Instruction, BodyState, with_slot, LinearProgram, LinearBody, BodyName, FuncletBody, body_of, Frame, Item, Waits, Configuration, Layout, sizes, keep, template, body_size, offset_of, machine, HasCode, ReachesBody, StackItem, ImagePlan, Activation, locals_of, On, on_top, IsWellFormed, AllKeep, HaveRoom, Sites, links_of, seen_by_templates, counts_of, OwnerHasFrame, with_values, Setting, IsMachineMemory, OtherRegisters, IsWellMade, now_of}
+use Rattle.match_turns.specs.Words.{kept_of, Event, Memory, Rax, Rsp, Instr, Context, State, register, Functions, distance, Funclet, arrivals, Temporary, Instruction, BodyState, with_slot, LinearProgram, LinearBody, BodyName, FuncletBody, body_of, Frame, Item, Waits, Configuration, Layout, sizes, keep, template, machine, HasCode, ReachesBody, StackItem, ImagePlan, Activation, locals_of, On, on_top, IsWellFormed, AllKeep, HaveRoom, Sites, links_of, seen_by_templates, counts_of, OwnerHasFrame, with_values, Setting, IsMachineMemory, OtherRegisters, IsWellMade, now_of}
 use Rattle.x64_templates.specs.Runs.{Reaches}
-use Rattle.match_turns.proofs.Lemmas.{sizes_append, template_sizes, code_split, call_ends, keep_flow, first_in_code, waits_in_body, locals_count, same_activations, Keeps, reaches_keeps, stays_well_formed, IsCounted, is_machine, room_here, holds_here, slots_here, locals_here, leaves_same, Leaves, Ran, represents_next, is_here, is_after, ends_at, RunsKeep, one_piece, code, y, v, frame, slots, template_here, next_address, sp_is, silent_at, Surroundings}
+use Rattle.match_turns.proofs.Lemmas.{sizes_append, template_sizes, code_split, call_ends, keep_flow, first_in_code, waits_in_body, locals_count, same_activations, Keeps, reaches_keeps, stays_well_formed, IsCounted, is_machine, room_here, holds_here, slots_here, locals_here, leaves_same, Leaves, Ran, represents_next, is_here, is_after, ends_at, RunsKeep, one_piece, code, v, frame, slots, template_here, next_address, sp_is, silent_at, Surroundings, label_near}
+use Rattle.template_code.specs.ColdParts.{falls_through}
 use Rattle.x64_templates.specs.Epilogues.{IsReturn}
 use Rattle.lowering_invariants.specs.ReturnRegions.{is_call}
 use Rattle.match_bodies.specs.Bodies.{RepresentsAt}
@@ -15,14 +16,6 @@ use Rattle.match_bodies.proofs.BodyResumption.{again}
 use Rattle.match_bodies.proofs.HomeSpace.{CallerHasFrame}
 use Rattle.match_bodies.proofs.BodyViews.{placed, count}
 use Rattle.match_bodies.proofs.ArrivedParameters.{no_arrivals}
-
--- an instruction of a body begins within it
-pub offset_most : (y : Layout) (body : List Instruction) (number : ℕ)
-    → offset_of y body number ≤ body_size y body
-offset_most y [] zero = omega arith
-offset_most y [] (suc number) = omega arith
-offset_most y (i ∷ body) zero = omega arith
-offset_most y (i ∷ body) (suc number) = let r = offset_most y body number in omega arith
 
 -- no exception was just taken over
 pub nothing : (landed : Option ℕ) (code : ℕ) → landed ≡ None → landed ≡ Some code → ⊥
@@ -107,6 +100,7 @@ module _ (setting : Setting) (roomy : HaveRoom setting.program) where
       (memory : IsMachineMemory setting u.memory source)
       (o : LinearBody) (there : body_of program w.body ≡ Some o) (i : Instruction) (first : ℕ)
       (done : List Instr) (calls : slice_get o.code w.next ≡ Some i) (goes : IsReturn i → ⊥)
+      (falls : falls_through i ≡ true)
       (parts : template (links_of p q w.body) (p.layout w.body) (p.address w.body w.next) i
       ≡ done ++ keep (p.layout w.body) (Temporary first))
       (fits : first < o.temporaries) (within : w.next + 1 < length o.code)
@@ -230,17 +224,14 @@ module _ (setting : Setting) (roomy : HaveRoom setting.program) where
       next_place : u.cpu.rip + sizes (keep layout (Temporary first)) ≡ p.address w.body (w.next + 1)
       next_place =
           let n = next_address setting roomy earlier caller waits counted i
-          calls_here in
+          calls_here falls in
           let z = template_sizes (links_of p q w.body) layout place i in
           let e = ap sizes parts in
           omega (arith, back, n, z, e, sizes_append done (keep layout (Temporary first)))
 
       next_small : p.address w.body (w.next + 1) < 2 ^ 64
       next_small =
-          let a = image.addresses w.body o there in
-          let high = a.inside.high in
-          let e = a.labels (w.next + 1) in
-          let most = offset_most layout o.code (w.next + 1) in
+          let n = (label_near setting w.body o there (w.next + 1)).1 in
           omega arith
 
       abbrev values_here : List ℕ

@@ -1,6 +1,6 @@
 -- The body that waits for a call has its result: RAX goes to the temporary of the first argument,
 -- and the next instruction begins.
-use Rattle.std.proofs.Common.{◌≡◌, ℕ, ◌+◌, ◌-◌, ◌<◌, false, Some, None, List, [], ◌∷◌, ◌++◌, length, sym, arith, append_assoc}
+use Rattle.std.proofs.Common.{◌≡◌, ℕ, ◌+◌, ◌-◌, ◌<◌, false, Some, None, List, [], ◌∷◌, ◌++◌, length, refl, sym, arith, append_assoc}
 use Rattle.std.specs.Prelude.{slice_get}
 use Rattle.match_turns.specs.Words.{Event, Memory, Rax, Instr, Context, kept_of, State, register, Temporary, HasSlots, LinearBody, body_of, Frame, Item, Waits, Layout, sizes, keep, call, return_at, begin_call, passing_code, template_size, StackItem, Activation, On, on_top, IsWellFormed, HaveRoom, counts_of, Setting, IsMachineMemory, arguments_code}
 use Rattle.linear_code.specs.declared.instruction.Instruction.TheVariants as instructions
@@ -69,5 +69,5 @@ module _ (setting : Setting) (roomy : HaveRoom setting.program) where
     resumes counted surrounded =
         kept.resumes setting roomy u w items acts source es above is on registers well_formed
         memory o there (instructions.Call f first arguments) first (passing ++ beginning) calls
-        (λ h. h) (sym (append_assoc passing beginning (keep layout (Temporary first)))) fits
+        (λ h. h) refl (sym (append_assoc passing beginning (keep layout (Temporary first)))) fits
         within held free back_is framed counted surrounded

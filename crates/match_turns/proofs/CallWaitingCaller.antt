@@ -5,8 +5,7 @@ use Rattle.std.specs.Prelude.{slice_get, take}
 use Rattle.std.proofs.lemmas.List.{append_assoc}
 use Rattle.match_turns.specs.Words.{IMAGE_BASE, IMAGE_RANGE_END, Memory, Rsp, Instr, context_of, State, register, Temporary, LinearBody, LinearFunclet, BodyName, FunctionBody, FuncletBody, body_of, Item, Waits, Searches, Unwinds, waiting, regions_of, Layout, sizes, put_back, keep, temporary_at, call, return_at, begin_call, passing_code, template_size, StackItem, context_below, InCode, HoldsWords, IsAbove, FuncletIsAbove, IsData, On, KeepsStackBut, Setting, InBody, IsResumed, IsLinkedStack, arguments_code, frame_of, slots_end, now_of}
 use Rattle.linear_code.specs.declared.instruction.Instruction.TheVariants as instructions
-use Rattle.match_turns.proofs.Lemmas.{sizes_append, call_size, template_some, others_of, frame_with, body_on_top, sp_low, next_address, code_end}
-use Rattle.match_turns.proofs.CallResult.{offset_most}
+use Rattle.match_turns.proofs.Lemmas.{sizes_append, call_size, template_some, others_of, frame_with, body_on_top, sp_low, label_near, end_near, code_end}
 use Rattle.match_turns.proofs.CallReturn.{returns_at, call_template}
 use Rattle.match_turns.proofs.FunctionFrame.{same_itself}
 use Rattle.match_bodies.proofs.ArgumentSpace.{outgoing_is_free}
@@ -98,42 +97,32 @@ module _ {setting : Setting} (at_call : AtCall setting) where
     here = back_is;
   }
 
-  pub back_inside : (place ≤ back) × (back < p.address c.frame.body (c.frame.next + 1))
+  -- it is in the call's own code
+  back_inside : (place ≤ back) × (back < place + template_size y (instructions.Call f first count))
   back_inside =
-      let n = next_address setting roomy s c b counted
-      (instructions.Call f first count) at in
       let z = call_template y f first count in
       let k = kept_some y first in
-      (omega arith, omega (arith, n, z, b.rip, k))
+      (omega arith, omega (arith, z, b.rip, k))
 
   in_code : InCode p c.frame.body c.frame.next back
   in_code =
-      let n = next_address setting roomy s c b counted (instructions.Call f first count) at in
       let e = code_end setting roomy s c b counted (instructions.Call f first count) at in
       let h = back_inside.1 in
-      record { low = back_inside.0; high = omega arith }
-
-  back_small : back < 2 ^ 64
-  back_small =
-      let a = image.addresses c.frame.body b.body.slots.code b.body.slots.body in
-      let high = a.inside.high in
-      let most = offset_most y b.body.slots.code.code (c.frame.next + 1) in
-      let e = a.labels (c.frame.next + 1) in
-      let r = back_inside.1 in
-      omega arith
+      record { low = back_inside.0; high = omega (arith, b.rip) }
 
   pub back_near : (IMAGE_BASE < back) × (back < IMAGE_RANGE_END)
   back_near =
-      let a = image.addresses c.frame.body b.body.slots.code b.body.slots.body in
-      let low = a.inside.low in
-      let high = a.inside.high in
-      let first = a.first in
-      let from = a.labels c.frame.next in
-      let most = offset_most y b.body.slots.code.code (c.frame.next + 1) in
-      let e = a.labels (c.frame.next + 1) in
+      let code = b.body.slots.code in
+      let n = (label_near setting c.frame.body code b.body.slots.body c.frame.next).0 in
+      let e = end_near setting c.frame.body code b.body.slots.body c.frame.next
+      (instructions.Call f first count) at in
       let r = back_inside.1 in
       let l = back_inside.0 in
+      let at_rip = b.rip in
       (omega arith, omega arith)
+
+  back_small : back < 2 ^ 64
+  back_small = let n = back_near.1 in omega arith
 
   above_waiting : (name : BodyName) (below : List Item) → IsAbove t fs program p c.frame name below
       → IsAbove t fs program p (waiting c first).frame name below

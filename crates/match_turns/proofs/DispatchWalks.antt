@@ -6,6 +6,7 @@ use Rattle.match_turns.specs.Words.{W64, RefusedAccess, Memory, loaded, Rdx, Rsp
 use Rattle.virtual_unwind.specs.Undone.{word}
 use Rattle.seh_num.specs.declared.event.Event.TheVariants as events
 use Rattle.match_turns.proofs.Lemmas.{finds_return, frame_is_owed, owed_with, nine_numbers, few_items, none_below, on_stack, gives_caller, begin_finds, word_is}
+use Rattle.match_bodies.proofs.BodyResumption.{same_teller}
 use Rattle.match_bodies.proofs.UnwindWalks.{block_callers, landing_callers}
 
 -- the nonvolatile registers, with another stack pointer
@@ -123,9 +124,9 @@ module _ (setting : Setting) where
         let name = l.body.body in
         let d : Context = record { rip = r.target; kept = l.to.kept } in
         let cs = callers (after_frame l.to f) l.is in
-        let entry = waits.entry ∙ (image.pieces name waits.waits.code waits.waits.body).entries
-        waits.waits.label 0 in
-        let owes = frame_is_owed p name s.memory l.to f waits.framed entry is_there.kept
+        let tells = same_teller t fs program p q image f name waits.waits.code waits.waits.label
+        waits.waits.body waits.framed waits.entry in
+        let owes = frame_is_owed p name s.memory l.to f waits.framed tells is_there.kept
         is_there.eight is_there.room is_there.is_told in
         let found = begin_finds t fs program p q image s.memory name waits.waits.code
         w.target.label waits.waits.body memory.code

@@ -1,9 +1,9 @@
 -- Where a fault is continued, the saved state is within the same operation.
-use Rattle.std.proofs.Common.{◌≡◌, ℕ, List, [], ◌∷◌, Some, refl, sym, ap, subst, arith}
+use Rattle.std.proofs.Common.{◌≡◌, ℕ, List, [], ◌∷◌, Some, refl, sym, subst, arith}
 use Rattle.std.specs.Prelude.{slice_get}
-use Rattle.match_turns.specs.Words.{Cpu, context_of, State, distance, arrivals, Temporary, Instruction, LinearBody, body_of, SameOperation, Waits, Configuration, StackItem, InCode, Activation, locals_of, On, IsWellFormed, WorksAgain, IsWellMade, template_size, Setting, InBody, IsMachineMemory, WorksOn, ResumesFrom, leaf_values, slots_end, rsp}
+use Rattle.match_turns.specs.Words.{Cpu, context_of, State, distance, arrivals, Temporary, Instruction, LinearBody, body_of, SameOperation, Waits, Configuration, StackItem, InCode, Activation, locals_of, On, IsWellFormed, WorksAgain, IsWellMade, Setting, InBody, IsMachineMemory, WorksOn, ResumesFrom, leaf_values, slots_end, rsp}
 use Rattle.linear_code.specs.declared.instruction.Instruction.TheVariants as instructions
-use Rattle.match_turns.proofs.Lemmas.{code_ends, waits_in_body, all_front, get_or_is, label_in, body_there}
+use Rattle.match_turns.proofs.Lemmas.{code_ends, waits_in_body, all_front, label_in, body_there}
 use Rattle.match_bodies.proofs.LeafRegisters.{running_hold}
 use Rattle.match_turns.proofs.OperationCode.{some_finish, whole_size, silent_within}
 
@@ -42,9 +42,7 @@ module _ (setting : Setting) (made : IsWellMade setting.program setting.plan)
   inside : InCode p c.frame.body c.frame.next saved.rip
   inside =
       let y = p.layout c.frame.body in
-      let g = get_or_is there.0.code c.frame.next i instructions.Separator at in
-      let n = code_ends t fs program p q image c.frame.body there.0 c.frame.next there.1 g.1 in
-      let z = ap (template_size y) g.0 in
+      let n = code_ends setting c.frame.body there.0 there.1 c.frame.next i at in
       let w = whole_size y again.to again.operation (Temporary again.first)
       (Temporary again.second) in
       let f = some_finish y again.operation again.to in

@@ -63,7 +63,7 @@ module _ (setting : Setting) (roomy : HaveRoom setting.program) (s : State)
       let lt = inside (stored setting roomy s c b counted around to value c.store.memory) acts body
       b.body.slots.body in
       let at = next_address setting roomy s c b counted
-      (instructions.Information to field) e in
+      (instructions.Information to field) e refl in
       let small = label_small setting roomy s c b counted around (c.frame.next + 1)
       lt in
       let reads = reads_exception t fs program p q s c b field filter is in

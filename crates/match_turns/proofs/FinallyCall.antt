@@ -9,11 +9,11 @@ use Rattle.x64_templates.specs.Runs.{Reaches}
 use Rattle.x64_instr.specs.declared.instruction.Instr.TheVariants as instrs
 use Rattle.linear_code.specs.declared.instruction.Instruction.TheVariants as instructions
 use Rattle.linear_code.specs.declared.program.FuncletKind.TheVariants as funclets
-use Rattle.match_turns.proofs.Lemmas.{with_two, FinallyCalled, finally_begins, pushed_back, reaches_above, kept_by_stores_below, first_in_code, frame_with, slots_within, reaches_comes, others_of, reaches_steps, calls_keep, OnTop, body_on_top, may_read_written, word_of, reaches_keeps, stays_well_formed, IsCounted, sp_low, frame_top, v, same_state, template_here, sp_is}
+use Rattle.match_turns.proofs.Lemmas.{with_two, FinallyCalled, finally_begins, pushed_back, reaches_above, kept_by_stores_below, first_in_code, frame_with, slots_within, reaches_comes, others_of, reaches_steps, calls_keep, OnTop, body_on_top, may_read_written, word_of, reaches_keeps, stays_well_formed, IsCounted, sp_low, frame_top, v, same_state, template_here, sp_is, label_near}
 use Rattle.match_stack.specs.ItemMatches as linked
 use Rattle.match_stack.proofs.SearchHandlers.{body_reaches}
 use Rattle.match_turns.proofs.ReturnAddressPlace.{top_of, begins_beneath}
-use Rattle.match_turns.proofs.FinallyCallReturn.{offset_most, after_call}
+use Rattle.match_turns.proofs.FinallyCallReturn.{after_call}
 use Rattle.match_turns.proofs.FuncletFrame.{ArrivesBelow}
 use Rattle.match_turns.proofs.CallRegions.{apart_same}
 use Rattle.match_turns.proofs.DispatchMemory.{memory_untouched}
@@ -85,12 +85,9 @@ module _ (setting : Setting) (roomy : HaveRoom setting.program)
 
     back_near : IsNear back (p.funclet k)
     back_near =
-        let a = image.addresses name code b.body.slots.body in
-        let l = a.labels (c.frame.next + 1) in
-        let m = offset_most y code.code (c.frame.next + 1) in
-        let low = a.inside.low in
-        let high = a.inside.high in
-        let first = a.first in
+        let n = label_near setting name code b.body.slots.body (c.frame.next + 1) in
+        let low = n.0 in
+        let high = n.1 in
         let z = image.addresses (FuncletBody k) block.funclet.body target_there in
         let to_low = z.inside.low in
         let to_high = z.inside.high in

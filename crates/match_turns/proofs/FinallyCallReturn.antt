@@ -1,23 +1,15 @@
 -- A `__finally` block that a body has called returns: the body continues after its call.
-use Rattle.std.proofs.Common.{◌≡◌, ℕ, zero, suc, ◌+◌, ◌<◌, ◌≤◌, Option, Some, None, List, [], ◌∷◌, length, get_or, refl, sym, ap, subst, ◌∙◌, arith, true, false}
+use Rattle.std.proofs.Common.{◌≡◌, ℕ, ◌+◌, ◌<◌, Option, Some, None, List, [], ◌∷◌, length, refl, sym, ap, subst, ◌∙◌, arith, true, false}
 use Rattle.std.specs.Prelude.{slice_get}
 use Rattle.std.proofs.lemmas.List.{append-nil}
-use Rattle.match_turns.specs.Words.{kept_of, Rsp, Context, State, register, distance, arrivals, Slot, Instruction, LinearBody, LinearFunclet, BodyName, FuncletBody, body_of, Frame, Item, Waits, Configuration, Next, with_some, read, forth, instruction_in, end_finally, end_funclet, end_body, act, Layout, sizes, call, finally_arguments, return_code, template_size, body_size, offset_of, HasBack, context_below, AllReturnsStayInRegions, HaveRoom, InCode, Activation, locals_of, activations_below, return_of, ReturnsTo, On, IsWellFormed, Moves, links_of, held_below, turns_left, Setting, InBody, RepresentsAt, now_of}
+use Rattle.match_turns.specs.Words.{kept_of, Rsp, Context, State, register, distance, arrivals, Slot, LinearBody, LinearFunclet, BodyName, FuncletBody, body_of, Frame, Item, Waits, Configuration, Next, with_some, read, forth, instruction_in, end_finally, end_funclet, end_body, act, Layout, sizes, call, finally_arguments, return_code, HasBack, context_below, AllReturnsStayInRegions, HaveRoom, InCode, Activation, locals_of, activations_below, return_of, ReturnsTo, On, IsWellFormed, Moves, links_of, held_below, turns_left, Setting, InBody, RepresentsAt, now_of}
 use Rattle.x64_templates.specs.Runs.{Reaches}
 use Rattle.linear_code.specs.declared.instruction.Instruction.TheVariants as instructions
 use Rattle.linear_code.specs.declared.program.FuncletKind.TheVariants as funclets
-use Rattle.match_turns.proofs.Lemmas.{sizes_append, call_size, template_sizes, offset_next, reaches_silently, waits_in_body, all_front, IsCounted, get_or_is}
+use Rattle.match_turns.proofs.Lemmas.{sizes_append, call_size, template_sizes, reaches_silently, waits_in_body, all_front, IsCounted, address_next}
 use Rattle.match_bodies.proofs.BodyResumption.{again}
 use Rattle.match_turns.proofs.BodyReturn as leaving
 use Rattle.match_bodies.proofs.LeafRegisters.{framed_hold}
-
--- an instruction of a body begins within it
-pub offset_most : (y : Layout) (body : List Instruction) (number : ℕ)
-    → offset_of y body number ≤ body_size y body
-offset_most y [] zero = omega arith
-offset_most y [] (suc number) = omega arith
-offset_most y (i ∷ body) zero = omega arith
-offset_most y (i ∷ body) (suc number) = let r = offset_most y body number in omega arith
 
 same_number : (a b : ℕ) → Some a ≡ Some b → a ≡ b
 same_number a b e = cc
@@ -37,22 +29,12 @@ module _ (setting : Setting) (roomy : HaveRoom setting.program)
       let y = p.layout name in
       let links = links_of p q name in
       let place = p.address name label in
-      let a = image.addresses name o there in
-      let g = get_or_is o.code label (instructions.CallFinally k) instructions.Separator at in
-      let n = offset_next y o.code label instructions.Separator g.1 in
-      let z : template_size y (get_or o.code label instructions.Separator)
-      ≡ template_size y (instructions.CallFinally k) = ap (template_size y) g.0 in
-      let e : offset_of y o.code (label + 1) ≡ offset_of y o.code
-      (suc label) = (let j : label + 1 ≡ suc label = omega arith in ap (offset_of y o.code) j) in
+      let n = address_next setting name o there label (instructions.CallFinally k) at refl in
       let w = template_sizes links y place (instructions.CallFinally k) in
       let five = call_size (place + sizes finally_arguments + 5) (p.funclet k) in
       omega (
         arith,
-        a.labels (label + 1),
-        a.labels label,
         n,
-        z,
-        e,
         w,
         five,
         sizes_append finally_arguments (call (place + sizes finally_arguments + 5) (p.funclet k)

@@ -2,6 +2,7 @@
 use Rattle.std.proofs.Common.{◌≡◌, ℕ, ◌^◌, ◌<◌, Bool, true, false, [], ◌∷◌, length, Option, Some, None, refl, sym, ap, subst, ◌∙◌, arith, inl, inr}
 use Rattle.std.specs.Prelude.{slice_get}
 use Rattle.std.proofs.lemmas.Option.{slice_get_cases}
+use Rattle.template_code.specs.ColdParts.{hot_code}
 use Rattle.match_turns.specs.Words.{W64, Memory, executable, Rsp, Instr, leading, chosen, is_encodable, Cpu, State, distance, arrivals, no_flags, LinearFunclet, FuncletBody, body_of, funclet_body, size, code_from, HasCode, frame_code, entry_code, links_of, IsFuncletPlan, Setting, HasProgram, takes_frame}
 use Rattle.match_bodies.specs.CodeSites.{arguments_code, body_plan}
 use Rattle.x64_instr.specs.declared.operand.RegisterOrMemory.TheVariants as places
@@ -51,7 +52,7 @@ module _ (setting : Setting) where
       let first = frame_code (body_plan p q name) (p.leaf name) in
       let all = has.code name f.body is in
       let entry = code_split m (p.funclet k) (entry_code program p q name)
-      (code_from (links_of p q name) y (p.address name 0) f.body.code) all in
+      (code_from (links_of p q name) y (p.address name 0) (hot_code f.body)) all in
       let frame = code_split m (p.funclet k) first (arguments_code program p name) entry.0 in
       let i = instrs.Arithmetic operations.Sub W64 (places.Register Rsp)
       (operands.Immediate y.frame) in

@@ -1,5 +1,6 @@
 -- A funclet's first turns: its frame is made, and keeps the base of its activation.
 use Rattle.std.proofs.Common.{◌≡◌, ℕ, ◌+◌, ◌-◌, ◌*◌, ◌^◌, ◌<◌, ◌≤◌, Option, Some, None, List, [], ◌++◌, length, refl, sym, ap, subst, ◌∙◌, arith, append_assoc}
+use Rattle.template_code.specs.ColdParts.{hot_code}
 use Rattle.match_turns.specs.Words.{STACK_START, STACK_END, number_at, Memory, Rcx, Rdx, Rsp, Instr, Flags, State, register, distance, arrivals, FuncletBody, body_of, funclet_body, Item, Layout, sizes, code_from, MachineView, machine, sp_of, HasCode, Enters, Activation, below_end, record_room, links_of, parent_base, keep_argument, funclet_arguments, frame_code, making_size, entry_code, IsWellFormed, seen_by_templates, FRAME_BY_WEIGHT, Setting, HasProgram, IsMachineMemory}
 use Rattle.match_bodies.specs.CodeSites.{arguments_code, body_plan}
 use Rattle.frame_rules.specs.Bytes.{prologue_code}
@@ -69,7 +70,7 @@ module _ (setting : Setting) where
     entry_codes m has =
         let h = code_split m (p.funclet k) (entry_code program p q (FuncletBody k))
         (code_from (links_of p q (FuncletBody k)) y (p.address (FuncletBody k) 0)
-        l.funclet.body.code) (has.code (FuncletBody k) l.funclet.body is) in
+        (hot_code l.funclet.body)) (has.code (FuncletBody k) l.funclet.body is) in
         code_split m (p.funclet k) front last (subst (HasCode m (p.funclet k)) entry_is h.0)
 
     pub first_is : p.address (FuncletBody k) 0 ≡ p.funclet k + sizes front + sizes last

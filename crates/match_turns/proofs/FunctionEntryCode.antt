@@ -1,6 +1,7 @@
 -- The code at a function's first byte: it makes the frame, and stores the arguments.
 use Rattle.std.proofs.Common.{◌≡◌, ℕ, ◌+◌, Bool, Some, List, ◌++◌, length, sym, ap, subst, ◌∙◌, arith}
 use Rattle.std.specs.Prelude.{slice_get}
+use Rattle.template_code.specs.ColdParts.{hot_code}
 use Rattle.match_turns.specs.Words.{Memory, Instr, Functions, Funclet, LinearProgram, LinearFunction, FunctionBody, function_body, body_of, Layout, sizes, parameters_code, code_from, HasCode, ImagePlan, Sites, links_of, frame_code, function_arguments, entry_code, IsProgramImage}
 use Rattle.match_bodies.specs.CodeSites.{arguments_code, body_plan}
 use Rattle.match_turns.proofs.Lemmas.{sizes_append, code_split, making_steps}
@@ -48,7 +49,7 @@ module _ (t : Functions) (fs : List Funclet) (program : LinearProgram) (p : Imag
   codes m has leaf e =
       let whole = code_split m target (entry_code program p q (FunctionBody f))
       (code_from (links_of p q (FunctionBody f)) layout (p.address (FunctionBody f) 0)
-      fn.body.code) (has.code (FunctionBody f) fn.body there) in
+      (hot_code fn.body)) (has.code (FunctionBody f) fn.body there) in
       code_split m target (making_frame p q f leaf) (parameters_code layout 0 count)
       (subst (HasCode m target) (entry_is leaf e) whole.0)
 

@@ -94,7 +94,14 @@ module _ (setting : Setting) (roomy : HaveRoom setting.program) where
           kind = kinds.Filter;
           function = 0;
           parent = None;
-          body = record { locals = 0; temporaries = 0; passed = 0; code = []; regions = [] };
+          body = record {
+            locals = 0;
+            temporaries = 0;
+            passed = 0;
+            code = [];
+            regions = [];
+            cold = [];
+          };
         }
 
     pub exits : c.below ≡ [] → Exits t fs program 16 turns_left s c (instructions.Return from)

@@ -49,7 +49,8 @@ pub use Rattle.match_bodies.proofs.LocalPlaces.{places_are, place_of_local, leav
 pub use Rattle.match_bodies.proofs.OwedCallers.{finds_return, frame_is_owed, owed_return, owed_with, returns_alone}
 pub use Rattle.match_bodies.proofs.PlainSteps.{GoesInside, from_here, label_small, moves_to, at_other, reached_here, is_read}
 pub use Rattle.match_bodies.proofs.ProgramKeeping.{program_stays, KeepsImage}
-pub use Rattle.match_bodies.proofs.ReturnAddresses.{label_found, argument_found, template_there}
+pub use Rattle.match_bodies.proofs.ReturnAddresses.{label_found, argument_found}
+pub use Rattle.match_bodies.proofs.LabelPlaces.{template_there, label_near, end_near, code_ends, address_next}
 pub use Rattle.match_bodies.proofs.RoutineWalks.{reaches_steps, StepsTo, steps_split, keeps_split, AllPlain, AllSteady, plain_steady, enters_steps, read_here, Beneath, beneath_by, callers_above, gives_above, Finds, ran}
 pub use Rattle.match_bodies.proofs.SilentTurns.{none_inside, reaches_silently, enters_silently, program_reaches, KeepsCode, program_kept, reaches_comes, funclet_makes, silent_here}
 pub use Rattle.match_bodies.proofs.SlotPlaces.{KeepsSlot, stack_is_reserved, SlotsPlaced}
@@ -62,5 +63,5 @@ pub use Rattle.match_bodies.proofs.TemplateKeeping.{information_keeps, finish_ke
 pub use Rattle.match_bodies.proofs.ArrivedParameters.{each}
 pub use Rattle.match_bodies.proofs.TemplateRuns.{v, frame, slots, same_state, template_here, has_slots, sp_is, next_address, code_end, base, code, y, silent_at, Surroundings, get_or_is}
 pub use Rattle.match_bodies.proofs.TemplateShadows.{kept_by_view, is_here, is_after, ends_at, RunsKeep, one_piece, caller_here, beyond_here, ends_gives, IsPast, past_ends, kept_here, Below}
-pub use Rattle.match_bodies.proofs.TemplateSizes.{template_some, first_in_code, code_ends}
+pub use Rattle.match_bodies.proofs.TemplateSizes.{template_some, first_in_code}
 pub use Rattle.match_bodies.proofs.TemplateSlots.{Leaves}

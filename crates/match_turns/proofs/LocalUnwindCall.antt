@@ -10,7 +10,8 @@ use Rattle.x64_instr.specs.declared.instruction.Instr.TheVariants as instrs
 use Rattle.linear_code.specs.declared.instruction.Instruction.TheVariants as instructions
 use Rattle.match_turns.proofs.Lemmas.{address_size, call_size, short, template_sizes, reaches_then, thunk_reaches, pushed_thunk, with_two, local_unwind_begins, set_small, reaches_silently, others_of, StepsTo, reaches_steps, steps_split, keeps_split, AllPlain, calls_keep, CalleeBegins, callee_begins, thunk_keeps, all_front, some_is, counted_here, code_at, reaches_keeps, stays_well_formed, v, same_state, template_here, next_address, sp_is, IsCounted, sp_low, frame_top}
 use Rattle.match_turns.proofs.ReturnAddressPlace.{top_of, begins_beneath}
-use Rattle.match_turns.proofs.CallResult.{offset_most, caller_framed}
+use Rattle.match_turns.proofs.CallResult.{caller_framed}
+use Rattle.match_bodies.proofs.LabelPlaces as labels
 use Rattle.match_turns.proofs.CallRegions.{apart_same}
 use Rattle.match_turns.proofs.DispatchStart.{unwound_to}
 use Rattle.match_turns.proofs.HostRequest.{Asks, asks_host}
@@ -131,7 +132,7 @@ module _ (setting : Setting) (made : IsWellMade setting.program setting.plan)
 
     back_is : p.address c.frame.body (c.frame.next + 1) ≡ back
     back_is =
-        let n = next_address setting made.room s c b counted i here in
+        let n = next_address setting made.room s c b counted i here refl in
         let z = template_sizes (links_of p q c.frame.body) y place i in
         let k = unwind_size place target q.local_unwind in
         omega (arith, n, z, k, b.rip)
@@ -152,14 +153,7 @@ module _ (setting : Setting) (made : IsWellMade setting.program setting.plan)
 
     label_near : (l : ℕ) → (IMAGE_BASE < p.address c.frame.body l)
         × (p.address c.frame.body l < IMAGE_RANGE_END)
-    label_near l =
-        let a = image.addresses c.frame.body body b.body.slots.body in
-        let from = a.inside.low in
-        let to = a.inside.high in
-        let first = a.first in
-        let e = a.labels l in
-        let most = offset_most y body.code l in
-        (omega arith, omega arith)
+    label_near l = labels.label_near setting c.frame.body body b.body.slots.body l
 
     near_target : IsNear (place + 10) target
     near_target =

@@ -197,7 +197,7 @@ module _ (setting : Setting) (made : IsWellMade setting.program setting.plan)
             arith,
             w.again.here,
             next_address setting made.room old c begins counted i
-                (inside.at_here setting made s c w known),
+                (inside.at_here setting made s c w known) refl,
             whole_size y to o first second,
           )
 

@@ -100,7 +100,7 @@ module _ (setting : Setting) (made : IsWellMade setting.program setting.plan)
 
   next_at : p.address c.frame.body (c.frame.next + 1)
       ≡ s.cpu.rip + (sizes ops + sizes (finish_code (p.layout c.frame.body) o to))
-  next_at = next_address setting made.room s c b counted here at_here
+  next_at = next_address setting made.room s c b counted here at_here refl
       ∙ ap (λ x. s.cpu.rip + x) (whole_size (p.layout c.frame.body) to o (Temporary first)
       (Temporary second))
 
@@ -108,7 +108,7 @@ module _ (setting : Setting) (made : IsWellMade setting.program setting.plan)
   inside =
       let some = some_finish (p.layout c.frame.body) o to in
       let a = next_at in
-      let n = next_address setting made.room s c b counted here at_here in
+      let n = next_address setting made.room s c b counted here at_here refl in
       let e = code_end setting made.room s c b counted here at_here in
       let r = b.rip in
       record { low = omega arith; high = omega arith }

@@ -127,7 +127,7 @@ module _ (setting : Setting) where
           let z = kept.resumes setting made.room u c.frame c.below acts
           c.store.memory c.events (context_of saved) is on refl well_formed memory code.0 code.1 i
           first
-          done here (λ h. h) refl (omega arith)
+          done here (λ h. h) refl refl (omega arith)
           ((made.apart name code.0 code.1).within c.frame.next i here refl) held free back_is
           (caller_framed setting made name code.0 c.frame.next i code.1 here refl)
           counted around in

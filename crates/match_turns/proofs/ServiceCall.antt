@@ -1,11 +1,11 @@
 -- A body calls a service: the service is reached, with the arguments in RCX and RDX.
-use Rattle.std.proofs.Common.{◌≡◌, ℕ, zero, suc, ◌+◌, ◌^◌, ◌<◌, ◌≤◌, List, [], ◌∷◌, Some, Ok, refl, sym, subst, arith}
+use Rattle.std.proofs.Common.{◌≡◌, ℕ, ◌+◌, ◌^◌, ◌<◌, ◌≤◌, [], ◌∷◌, Some, Ok, refl, sym, subst, arith}
 use Rattle.std.specs.Prelude.{slice_get}
 use Rattle.std.proofs.lemmas.Bool.{ne_eqb}
-use Rattle.match_turns.specs.Words.{opcode_register, IMAGE_BASE, IMAGE_RANGE_END, STACK_START, STACK_END, address_of, W64, loaded, Rsp, Flags, State, register, BuiltIn, Put, Protect, RaiseException, Walk, Temporary, Instruction, BodyState, Configuration, Layout, size, sizes, keep, IsNear, call, return_at, begin_call, call_code, clear_result, template_size, body_size, offset_of, MachineView, machine, pushed, HasCode, IsLive, Comes, HaveRoom, service_of, CallsBuiltIn, Setting, RepresentsAt, arguments_code}
+use Rattle.match_turns.specs.Words.{opcode_register, IMAGE_BASE, IMAGE_RANGE_END, STACK_START, STACK_END, address_of, W64, loaded, Rsp, Flags, State, register, BuiltIn, Put, Protect, RaiseException, Walk, Temporary, BodyState, Configuration, Layout, size, sizes, keep, IsNear, call, return_at, begin_call, call_code, clear_result, template_size, MachineView, machine, pushed, HasCode, IsLive, Comes, HaveRoom, service_of, CallsBuiltIn, Setting, RepresentsAt, arguments_code}
 use Rattle.x64_templates.specs.Runs.{Reaches}
 use Rattle.linear_code.specs.declared.instruction.Instruction.TheVariants as instructions
-use Rattle.match_turns.proofs.Lemmas.{sizes_append, call_size, call_code_size, code_split, reaches_silently, IsCounted, room_here, holds_here, sp_low, frame_top, frame, slots, v, sp_is, same_state, has_slots, template_here, next_address}
+use Rattle.match_turns.proofs.Lemmas.{sizes_append, call_size, call_code_size, code_split, reaches_silently, IsCounted, room_here, holds_here, sp_low, frame_top, frame, slots, v, sp_is, same_state, has_slots, template_here, next_address, label_near, end_near}
 use Rattle.match_turns.proofs.BuiltInCall.{ServiceReached, with_arguments_of, service_reached}
 use Rattle.match_turns.proofs.BuiltInShadow.{calls_it, built_in_keeps}
 use Rattle.match_turns.proofs.HostPage.{host_silent}
@@ -21,14 +21,6 @@ service_low Put = (omega arith, omega arith)
 service_low Protect = (omega arith, omega arith)
 service_low RaiseException = (omega arith, omega arith)
 service_low Walk = (omega arith, omega arith)
-
--- an instruction of a body begins within it
-offset_most : (y : Layout) (body : List Instruction) (number : ℕ)
-    → offset_of y body number ≤ body_size y body
-offset_most y [] zero = omega arith
-offset_most y [] (suc number) = omega arith
-offset_most y (i ∷ body) zero = omega arith
-offset_most y (i ∷ body) (suc number) = let r = offset_most y body number in omega arith
 
 built_in_size : (y : Layout) (f : BuiltIn) (first : ℕ)
     → template_size y (instructions.CallBuiltIn f first)
@@ -81,21 +73,18 @@ module _ (setting : Setting) (roomy : HaveRoom setting.program) where
           ≡ back + sizes (keep layout (Temporary first))
       next_is =
           let n = next_address setting roomy s c b counted
-          (instructions.CallBuiltIn f first) at in
+          (instructions.CallBuiltIn f first) at refl in
           let z = built_in_size layout f first in
           omega arith
 
       pub back_near : (IMAGE_BASE < back) × (back < IMAGE_RANGE_END)
       back_near =
-          let a = image.addresses c.frame.body b.body.slots.code b.body.slots.body in
-          let inside_low = a.inside.low in
-          let inside_high = a.inside.high in
-          let begin = a.first in
-          let from = a.labels c.frame.next in
-          let most = offset_most layout b.body.slots.code.code (c.frame.next + 1) in
-          let to = a.labels (c.frame.next + 1) in
+          let code = b.body.slots.code in
+          let low = (label_near setting c.frame.body code b.body.slots.body c.frame.next).0 in
+          let high = end_near setting c.frame.body code b.body.slots.body c.frame.next
+          (instructions.CallBuiltIn f first) at in
+          let z = built_in_size layout f first in
           let e = b.rip in
-          let n = next_is in
           (omega arith, omega arith)
 
       near : IsNear back (q.thunk f)

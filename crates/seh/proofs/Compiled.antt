@@ -99,6 +99,7 @@ of_checked text image whole p short checked link =
       };
       kept = kept_by_code image (resolve text whole).program fits w real;
       outside = uncovered_code_is_routines (lowered (resolve text whole).program) fits
+          (lowered_has_regions (resolve text whole).program)
           (image_bounded image (resolve text whole).program w real);
       realises = real;
       no_more = nothing_more text whole image a.read.within a.rules fits w (length text)

@@ -10,7 +10,7 @@ use Rattle.seh.specs.Words.{Program, resolve, lowered, linked, IsCompiled, IsPro
 use Rattle.seh.specs.declared.status.Status.TheVariants as statuses
 use Rattle.seh.specs.Checks.{verdict_line}
 use Rattle.seh.specs.CompiledChecks.{CompiledImagesAreKept, CompiledVerdictsAreYes, CompiledIsKept}
-use Rattle.seh.specs.Images.{framed_count}
+use Rattle.seh.specs.Images.{entry_count}
 use Rattle.seh.specs.Statuses.{verdict_status}
 use Rattle.seh.proofs.Calls.{program_once, check_is_complete}
 use Rattle.seh.proofs.MeantCalls.{took_its_image}
@@ -30,7 +30,7 @@ compiled_images_are_kept text image compiled = record {
 pub compiled_verdicts_are_yes : CompiledVerdictsAreYes
 compiled_verdicts_are_yes text image verdict compiled is =
     images_have_one_verdict image verdict
-    (Yes (framed_count (resolve text compiled.whole).program)) is
+    (Yes (entry_count (resolve text compiled.whole).program)) is
     (compiled_images_are_kept text image compiled)
 
 -- the line of the verdict on a text's image
@@ -38,7 +38,7 @@ gave_yes : (source image : List ℕ) (p : Program) (verdict : Verdict) (call : C
     → (compiled : IsCompiled source image) → IsProgramOf source p
     → IsImageVerdict (image_in source image compiled) CHECK_STACK verdict
     → Gave (verdict_status verdict) (verdict_line verdict) call
-    → Gave statuses.Done (verdict_line (Yes (framed_count p))) call
+    → Gave statuses.Done (verdict_line (Yes (entry_count p))) call
 gave_yes source image p verdict call compiled is comes gave =
     let same : (resolve source compiled.whole).program ≡ p = program_once source
     (resolve source compiled.whole).program p
@@ -48,7 +48,7 @@ gave_yes source image p verdict call compiled is comes gave =
     }) is in
     let yes = compiled_verdicts_are_yes source image verdict compiled
     (record { image = image_in source image compiled; is = compiled.linked.read; comes = comes })
-    ∙ ap (λ q. Yes (framed_count q)) same in
+    ∙ ap (λ q. Yes (entry_count q)) same in
     subst (λ v. Gave (verdict_status v) (verdict_line v) call) yes gave
 
 pub compiled_is_kept : CompiledIsKept
@@ -63,7 +63,7 @@ compiled_is_kept source image p first second short is asks done took checks =
         ⊎ ((verdict : Verdict)
         × IsImageVerdict (image_in source image compiled) CHECK_STACK verdict
         × Gave (verdict_status verdict) (verdict_line verdict) second)
-        → WantedMemory second ⊎ Gave statuses.Done (verdict_line (Yes (framed_count p))) second
+        → WantedMemory second ⊎ Gave statuses.Done (verdict_line (Yes (entry_count p))) second
     told (inl w) = inl w
     told (inr (verdict, comes, gave)) =
         inr (gave_yes source image p verdict second compiled is comes gave)

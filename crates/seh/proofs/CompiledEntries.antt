@@ -1,9 +1,10 @@
--- Each entry of a linked program's image is a function of the right form, in the code of the
--- image's file.
-use Rattle.std.proofs.Common.{◌≡◌, ℕ, suc, ◌+◌, ◌*◌, ◌%◌, ◌^◌, ◌<◌, Bool, true, false, cond, leb, List, [], ◌∷◌, ◌++◌, length, Option, Some, None, refl, sym, ap, subst, ◌∙◌, arith}
-use Rattle.std.specs.Prelude.{slice_get, is_some, count_by}
-use Rattle.std.specs.List.{flat_map}
+-- Each entry of a linked program's image is a function of the right form, or a fragment of one, in
+-- the code of the image's file.
+use Rattle.std.proofs.Common.{◌≡◌, ℕ, suc, ◌+◌, ◌-◌, ◌*◌, ◌%◌, ◌^◌, ◌<◌, Bool, true, false, leb, List, [], ◌∷◌, ◌++◌, length, drop, map, Option, Some, None, refl, sym, ap, subst, ◌∙◌, arith, length-append}
+use Rattle.std.specs.Prelude.{slice_get}
+use Rattle.std.specs.List.{flat_map, sum_by}
 use Rattle.std.proofs.lemmas.Bool.{false≢true}
+use Rattle.std.proofs.lemmas.List.{length-drop, length-map, length-take-le}
 use Rattle.std.proofs.lemmas.List.Elements.{All-nil, All-cons, All-append}
 use Rattle.std.proofs.lemmas.List.Sums.{sum_by-cons}
 use Rattle.flat_memory.specs.Memory.{Memory}
@@ -11,9 +12,14 @@ use Rattle.x64_encode.specs.Chosen.{modrm, opcode_register}
 use Rattle.eh_tables.specs.declared.code.UnwindOperation.TheVariants.{Allocate}
 use Rattle.x64_instr.specs.declared.instruction.Instr.{Instr}
 use Rattle.eh_tables.specs.Tables.{Entry}
+use Rattle.linear_code.specs.declared.instruction.Instruction.{Instruction}
+use Rattle.linear_code.specs.declared.program.LabelRange.{LabelRange}
 use Rattle.linear_code.specs.Program.{LinearProgram}
+use Rattle.template_code.specs.declared.layout.Layout.{Layout}
 use Rattle.template_code.specs.Bytes.{spelled}
 use Rattle.template_code.specs.Probing.{check_stack}
+use Rattle.template_code.specs.Template.{body_size}
+use Rattle.template_code.specs.ColdParts.{part_code}
 use Rattle.frame_rules.specs.Prologue.{items}
 use Rattle.frame_rules.specs.Plan.{allocating, instructions_of, operations_of, spelled_by, turned}
 use Rattle.frame_rules.specs.Bytes.{spell, IsExecutableAt}
@@ -23,11 +29,14 @@ use Rattle.frame_layout.proofs.Planned.{frame_small, probe_end_few}
 use Rattle.frame_layout.proofs.Steps.{executed, operations_executed, pushing, saving, setting}
 use Rattle.unwind_check.specs.Prologues.{has_bytes}
 use Rattle.unwind_check.specs.declared.rule.Verdict.TheVariants.{Yes}
+use Rattle.unwind_check.specs.Chains.{names_entry}
 use Rattle.unwind_check.specs.Verdicts.{ImageCode, entry_in, IsKept, AllAreKept}
-use Rattle.unwind_check.specs.RightFunctions.{CallsProbe, IsRightEntry}
+use Rattle.unwind_check.specs.RightFunctions.{CallsProbe, IsRightEntry, IsRightFragment}
+use Rattle.unwind_check.proofs.FragmentEntries.{right_fragments_keep_rules}
 use Rattle.unwind_check.proofs.RightEntries.{right_functions_keep_rules}
 use Rattle.pe_image.specs.Image.{Image}
 use Rattle.pe_write.specs.Program.{image_of}
+use Rattle.host_layout.specs.declared.imported.ImportedService.TheVariants.{CSpecificHandler}
 use Rattle.host_model.specs.Loading.{mapped}
 use Rattle.image_code.specs.Code.{code_of}
 use Rattle.image_code.specs.Verdicts.{checked_code, IsImageVerdict}
@@ -38,8 +47,8 @@ use Rattle.x64_emit.proofs.CheckStack.{check_stack_spelled}
 use Rattle.image_link.specs.Fits.{FitsProgram}
 use Rattle.image_link.specs.Near.{IsSiteNear}
 use Rattle.image_link.specs.Routines.{RoutineView, routines}
-use Rattle.image_link.specs.Tables.{info_bytes}
-use Rattle.image_link.specs.Text.{SiteView, routine_size, first_routine_at, routines_bytes}
+use Rattle.image_link.specs.declared.fragments.TheConstants.{CHAINED_SIZE}
+use Rattle.image_link.specs.Text.{SiteView, thunk_at}
 use Rattle.image_link.specs.Linked.{text_begin, linked}
 use Rattle.image_link.specs.Walks.{services_of}
 use Rattle.image_link.proofs.Entries.{routine_small}
@@ -47,19 +56,25 @@ use Rattle.image_link.proofs.Front.{services_few}
 use Rattle.image_link.proofs.Images.{site_near, has_places}
 use Rattle.image_link.proofs.Nearness.{routines_near}
 use Rattle.image_tables.specs.CodeInMemory.{image_base, HasText}
-use Rattle.image_tables.specs.Entries.{entry_of, entry_if, entries_of, entries}
+use Rattle.image_tables.specs.Entries.{entry_of, entry_if, entries_of, part_entry, chained_if, chained_of, entries}
 use Rattle.image_tables.specs.FrameLaws.{IsFramed}
-use Rattle.image_tables.specs.Functions.{plan, function_of}
-use Rattle.image_tables.specs.RoutinePlaces.{Placed, end_of, site_of, placed_from, infos_begin, placed, routines_begin, probe_begin}
+use Rattle.image_tables.specs.Functions.{plan, part, function_of}
+use Rattle.image_tables.specs.RoutinePlaces.{Placed, PlacedPart, Cursor, put, past, end_of, parts_from, parts_of, site_of, placed_from, first_cursor, placed, probe_begin}
 use Rattle.image_tables.specs.RegionRanges.{HasRegions}
-use Rattle.image_tables.proofs.CodeInMemory.{there}
+use Rattle.image_tables.proofs.CodeInMemory.{there, cold_small, placed_part}
 use Rattle.image_tables.proofs.FramePlans.{prologue_some, spelled_steps}
-use Rattle.image_tables.proofs.FrameRules.{sizes as frame_sizes, right, is_there}
+use Rattle.image_tables.proofs.FrameRules.{sizes as frame_sizes, right, is_there, part_keeps, part_is_there}
 use Rattle.image_tables.proofs.ImageText.{images_have_text}
-use Rattle.image_tables.proofs.Prologues.{entry_least}
+use Rattle.image_tables.proofs.Infos.{no_parent}
+use Rattle.image_tables.proofs.Labels.{code_some}
+use Rattle.image_tables.proofs.Lookups.{part_within, entries_are_held}
+use Rattle.image_tables.proofs.Prologues.{entry_least, framed_room}
 use Rattle.image_tables.proofs.Table.{tables_are_read}
+use Rattle.seh.specs.Images.{entries_with}
 use Rattle.seh.proofs.FrontThunks.{probe_after}
+use Rattle.seh.proofs.ListedRanges.{listed}
 use Rattle.seh.proofs.PlannedCalls.{Calls, pass_alone, pass_before, pushing_bytes, pushing_pass, last_pass}
+use Rattle.seh.proofs.TextFront.{bytes_after, begins_with_front}
 
 -- ---- the stack probe, after the thunks in the front of the text
 
@@ -68,12 +83,12 @@ probe_is_at : (p : LinearProgram) (m : Memory) → HasText m p
 probe_is_at p m text =
     let s = site_of p in
     let begin = image_base + text_begin p.globals in
-    let bytes = routines_bytes s (first_routine_at s.imports s.text) (routines p) in
     let at : begin + 6 * length s.imports ≡ image_base + probe_begin p = omega arith in
     subst (λ (n : ℕ). IsExecutableAt m n (spelled check_stack)) at
-    (probe_after s.imports s.text s.rdata m begin bytes text)
+    (probe_after s.imports s.text s.rdata m begin (bytes_after p) (begins_with_front p m text))
 
-module _ (p : LinearProgram) (fits : FitsProgram p) (b : IsBounded (image_of (linked p))) where
+module _ (p : LinearProgram) (fits : FitsProgram p) (regions : HasRegions p)
+    (b : IsBounded (image_of (linked p))) where
   abbrev image : Image
   image = image_of (linked p)
 
@@ -183,6 +198,65 @@ module _ (p : LinearProgram) (fits : FitsProgram p) (b : IsBounded (image_of (li
       near = (let n = frame_small f.framed in omega arith);
     }
 
+  -- ---- the entry of a cold part
+
+  module _ (index n : ℕ) (x : Placed) (f : FrameLayout) (q : PlacedPart)
+      (framed : IsFramed p index x f) (own : slice_get (parts_of x) n ≡ Some q) where
+    part_some : q.begin < q.end
+    part_some =
+        let h = there p index x fits framed.there in
+        let part = placed_part x n q h.near own in
+        let code = x.routine.body.code in
+        let r = q.labels in
+        let lt = part.some in
+        let within = part.inside in
+        let left = length-drop r.begin code in
+        let long = length-take-le (r.end - r.begin) (drop r.begin code) (omega arith) in
+        let some = code_some x.routine.layout (part_code code r) (omega arith) in
+        let size = part.size in
+        omega arith
+
+    part_low : q.end < 2 ^ 32
+    part_low =
+        let h = there p index x fits framed.there in
+        let room = h.cold_room in
+        let small = cold_small x.routine h.near in
+        let most = (part_within x n q h.near own).1 in
+        omega arith
+
+    -- its function's entry is one of the table
+    named : names_entry checked.ranges (part_entry (site_of p) x f q).info.parent ≡ true
+    named =
+        let h = there p index x fits framed.there in
+        let some = framed_room x.routine f h.near framed.framed in
+        listed image (entries p) x.begin (entry_of (site_of p) x f) (tables_are_read p fits regions)
+        (entries_are_held p index x f x.begin fits framed.there framed.framed (omega arith)
+        (omega arith))
+
+    is_fragment : IsRightFragment (entry_in checked (part_entry (site_of p) x f q))
+        (entry_of (site_of p) x f).info (part p x q)
+    is_fragment =
+        let s = site_of p in
+        let low = part_low in
+        record {
+          parents = refl;
+          named = named;
+          function = no_parent (thunk_at s.imports s.text CSpecificHandler) x.routine.body.regions;
+          fragment = record { codes = refl; prologue = refl; register = refl; offset = refl };
+          keeps = part_keeps p index x f framed n q own;
+          there = items_there image b q.begin (part p x q) q.end (omega arith)
+              (part_is_there p index x f framed (mapped image) n q text own);
+          some = part_some;
+          low = omega arith;
+        }
+
+    part_kept : IsKept checked (part_entry (site_of p) x f q)
+    part_kept = record {
+      rules = right_fragments_keep_rules (entry_in checked (part_entry (site_of p) x f q))
+          (entry_of (site_of p) x f).info (part p x q) is_fragment;
+      near = (let n = frame_small f.framed in omega arith);
+    }
+
   -- ---- all
 
   all_from : (xs : List Placed)
@@ -201,40 +275,83 @@ module _ (p : LinearProgram) (fits : FitsProgram p) (b : IsBounded (image_of (li
       its_own (Some f) e = All-cons (IsKept checked) (entry_of (site_of p) x f) []
           (each 0 x f refl e) (All-nil (IsKept checked))
 
+  parts_kept : (x : Placed) (f : FrameLayout) (qs : List PlacedPart)
+      → ((n : ℕ) (q : PlacedPart) → slice_get qs n ≡ Some q
+      → IsKept checked (part_entry (site_of p) x f q))
+      → AllAreKept checked (map (part_entry (site_of p) x f) qs)
+  parts_kept x f [] each = All-nil (IsKept checked)
+  parts_kept x f (q ∷ qs) each =
+      All-cons (IsKept checked) (part_entry (site_of p) x f q)
+      (map (part_entry (site_of p) x f) qs) (each 0 q refl)
+      (parts_kept x f qs (λ n. each (suc n)))
+
+  chained_kept : (xs : List Placed)
+      → ((index n : ℕ) (x : Placed) (f : FrameLayout) (q : PlacedPart)
+      → slice_get xs index ≡ Some x → x.routine.frame ≡ Some f → slice_get (parts_of x) n ≡ Some q
+      → IsKept checked (part_entry (site_of p) x f q))
+      → AllAreKept checked (chained_of (site_of p) xs)
+  chained_kept [] each = All-nil (IsKept checked)
+  chained_kept (x ∷ xs) each =
+      All-append (IsKept checked) (chained_if (site_of p) x x.routine.frame)
+      (chained_of (site_of p) xs) (its_own x.routine.frame refl)
+      (chained_kept xs (λ index. each (suc index)))
+    where
+      its_own : (o : Option FrameLayout) → x.routine.frame ≡ o
+          → AllAreKept checked (chained_if (site_of p) x o)
+      its_own None e = All-nil (IsKept checked)
+      its_own (Some f) e = parts_kept x f (parts_of x) (λ n q own. each 0 n x f q refl e own)
+
   all_kept : AllAreKept checked (entries p)
-  all_kept = all_from (placed p) (λ index x f at has. kept index x f
-      (record { fits = fits; there = at; framed = has }))
+  all_kept =
+      All-append (IsKept checked) (entries_of (site_of p) (placed p))
+      (chained_of (site_of p) (placed p))
+      (all_from (placed p) (λ index x f at has. kept index x f
+      (record { fits = fits; there = at; framed = has })))
+      (chained_kept (placed p) (λ index n x f q at has own. part_kept index n x f q
+      (record { fits = fits; there = at; framed = has }) own))
 
 -- ---- how many there are
 
--- one of a routine, where it has a frame
-one_more : (s : SiteView) (x : Placed) (o : Option FrameLayout) (es : List Entry) (n : ℕ)
-    → length es ≡ n → length (entry_if s x o ++ es) ≡ cond (is_some o) 1 0 + n
-one_more s x None es n e = omega arith
-one_more s x (Some f) es n e = omega arith
+parts_count : (y : Layout) (at info : ℕ) (rs : List LabelRange) (code : List Instruction)
+    → length (parts_from y at info rs code) ≡ length rs
+parts_count y at info [] code = refl
+parts_count y at info (r ∷ rs) code =
+    ap suc (parts_count y (at + body_size y (part_code code r)) (info + CHAINED_SIZE) rs code)
 
-entries_count : (s : SiteView) (info at : ℕ) (rs : List RoutineView)
-    → length (entries_of s (placed_from s info at rs)) ≡ count_by (λ r. is_some r.frame) rs
-entries_count s info at [] = refl
-entries_count s info at (r ∷ rs) =
-    let next = info + length (info_bytes s at r) in
-    let end = at + routine_size r in
-    one_more s (record { routine = r; begin = at; info = info }) r.frame
-    (entries_of s (placed_from s next end rs)) (count_by (λ (q : RoutineView). is_some q.frame) rs)
-    (entries_count s next end rs)
-    ∙ sym (sum_by-cons (λ (q : RoutineView). cond (is_some q.frame) 1 0) r rs)
+-- those of a routine, before those of others
+more : (s : SiteView) (x : Placed) (o : Option FrameLayout) (es cs : List Entry) (n : ℕ)
+    → length es + length cs ≡ n
+    → length (entry_if s x o ++ es) + length (chained_if s x o ++ cs)
+    ≡ entries_with o x.routine.body.cold + n
+more s x None es cs n e = omega arith
+more s x (Some f) es cs n e =
+    let r = x.routine in
+    let each = length-map (parts_of x) (part_entry s x f) in
+    let many = parts_count r.layout x.cold x.chained r.body.cold r.body.code in
+    omega (arith, length-append (map (part_entry s x f) (parts_of x)) cs)
+
+count : (s : SiteView) (c : Cursor) (rs : List RoutineView)
+    → length (entries_of s (placed_from s c rs)) + length (chained_of s (placed_from s c rs))
+    ≡ sum_by (λ r. entries_with r.frame r.body.cold) rs
+count s c [] = refl
+count s c (r ∷ rs) =
+    let others = placed_from s (past s c r) rs in
+    more s (put c r) r.frame (entries_of s others) (chained_of s others)
+    (sum_by (λ (q : RoutineView). entries_with q.frame q.body.cold) rs) (count s (past s c r) rs)
+    ∙ sym (sum_by-cons (λ (q : RoutineView). entries_with q.frame q.body.cold) r rs)
 
 -- ---- the verdict
 
 pub verdict_is_yes : (p : LinearProgram) → FitsProgram p → HasRegions p
     → IsBounded (image_of (linked p))
     → IsImageVerdict (image_of (linked p)) CHECK_STACK
-    (Yes (count_by (λ r. is_some r.frame) (routines p)))
+    (Yes (sum_by (λ r. entries_with r.frame r.body.cold) (routines p)))
 verdict_is_yes p fits regions bounded = record {
   entries = entries p;
   read = tables_are_read p fits regions;
   is = (
-    all_kept p fits bounded,
-    entries_count (site_of p) (infos_begin p) (routines_begin p) (routines p),
+    all_kept p fits regions bounded,
+    length-append (entries_of (site_of p) (placed p)) (chained_of (site_of p) (placed p))
+        ∙ count (site_of p) (first_cursor p) (routines p),
   );
 }

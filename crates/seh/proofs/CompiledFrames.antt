@@ -12,7 +12,7 @@ use Rattle.frame_rules.proofs.Callers.{leaves_are_found}
 use Rattle.host_model.specs.Loading.{load_refusal, has_place}
 use Rattle.seh.specs.Words.{resolve, IsCompiled}
 use Rattle.seh.specs.UncoveredCode.{UncoveredCodeIsRoutines}
-use Rattle.seh.specs.Images.{framed_count}
+use Rattle.seh.specs.Images.{entry_count}
 use Rattle.seh.specs.CompiledFrames.{image_read, CompiledEntriesAreFound, CompiledLeavesAreFound, CompiledCodeIsCovered}
 use Rattle.seh.proofs.CheckedFrames.{has_ranges, checked_callers_are_found}
 use Rattle.seh.proofs.Compiled.{placed}
@@ -28,7 +28,7 @@ has_a_place text image compiled =
 
 pub compiled_entries_are_found : CompiledEntriesAreFound
 compiled_entries_are_found text image compiled entry e s d code held at rip inside =
-    checked_callers_are_found image (framed_count (resolve text compiled.whole).program)
+    checked_callers_are_found image (entry_count (resolve text compiled.whole).program)
     (record {
       image = image_read text image compiled;
       is = compiled.linked.read;

@@ -3,8 +3,11 @@ pub mod Shown
 pub mod Inputs
 pub mod Images
 mod PlannedCalls
-pub mod CompiledEntries
 mod FrontThunks
+mod TextFront
+pub mod CheckedFrames
+mod ListedRanges
+pub mod CompiledEntries
 pub mod UncoveredRoutines
 pub mod Compiled
 mod EventLines
@@ -15,7 +18,6 @@ pub mod Completeness
 pub mod TamePrograms
 pub mod Calls
 pub mod MeantCalls
-pub mod CheckedFrames
 pub mod OneVerdict
 pub mod Existence
 pub mod CompiledChecks

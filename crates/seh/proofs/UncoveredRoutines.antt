@@ -1,5 +1,5 @@
 -- Each byte of a linked program's text that no entry covers is in a leaf function, in the thunk of
--- a service, or in `__chkstk`.
+-- a service, or in `__chkstk`: of the cold parts each has an entry.
 use Rattle.std.proofs.Common.{◌≡◌, inl, inr, ℕ, zero, suc, ◌+◌, ◌^◌, ◌<◌, ◌≤◌, true, false, List, [], ◌∷◌, ◌++◌, length, Option, Some, None, refl, sym, ap, subst, ◌∙◌, arith}
 use Rattle.std.specs.Prelude.{slice_get}
 use Rattle.std.proofs.lemmas.Bool.{cases_lt, false≢true}
@@ -13,16 +13,20 @@ use Rattle.frame_rules.specs.Bytes.{spell, IsExecutableAt}
 use Rattle.frame_rules.specs.States.{HasItems}
 use Rattle.frame_rules.proofs.Bytes.{items_are_at}
 use Rattle.host_layout.specs.declared.imported.ImportedService.{ImportedService}
+use Rattle.linear_code.specs.declared.instruction.Instruction.{Instruction}
+use Rattle.linear_code.specs.declared.program.LabelRange.{LabelRange}
 use Rattle.linear_code.specs.Program.{LinearProgram}
+use Rattle.template_code.specs.declared.layout.Layout.{Layout}
 use Rattle.template_code.specs.Bytes.{spelled}
-use Rattle.template_code.specs.Template.{code_from}
+use Rattle.template_code.specs.Template.{body_size, code_from}
+use Rattle.template_code.specs.ColdParts.{hot_code, part_code}
 use Rattle.frame_layout.specs.declared.frame.FrameLayout.{FrameLayout}
 use Rattle.image_link.specs.Fits.{FitsProgram}
 use Rattle.image_link.specs.Near.{IsSiteNear}
 use Rattle.image_link.specs.Routines.{RoutineView, routines}
-use Rattle.image_link.specs.Tables.{info_bytes}
-use Rattle.image_link.specs.Text.{SiteView, routine_size, frame_code, argument_code, front_code, front_size, routine_code, routines_bytes}
-use Rattle.image_link.specs.Linked.{text_begin, linked, total}
+use Rattle.image_link.specs.declared.fragments.TheConstants.{CHAINED_SIZE}
+use Rattle.image_link.specs.Text.{SiteView, routine_size, cold_size, total, cold_total, frame_code, argument_code, front_code, front_size, routine_code}
+use Rattle.image_link.specs.Linked.{text_begin, linked}
 use Rattle.image_link.specs.Walks.{services_of}
 use Rattle.image_link.proofs.Bounds.{text_length}
 use Rattle.image_link.proofs.Entries.{routine_small}
@@ -38,37 +42,34 @@ use Rattle.image_code.proofs.LoadedItems.{items_there}
 use Rattle.image_tables.specs.CodeInMemory.{image_base, HasText, links}
 use Rattle.image_tables.specs.Entries.{entries}
 use Rattle.image_tables.specs.Functions.{leaf, rest_of}
-use Rattle.image_tables.specs.RoutinePlaces.{Placed, placed, placed_from, body_begin, end_of, site_of, infos_begin, routines_begin, probe_begin}
+use Rattle.image_tables.specs.RegionRanges.{HasRanges, HasRegions}
+use Rattle.image_tables.specs.RoutinePlaces.{Placed, PlacedPart, Cursor, put, past, placed, placed_from, first_cursor, parts_from, parts_of, body_begin, end_of, site_of, routines_begin, cold_begin, probe_begin}
 use Rattle.image_tables.proofs.CodeInMemory.{code_length, routine_is_at, there}
 use Rattle.image_tables.proofs.FrameRules.{leaf_fine}
 use Rattle.image_tables.proofs.ImageText.{images_have_text}
-use Rattle.image_tables.proofs.Lookups.{entries_are_held, leaves_are_held_by_none, thunks_are_held_by_none, some_same, none_some}
+use Rattle.image_tables.proofs.Lookups.{parts_total, cold_parts_total, entries_are_held, parts_are_held, leaves_are_held_by_none, thunks_are_held_by_none, placed_has, some_same, none_some}
+use Rattle.image_tables.proofs.RoutineRows.{IsSpare, routines_spare}
+use Rattle.image_tables.proofs.RoutineRanges.{routines_have}
 use Rattle.seh.specs.UncoveredCode.{IsInRoutine, UncoveredCodeIsRoutines}
 use Rattle.seh.proofs.FrontThunks.{thunk_near, front_there, front_piece as piece_in_front}
+use Rattle.seh.proofs.TextFront.{bytes_after, begins_with_front}
 
 -- ---- the routine around an address
 
-pub record IsAround (s : SiteView) (info at : ℕ) (rs : List RoutineView) (rva : ℕ) : Type 0 where
-  pub index : ℕ
-  pub routine : Placed
-  pub is : slice_get (placed_from s info at rs) index ≡ Some routine
-  pub low : routine.begin ≤ rva
-  pub high : rva < end_of routine
+record IsAround (s : SiteView) (c : Cursor) (rs : List RoutineView) (rva : ℕ) : Type 0 where
+  index : ℕ
+  routine : Placed
+  is : slice_get (placed_from s c rs) index ≡ Some routine
+  low : routine.begin ≤ rva
+  high : rva < end_of routine
 
-around : (s : SiteView) (info at : ℕ) (rs : List RoutineView) (rva : ℕ) → at ≤ rva
-    → rva < at + total rs → IsAround s info at rs rva
-around s info at [] rva le lt = absurd (omega arith)
-around s info at (r ∷ rs) rva le lt = elim (cases_lt rva (at + routine_size r)) [
-  | inl here ↦ record {
-    index = 0;
-    routine = record { routine = r; begin = at; info = info };
-    is = refl;
-    low = le;
-    high = here;
-  }
-  | inr past ↦
-      let more = around s (info + length (info_bytes s at r)) (at + routine_size r) rs rva past
-      (omega arith) in
+around : (s : SiteView) (c : Cursor) (rs : List RoutineView) (rva : ℕ) → c.begin ≤ rva
+    → rva < c.begin + total rs → IsAround s c rs rva
+around s c [] rva le lt = absurd (omega arith)
+around s c (r ∷ rs) rva le lt = elim (cases_lt rva (c.begin + routine_size r)) [
+  | inl here ↦ record { index = 0; routine = put c r; is = refl; low = le; high = here }
+  | inr beyond ↦
+      let more = around s (past s c r) rs rva beyond (omega arith) in
       record {
         index = suc more.index;
         routine = more.routine;
@@ -78,9 +79,67 @@ around s info at (r ∷ rs) rva le lt = elim (cases_lt rva (at + routine_size r)
       }
 ]
 
+-- the one whose cold parts are
+record HasCold (s : SiteView) (c : Cursor) (rs : List RoutineView) (rva : ℕ) : Type 0 where
+  index : ℕ
+  routine : Placed
+  is : slice_get (placed_from s c rs) index ≡ Some routine
+  low : routine.cold ≤ rva
+  high : rva < routine.cold + cold_size routine.routine
+
+around_cold : (s : SiteView) (c : Cursor) (rs : List RoutineView) (rva : ℕ) → c.cold ≤ rva
+    → rva < c.cold + cold_total rs → HasCold s c rs rva
+around_cold s c [] rva le lt = absurd (omega arith)
+around_cold s c (r ∷ rs) rva le lt = elim (cases_lt rva (c.cold + cold_size r)) [
+  | inl here ↦ record { index = 0; routine = put c r; is = refl; low = le; high = here }
+  | inr beyond ↦
+      let more = around_cold s (past s c r) rs rva beyond (omega arith) in
+      record {
+        index = suc more.index;
+        routine = more.routine;
+        is = more.is;
+        low = more.low;
+        high = more.high;
+      }
+]
+
+-- and the cold part
+record IsInPart (y : Layout) (at info : ℕ) (rs : List LabelRange) (code : List Instruction)
+    (rva : ℕ) : Type 0 where
+  index : ℕ
+  part : PlacedPart
+  is : slice_get (parts_from y at info rs code) index ≡ Some part
+  low : part.begin ≤ rva
+  high : rva < part.end
+
+in_part : (y : Layout) (at info : ℕ) (rs : List LabelRange) (code : List Instruction) (rva : ℕ)
+    → at ≤ rva → rva < at + parts_total y rs code → IsInPart y at info rs code rva
+in_part y at info [] code rva le lt = absurd (omega arith)
+in_part y at info (r ∷ rs) code rva le lt =
+    let end = at + body_size y (part_code code r) in
+    elim (cases_lt rva end) [
+      | inl here ↦ record {
+        index = 0;
+        part = record { labels = r; begin = at; end = end; info = info };
+        is = refl;
+        low = le;
+        high = here;
+      }
+      | inr beyond ↦
+          let more = in_part y end (info + CHAINED_SIZE) rs code rva beyond (omega arith) in
+          record {
+            index = suc more.index;
+            part = more.part;
+            is = more.is;
+            low = more.low;
+            high = more.high;
+          }
+    ]
+
 -- ---- instructions in memory
 
-module _ (p : LinearProgram) (fits : FitsProgram p) (m : Memory) (text : HasText m p) where
+module _ (p : LinearProgram) (fits : FitsProgram p) (regions : HasRegions p) (m : Memory)
+    (text : HasText m p) where
   abbrev s : SiteView
   s = site_of p
 
@@ -100,15 +159,16 @@ module _ (p : LinearProgram) (fits : FitsProgram p) (m : Memory) (text : HasText
       let small = routine_small x.routine h.near in
       let fine = leaf_fine p index x fits at none h in
       let a = argument_code x.routine.layout x.routine.entry in
-      let b = code_from (links p x) x.routine.layout (body_begin x) x.routine.body.code in
-      let parts : routine_code s x.begin x.routine ≡ rest_of p x =
+      let b = code_from (links p x) x.routine.layout (body_begin x)
+      (hot_code x.routine.body) in
+      let parts : routine_code s x.begin x.cold x.routine ≡ rest_of p x =
       ap (λ (o : Option FrameLayout). (frame_code x.begin (probe_begin p) o ++ a) ++ b)
       none in
       let code = rest_of p x in
       let begin = image_base + x.begin in
       let long : length (spelled code) ≡ routine_size x.routine =
       ap (λ (is : List Instr). length (spelled is)) (sym parts)
-      ∙ code_length s x.begin x.routine h.near in
+      ∙ code_length s x.begin x.cold x.routine h.near in
       let has = items_are_at m begin code fine.encodable (omega arith)
       (subst (λ (is : List Instr). IsExecutableAt m begin (spelled is)) parts
       (routine_is_at p m x text h)) in
@@ -153,12 +213,12 @@ module _ (p : LinearProgram) (fits : FitsProgram p) (m : Memory) (text : HasText
   front_piece : (rva : ℕ) → s.text ≤ rva → rva < routines_begin p → IsPiece rva
   front_piece rva low high =
       let begin = image_base + s.text in
-      let bytes = routines_bytes s (routines_begin p) (routines p) in
       let text' = near.text in
       let services = services_few p in
       let fine = λ (v : ImportedService). thunk_near s.imports s.text s.rdata near.imports near.text
       near.rdata v in
-      let items = front_there s.imports s.text s.rdata m begin bytes fine (omega arith) text in
+      let items = front_there s.imports s.text s.rdata m begin (bytes_after p) fine (omega arith)
+      (begins_with_front p m text) in
       let to : begin + front_size s.imports ≡ image_base + routines_begin p = omega arith in
       let x = piece_in_front s.imports s.text s.rdata m image_base (routines_begin p) rva
       (subst (λ (n : ℕ).
@@ -192,13 +252,49 @@ module _ (p : LinearProgram) (fits : FitsProgram p) (m : Memory) (text : HasText
   routine_piece index x rva (Some f) e is low high none =
       absurd (none_some (sym none ∙ entries_are_held p index x f rva fits is e low high))
 
-  piece : (rva : ℕ) → s.text ≤ rva → rva < routines_begin p + total (routines p)
+  -- ---- a cold part has an entry
+
+  -- a leaf function has none
+  leaf_hot : (index : ℕ) (x : Placed) → slice_get (placed p) index ≡ Some x
+      → x.routine.frame ≡ None → x.routine.body.cold ≡ []
+  leaf_hot index x is none =
+      let own = placed_has (λ (r : RoutineView). HasRanges r.body) s (first_cursor p) (routines p)
+      index x (routines_have p regions) is in
+      let spare = placed_has IsSpare s (first_cursor p) (routines p) index x (routines_spare p) is
+      none in
+      own.spare spare.0 spare.1
+
+  cold_of : (index : ℕ) (x : Placed) (rva : ℕ) (o : Option FrameLayout) → x.routine.frame ≡ o
+      → slice_get (placed p) index ≡ Some x → x.cold ≤ rva
+      → rva < x.cold + cold_size x.routine → holding rva (entries p) ≡ None → IsPiece rva
+  cold_of index x rva None e is low high none =
+      let h = there p index x fits is in
+      let code = x.routine.body.code in
+      let size = cold_parts_total x.routine h.near in
+      let no_parts = ap (λ (rs : List LabelRange). parts_total x.routine.layout rs code)
+      (leaf_hot index x is e) in
+      absurd (omega arith)
+  cold_of index x rva (Some f) e is low high none =
+      let h = there p index x fits is in
+      let r = x.routine in
+      let size = cold_parts_total r h.near in
+      let own = in_part r.layout x.cold x.chained r.body.cold r.body.code rva low (omega arith) in
+      absurd (none_some (sym none
+      ∙ parts_are_held p index own.index x f own.part rva fits is e own.is own.low own.high))
+
+  piece : (rva : ℕ) → s.text ≤ rva
+      → rva < cold_begin p + cold_total (routines p)
       → holding rva (entries p) ≡ None → IsPiece rva
   piece rva low high none = elim (cases_lt rva (routines_begin p)) [
     | inl before ↦ front_piece rva low before
-    | inr past ↦
-        let x = around s (infos_begin p) (routines_begin p) (routines p) rva past high in
-        routine_piece x.index x.routine rva x.routine.routine.frame refl x.is x.low x.high none
+    | inr past ↦ elim (cases_lt rva (cold_begin p)) [
+      | inl hot ↦
+          let x = around s (first_cursor p) (routines p) rva past hot in
+          routine_piece x.index x.routine rva x.routine.routine.frame refl x.is x.low x.high none
+      | inr cold ↦
+          let x = around_cold s (first_cursor p) (routines p) rva cold high in
+          cold_of x.index x.routine rva x.routine.routine.frame refl x.is x.low x.high none
+    ]
   ]
 
 -- ---- in an image
@@ -210,7 +306,8 @@ unexecuted [] named section n inert is = absurd (none_some is)
 unexecuted (r ∷ rs) named section zero inert is = sym (ap is_executable (some_same is)) ∙ inert
 unexecuted (r ∷ rs) named section (suc n) inert is = absurd (none_some is)
 
-module _ (p : LinearProgram) (fits : FitsProgram p) (b : IsBounded (image_of (linked p))) where
+module _ (p : LinearProgram) (fits : FitsProgram p) (regions : HasRegions p)
+    (b : IsBounded (image_of (linked p))) where
   abbrev image : Image
   image = image_of (linked p)
 
@@ -219,7 +316,8 @@ module _ (p : LinearProgram) (fits : FitsProgram p) (b : IsBounded (image_of (li
       → IsInRoutine image (entries p) rva
   in_text rva low high none =
       let long = text_length (site_of p) (routines p) (routines_near p fits) in
-      let own = piece p fits (mapped image) (images_have_text p fits) rva low (omega arith) none in
+      let own = piece p fits regions (mapped image) (images_have_text p fits) rva low (omega arith)
+      none in
       let few = own.small in
       record {
         begin = own.begin;

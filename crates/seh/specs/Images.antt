@@ -1,6 +1,8 @@
 -- The image of a text.
-use Rattle.std.specs.Prelude.{◌≡◌, ℕ, ◌+◌, ◌*◌, ◌^◌, ◌<◌, ◌≤◌, true, List, length, count_by, pos, is_some, None, Ok}
+use Rattle.std.specs.Prelude.{◌≡◌, ℕ, ◌+◌, ◌*◌, ◌^◌, ◌<◌, ◌≤◌, true, List, length, sum_by, pos, Option, Some, None, Ok}
 use Rattle.c_checked.specs.Program.{Program}
+use Rattle.linear_code.specs.declared.program.LabelRange.{LabelRange}
+use Rattle.frame_layout.specs.declared.frame.FrameLayout.{FrameLayout}
 use Rattle.source_meaning.specs.Meaning.{meaning, Calm}
 use Rattle.c_resolved.specs.Program.{resolve}
 use Rattle.c_syntax.specs.Program.{ExternalDeclaration}
@@ -51,14 +53,20 @@ pub record HasTable (program : Program) : Type 0 where
   pub read : tables (image_of (linked (lowered program))) ≡ Ok (entries (lowered program))
   pub shape : IsShaped program
 
--- how many routines of a program, functions and funclets, have a frame
-abbrev pub framed_count : Program → ℕ
-framed_count program = count_by (λ r. is_some r.frame) (routines (lowered program))
+-- how many entries a routine has: one with a frame, and then one for each of its cold parts
+abbrev pub entries_with : Option FrameLayout → List LabelRange → ℕ
+entries_with None cold = 0
+entries_with (Some f) cold = 1 + length cold
+
+-- those of all routines of a program, functions and funclets
+abbrev pub entry_count : Program → ℕ
+entry_count program =
+    sum_by (λ r. entries_with r.frame r.body.cold) (routines (lowered program))
 
 -- the verdict on a program's image is yes: so many entries, and each is kept by its code
 abbrev pub IsKeptByCode : Program → Type 0
 IsKeptByCode program =
-    IsImageVerdict (image_of (linked (lowered program))) CHECK_STACK (Yes (framed_count program))
+    IsImageVerdict (image_of (linked (lowered program))) CHECK_STACK (Yes (entry_count program))
 
 -- the code of a program's image that no entry covers is routines that need none
 abbrev pub HasRoutinesOutside : Program → Type 0

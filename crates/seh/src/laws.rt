@@ -106,9 +106,9 @@ pub fn checked_images()
 
 /// `check` says yes to every image that `compile` writes. On the image of an accepted text the
 /// verdict is yes and no other: its function table has an entry for each function and funclet with
-/// a frame, and no rule fails in any of them. Where no stream has a fault and memory isn't wanting,
-/// `check` of the bytes that `compile` wrote writes `yes N`, with N the number of these routines,
-/// and ends with status 0.
+/// a frame, and one for each cold part of these, and no rule fails in any of them. Where no stream
+/// has a fault and memory isn't wanting, `check` of the bytes that `compile` wrote writes `yes N`,
+/// with N the number of these entries, and ends with status 0.
 pub fn compiled_images()
     ensures kept { CompiledImagesAreKept }
     ensures one_verdict { CompiledVerdictsAreYes }
@@ -117,11 +117,12 @@ pub fn compiled_images()
 
 /// The frames of an image that `compile` wrote, said of its bytes: of the ranges and the unwind
 /// infos that its function table is read as, and of the instructions that its code is decoded to.
-/// At each of these, in the prologue, the body or an epilogue, the walk over the loaded image finds
-/// the caller. Where no entry covers RIP it finds the caller of each state that has RSP, the return
-/// address and the nonvolatile registers of the routine's first byte. And each byte of code that no
-/// entry covers is in a routine of which that holds: a leaf function, a thunk or `__chkstk`, whose
-/// instructions are decoded one after another from its first byte to its end, outside all entries.
+/// At each of these, in the prologue, the body, an epilogue or a cold part, the walk over the loaded
+/// image finds the caller. Where no entry covers RIP it finds the caller of each state that has RSP,
+/// the return address and the nonvolatile registers of the routine's first byte. And each byte of
+/// code that no entry covers is in a routine of which that holds: a leaf function, a thunk or
+/// `__chkstk`, whose instructions are decoded one after another from its first byte to its end,
+/// outside all entries.
 pub fn compiled_frames()
     ensures entries { CompiledEntriesAreFound }
     ensures leaves { CompiledLeavesAreFound }

@@ -3,7 +3,6 @@
 use Rattle.std.proofs.Common.{ℕ, ◌≤◌, List, [], ◌∷◌, ◌++◌, Option, None, Some}
 use Rattle.std.specs.List.{AllByRecursion}
 use Rattle.seh_ir.specs.Words.{Pure, Constant, Expression, Statements, Local, Temporary, Instruction, Compute, Jump, JumpIfZero, CallFinally, LocalUnwind, Landing, Separator, Names, Way, Nowhere, Jumps, Unwinds, constant, copy, expression_code, LoweringContext, statements_notes, return_code, returned_code, repeated, statements_code}
-use Rattle.linear_code.specs.declared.instruction.Instruction.TheVariants.{Return}
 use Rattle.seh_ir.proofs.StatementParts.{OptionalHas, StatementsHave}
 use Rattle.seh_ir.proofs.EveryStatement.{WayHas, any_ways, any_neutral, any_place, InExcept, HoldsOfPieces, statements_every}
 
@@ -25,8 +24,8 @@ pub record HoldsOfInstructions (Q : Instruction → Type 0) (L X : ℕ → Type 
   pub of_jump : (label : ℕ) → L label → Q (Jump label)
   pub of_test : (label : ℕ) → L label → Q (JumpIfZero (Temporary 0) label)
   pub of_unwind : (label : ℕ) → L label → Q (LocalUnwind label)
+  pub of_exit_jump : (label : ℕ) → X label → Q (Jump label)
   pub of_exit : (label : ℕ) → X label → Q (LocalUnwind label)
-  pub of_return : Q (Return (Temporary 0))
   pub of_landing : (names : Names) (m : ℕ) → 1 ≤ m → N names m → Q (Landing (Local names.free))
   pub of_finally : (k : ℕ) → Q (CallFinally k)
 
@@ -38,7 +37,7 @@ module _ (Q : Instruction → Type 0) (C : ℕ → List Instruction → Type 0) 
 
   exit_all : (w : Way) → WayHas X w → All (return_code w)
   exit_all Nowhere h = (holds.of_separator, (holds.of_separator, tt))
-  exit_all (Jumps label) h = (holds.of_return, (holds.of_separator, tt))
+  exit_all (Jumps label) h = (holds.of_exit_jump label h, (holds.of_separator, tt))
   exit_all (Unwinds label) h = (holds.of_exit label h, (holds.of_separator, tt))
 
   -- the value of an expression, and what is done with it

@@ -269,14 +269,18 @@ module _ (P : ℕ → List Instruction → List Region → Type 0) (C : ℕ → 
         let then = at + expression_size e + 1 in
         let skips = then + statement_size s in
         let otherwise = skips + 1 in
-        let end = otherwise + statement_size t in
+        let last = otherwise + statement_size t in
+        let end = last + 1 in
         let yes = statement_code scope s then in
-        let no = statement_code scope t otherwise in
+        let branch = statement_code scope t otherwise in
+        let no = branch ++ Jump end ∷ [] in
         let l = statement_length scope s then in
+        let k = statement_length scope t otherwise in
         let c1 = after_test scope.names e otherwise at (yes ++ Jump end ∷ no) c in
         let c2 = placed.back then skips yes (Jump end ∷ no) (omega arith)
         (neutral.statement scope s then) c1 in
         let c3 = next_placed skips (Jump end) no (neutral.jump end) c2 in
+        let ended' = ended (IfElse e s t) scope at end (omega arith) c in
         let rs = statement_regions s then in
         let qs = statement_regions t otherwise in
         when scope.names m e otherwise at (yes ++ Jump end ∷ no) (rs ++ qs) n h.0
@@ -284,9 +288,11 @@ module _ (P : ℕ → List Instruction → List Region → Type 0) (C : ℕ → 
         (holds.both then skips yes (Jump end ∷ no) rs qs (omega arith)
         (statement_every s scope then m (omega arith) n w h.1
         (placed.front then yes (Jump end ∷ no) c1))
-        (next skips (Jump end) no qs
-        (holds.of_jump skips end (ended (IfElse e s t) scope at end (omega arith) c))
-        (statement_every t scope otherwise m (omega arith) n w h.2 c3)))
+        (next skips (Jump end) no qs (holds.of_jump skips end ended')
+        (before_plain otherwise last branch (Jump end ∷ []) qs (omega arith)
+        (statement_every t scope otherwise m (omega arith) n w h.2
+        (placed.front otherwise branch (Jump end ∷ []) c3))
+        (holds.of_jump last end ended'))))
     statement_every (For ds first t next' s) scope at m le n w h c =
         let names = scope.names in
         let begin = at + all_declared_size ds in

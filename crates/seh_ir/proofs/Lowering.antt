@@ -1,10 +1,12 @@
 -- Regions, funclets and functions, one after another.
 use Rattle.std.proofs.Common.{◌≡◌, ℕ, zero, suc, ◌+◌, ◌<◌, List, [], ◌∷◌, ◌++◌, length, map, take, get_or, replicate, refl, sym, ap, ◌∙◌, arith, append_assoc}
-use Rattle.std.proofs.lemmas.List.{append-nil, length-replicate, replicate-append-replicate}
+use Rattle.std.specs.Prelude.{◌-◌}
+use Rattle.std.proofs.lemmas.List.{append-nil, map-append, length-replicate, replicate-append-replicate}
 use Rattle.c_checked.specs.Program.{Function as Function', surplus, weight}
-use Rattle.seh_ir.specs.Words.{Stmt, statement, statements, function, Region, LinearFunction, LinearFunclet, linear_function, Names, Owner, statement_size, statements_size, statement_regions, statements_regions, statement_funclets, statements_funclets, Separator, first_separators, lowered_function, lowered_funclets, all_funclets}
+use Rattle.seh_ir.specs.Words.{Stmt, Statement, Statements, Empty, Then, TryFinally, finally_names, finally_funclet, in_funclet, statement, statements, function, Region, LinearFunction, LinearFunclet, Names, Owner, statement_size, statements_size, statement_regions, statements_regions, statement_funclets, statements_funclets, Separator, first_separators, lowered_function, lowered_funclets, all_funclets}
+use Rattle.linear_code.specs.declared.program.LabelRange.{LabelRange}
+use Rattle.seh_ir.specs.ColdParts.{statement_cold, statements_cold}
 use Rattle.c_checked.specs.declared.function.Function.{Function}
-use Rattle.linear_code.specs.declared.program.IrFunction.{IrFunction}
 
 more_sizes : (items : List Stmt) (i : ℕ) (x : Stmt) → i < length items
     → statements_size (statements (map statement (take (suc i) items)))
@@ -14,24 +16,64 @@ more_sizes [] i x lt = absurd (omega arith)
 more_sizes (y ∷ ys) zero x lt = omega arith
 more_sizes (y ∷ ys) (suc i) x lt = let r = more_sizes ys i x (omega arith) in omega arith
 
-more_regions : (items : List Stmt) (i : ℕ) (x : Stmt) (at : ℕ) → i < length items
-    → statements_regions (statements (map statement (take (suc i) items))) at
-    ≡ statements_regions (statements (map statement (take i items))) at
-    ++ statement_regions (statement (get_or items i x))
-    (at + statements_size (statements (map statement (take i items))))
-more_regions [] i x at lt = absurd (omega arith)
-more_regions (y ∷ ys) zero x at lt =
-    let e : at ≡ at + 0 = omega arith in
-    append-nil (statement_regions (statement y) at) ∙ ap (λ k. statement_regions (statement y) k) e
-more_regions (y ∷ ys) (suc i) x at lt =
-    let s = statement_size (statement y) in
-    let n = statements_size (statements (map statement (take i ys))) in
-    let front = statement_regions (statement y) at in
-    let made = statements_regions (statements (map statement (take i ys))) (at + s) in
-    let l : at + s + n ≡ at + (s + n) = omega arith in
-    ap (λ t. front ++ t) (more_regions ys i x (at + s) (omega arith))
-    ∙ sym (append_assoc front made (statement_regions (statement (get_or ys i x)) (at + s + n)))
-    ∙ ap (λ k. (front ++ made) ++ statement_regions (statement (get_or ys i x)) k) l
+-- ---- what the statements have at their places: their regions, and their cold parts
+
+module _ {X : Type 0} (one : Statement → ℕ → List X) (all : Statements → ℕ → List X)
+    (none : (at : ℕ) → all Empty at ≡ [])
+    (some : (s : Statement) (ss : Statements) (at : ℕ)
+    → all (Then s ss) at ≡ one s at ++ all ss (at + statement_size s)) where
+  more_parts : (items : List Stmt) (i : ℕ) (x : Stmt) (at : ℕ) → i < length items
+      → all (statements (map statement (take (suc i) items))) at
+      ≡ all (statements (map statement (take i items))) at
+      ++ one (statement (get_or items i x))
+      (at + statements_size (statements (map statement (take i items))))
+  more_parts [] i x at lt = absurd (omega arith)
+  more_parts (y ∷ ys) zero x at lt =
+      let e : at ≡ at + 0 = omega arith in
+      let s = statement y in
+      some s Empty at ∙ ap (λ t. one s at ++ t) (none (at + statement_size s))
+      ∙ append-nil (one s at) ∙ ap (λ k. one s k) e
+      ∙ ap (λ t. t ++ one s (at + 0)) (sym (none at))
+  more_parts (y ∷ ys) (suc i) x at lt =
+      let s = statement y in
+      let rest = statements (map statement (take i ys)) in
+      let last = one (statement (get_or ys i x)) in
+      let to = at + statement_size s in
+      let l : to + statements_size rest ≡ at + (statement_size s + statements_size rest) = omega
+      arith in
+      some s (statements (map statement (take (suc i) ys))) at
+      ∙ ap (λ t. one s at ++ t) (more_parts ys i x to (omega arith))
+      ∙ sym (append_assoc (one s at) (all rest to) (last (to + statements_size rest)))
+      ∙ ap (λ k. (one s at ++ all rest to) ++ last k) l
+      ∙ ap (λ t. t ++ last (at + (statement_size s + statements_size rest))) (sym (some s rest at))
+
+  parts_next : (items : List Stmt) (i : ℕ) (x : Stmt) (at place next : ℕ)
+      (old mid new : List X) → i < length items → x ≡ get_or items i x
+      → place ≡ at + statements_size (statements (map statement (take i items)))
+      → mid ≡ old ++ all (statements (map statement (take i items))) at
+      → new ≡ mid ++ one (statement x) place
+      → next ≡ place + statement_size (statement x) → (next ≡ at + statements_size
+      (statements (map statement (take (i + 1) items))))
+      × (new ≡ old ++ all (statements (map statement (take (i + 1) items))) at)
+  parts_next items i x at place next old mid new lt is p h k n =
+      let more : suc i ≡ i + 1 = omega arith in
+      let g = get_or items i x in
+      let count = statements_size (statements (map statement (take i items))) in
+      let made = all (statements (map statement (take i items))) at in
+      let f : statement_size (statement x) ≡ statement_size (statement g) = ap
+      (λ y. statement_size (statement y)) is in
+      let m = more_sizes items i x lt in
+      let sized : next ≡ at + statements_size (statements (map statement (take (suc i) items))) =
+      omega arith in
+      let placed : new ≡ (old ++ made) ++ one (statement g) (at + count) = k
+      ∙ ap (λ y. mid ++ one (statement y) place) is
+      ∙ ap (λ y. mid ++ one (statement g) y) p
+      ∙ ap (λ y. y ++ one (statement g) (at + count)) h in (
+        sized ∙ ap (λ j. at + statements_size (statements (map statement (take j items)))) more,
+        placed ∙ append_assoc old made (one (statement g) (at + count))
+            ∙ ap (λ y. old ++ y) (sym (more_parts items i x at lt))
+            ∙ ap (λ j. old ++ all (statements (map statement (take j items))) at) more,
+      )
 
 pub regions_next : (items : List Stmt) (i : ℕ) (x : Stmt) (at place next : ℕ)
     (old mid new : List Region) → i < length items → x ≡ get_or items i x
@@ -41,25 +83,17 @@ pub regions_next : (items : List Stmt) (i : ℕ) (x : Stmt) (at place next : ℕ
     → next ≡ place + statement_size (statement x) → (next ≡ at + statements_size
     (statements (map statement (take (i + 1) items))))
     × (new ≡ old ++ statements_regions (statements (map statement (take (i + 1) items))) at)
-regions_next items i x at place next old mid new lt is p h k n =
-    let one : suc i ≡ i + 1 = omega arith in
-    let g = get_or items i x in
-    let count = statements_size (statements (map statement (take i items))) in
-    let made = statements_regions (statements (map statement (take i items))) at in
-    let f : statement_size (statement x) ≡ statement_size (statement g) = ap
-    (λ y. statement_size (statement y)) is in
-    let m = more_sizes items i x lt in
-    let sized : next ≡ at + statements_size (statements (map statement (take (suc i) items))) =
-    omega arith in
-    let placed : new ≡ (old ++ made) ++ statement_regions (statement g) (at + count) = k
-    ∙ ap (λ y. mid ++ statement_regions (statement y) place) is
-    ∙ ap (λ y. mid ++ statement_regions (statement g) y) p
-    ∙ ap (λ y. y ++ statement_regions (statement g) (at + count)) h in (
-      sized ∙ ap (λ j. at + statements_size (statements (map statement (take j items)))) one,
-      placed ∙ append_assoc old made (statement_regions (statement g) (at + count))
-          ∙ ap (λ y. old ++ y) (sym (more_regions items i x at lt))
-          ∙ ap (λ j. old ++ statements_regions (statements (map statement (take j items))) at) one,
-    )
+regions_next = parts_next statement_regions statements_regions (λ at. refl) (λ s ss at. refl)
+
+pub cold_next : (items : List Stmt) (i : ℕ) (x : Stmt) (at place next : ℕ)
+    (old mid new : List LabelRange) → i < length items → x ≡ get_or items i x
+    → place ≡ at + statements_size (statements (map statement (take i items)))
+    → mid ≡ old ++ statements_cold (statements (map statement (take i items))) at
+    → new ≡ mid ++ statement_cold (statement x) place
+    → next ≡ place + statement_size (statement x) → (next ≡ at + statements_size
+    (statements (map statement (take (i + 1) items))))
+    × (new ≡ old ++ statements_cold (statements (map statement (take (i + 1) items))) at)
+cold_next = parts_next statement_cold statements_cold (λ at. refl) (λ s ss at. refl)
 
 -- ---- funclets
 
@@ -92,6 +126,24 @@ funclets_next owner names items i x old mid new lt is h k =
     ∙ ap (λ y. old ++ y) (sym (more_funclets owner names items i x lt))
     ∙ ap (λ j. old ++ statements_funclets owner names (statements (map statement (take j items))))
     one
+
+-- of a `__try` with a `__finally` block: of its body, the block, and those in it
+pub finally_appended : (owner inner : Owner) (names names' : Names) (body last : Statements)
+    (k : ℕ) (x : Statement) (funclet : LinearFunclet) (old one two new : List LinearFunclet)
+    → x ≡ TryFinally body k last → inner ≡ in_funclet (k - 1) owner → names' ≡ finally_names names
+    → one ≡ old ++ statements_funclets owner names body → funclet ≡ finally_funclet owner names last
+    → two ≡ one ++ funclet ∷ [] → new ≡ two ++ statements_funclets inner names' last
+    → new ≡ old ++ statement_funclets owner names x
+finally_appended owner inner names names' body last k x funclet old one two new is i n a f b c =
+    let first = statements_funclets owner names body in
+    let rest = statements_funclets (in_funclet (k - 1) owner) (finally_names names) last in
+    let block = finally_funclet owner names last in
+    c ∙ ap (λ (o : Owner). two ++ statements_funclets o names' last) i
+    ∙ ap (λ (m : Names). two ++ statements_funclets (in_funclet (k - 1) owner) m last) n
+    ∙ ap (λ ys. ys ++ rest) b ∙ append_assoc one (funclet ∷ []) rest
+    ∙ ap (λ (g : LinearFunclet). one ++ g ∷ rest) f ∙ ap (λ ys. ys ++ block ∷ rest) a
+    ∙ append_assoc old first (block ∷ rest)
+    ∙ ap (λ y. old ++ statement_funclets owner names y) (sym is)
 
 -- ---- functions
 
@@ -158,11 +210,6 @@ all_next items i number x mid new lt is n h k =
 
 -- ---- whole programs
 
-pub mapped : (xs ys : List IrFunction) (x : IrFunction) → ys ≡ xs ++ x ∷ []
-    → map linear_function ys ≡ map linear_function xs ++ linear_function x ∷ []
-mapped xs ys x e = ap (λ zs. map linear_function zs) e ∙ mapped_last xs x
-  where
-    mapped_last : (zs : List IrFunction) (z : IrFunction)
-        → map linear_function (zs ++ z ∷ []) ≡ map linear_function zs ++ linear_function z ∷ []
-    mapped_last [] z = refl
-    mapped_last (y ∷ zs) z = ap (λ t. linear_function y ∷ t) (mapped_last zs z)
+pub mapped : {X Y : Type 0} (f : X → Y) (xs ys : List X) (x : X) → ys ≡ xs ++ x ∷ []
+    → map f ys ≡ map f xs ++ f x ∷ []
+mapped f xs ys x e = ap (λ zs. map f zs) e ∙ map-append f xs (x ∷ [])

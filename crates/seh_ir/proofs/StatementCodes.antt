@@ -15,9 +15,7 @@ jump_length (Jumps l) = refl
 jump_length (Unwinds l) = refl
 
 pub return_length : (w : Way) → length (return_code w) ≡ 2
-return_length Nowhere = refl
-return_length (Jumps l) = refl
-return_length (Unwinds l) = refl
+return_length w = jump_length w
 
 pub discarded_length : (names : Names) (e : Option Expression) (at : ℕ)
     → length (discarded_code names e at) ≡ discarded_size e
@@ -72,19 +70,19 @@ mutual
   statement_length scope (IfElse c s t) at =
       let then = at + expression_size c + 1 in
       let otherwise = then + statement_size s + 1 in
-      let jump = Jump (otherwise + statement_size t) in
+      let jump = Jump (otherwise + statement_size t + 1) in
+      let no = statement_code scope t otherwise ++ jump ∷ [] in
       two (expression_code scope.names c 0 at)
-      (JumpIfZero (Temporary 0) otherwise ∷
-      (statement_code scope s then ++ jump ∷ statement_code scope t otherwise))
-      (expression_size c) (1 + (statement_size s + (1 + statement_size t)))
+      (JumpIfZero (Temporary 0) otherwise ∷ (statement_code scope s then ++ jump ∷ no))
+      (expression_size c) (1 + (statement_size s + (1 + (statement_size t + 1))))
       (expression_length scope.names c 0 at)
-      (more (JumpIfZero (Temporary 0) otherwise)
-      (statement_code scope s then ++ jump ∷ statement_code scope t otherwise)
-      (statement_size s + (1 + statement_size t))
-      (two (statement_code scope s then) (jump ∷ statement_code scope t otherwise)
-      (statement_size s) (1 + statement_size t) (statement_length scope s then)
-      (more jump (statement_code scope t otherwise) (statement_size t)
-      (statement_length scope t otherwise))))
+      (more (JumpIfZero (Temporary 0) otherwise) (statement_code scope s then ++ jump ∷ no)
+      (statement_size s + (1 + (statement_size t + 1)))
+      (two (statement_code scope s then) (jump ∷ no) (statement_size s)
+      (1 + (statement_size t + 1)) (statement_length scope s then)
+      (more jump no (statement_size t + 1)
+      (two (statement_code scope t otherwise) (jump ∷ []) (statement_size t) 1
+      (statement_length scope t otherwise) refl))))
   statement_length scope (For ds first c next s) at =
       let begin = at + all_declared_size ds in
       let iteration = begin + discarded_size first in
@@ -194,11 +192,11 @@ if_is scope c s x old new is a =
     ∷ statement_code scope s (then + 1))) e)
 
 pub if_else_is : (scope : LoweringContext) (c : Expression) (s t : Statement) (x : Statement)
-    (other : ℕ) (old l1 l2 l3 : List Instruction) → x ≡ IfElse c s t → other ≡ statement_size t
-    → l1 ≡ old ++ when_code scope c s 2 (length old)
-    → l2 ≡ l1 ++ Jump (length l1 + (other + 1)) ∷ [] → l3 ≡ l2 ++ statement_code scope t (length l2)
-    → Run scope x old l3
-if_else_is scope c s t x other old l1 l2 l3 is z a b k =
+    (other : ℕ) (old l1 l2 l3 l4 : List Instruction) → x ≡ IfElse c s t
+    → other ≡ statement_size t → l1 ≡ old ++ when_code scope c s 2 (length old)
+    → l2 ≡ l1 ++ Jump (length l1 + (other + 2)) ∷ [] → l3 ≡ l2 ++ statement_code scope t (length l2)
+    → l4 ≡ l3 ++ Jump (length l3 + (0 + 1)) ∷ [] → Run scope x old l4
+if_else_is scope c s t x other old l1 l2 l3 l4 is z a b k q =
     let i = statement_size s in
     let j = statement_size t in
     let at = length old in
@@ -207,23 +205,30 @@ if_else_is scope c s t x other old l1 l2 l3 is z a b k =
     let body = statement_code scope s (at + nc + 1) in
     let over = JumpIfZero (Temporary 0) (at + nc + (i + 2)) in
     let long = nc + (1 + i) in
-    let g = after_one (Jump (length l1 + (other + 1))) l1 l2 l3 (λ p. statement_code scope t p) b
-    k in
-    let g' = g ∙ ap (λ n. l1 ++ Jump (length l1 + (n + 1)) ∷ statement_code scope t (length l1 + 1))
-    z in
-    let h = after (when_code scope c s 2 at) long old l1 l3
-    (λ p. Jump (p + (j + 1)) ∷ statement_code scope t (p + 1)) two_lengths a g' in
-    let rest = Jump (at + long + (j + 1)) ∷ statement_code scope t (at + long + 1) in
-    let e : at + nc + (i + 2) ≡ at + nc + 1 + i + 1 = omega arith in
-    let f : at + long + 1 ≡ at + nc + 1 + i + 1 = omega arith in
-    let m : at + long + (j + 1) ≡ at + nc + 1 + i + 1 + j = omega arith in
-    of scope x (IfElse c s t) old l3 is
+    -- the branch at a place, with the jump that ends it
+    let no = λ (p end : ℕ). statement_code scope t p ++ Jump end ∷ [] in
+    let g = after_one (Jump (length l1 + (other + 2))) l1 l2 l4 (λ p. no p (p + j + (0 + 1))) b
+    (after_statement scope t l2 l3 l4 (λ p. Jump (p + (0 + 1)) ∷ []) k q) in
+    let g' = g ∙ ap (λ n. l1 ++ Jump (length l1 + (n + 2))
+    ∷ no (length l1 + 1) (length l1 + 1 + j + (0 + 1))) z in
+    let h = after (when_code scope c s 2 at) long old l1 l4
+    (λ p. Jump (p + (j + 2)) ∷ no (p + 1) (p + 1 + j + (0 + 1))) two_lengths a g' in
+    let rest = Jump (at + long + (j + 2)) ∷ no (at + long + 1) (at + long + 1 + j + (0 + 1)) in
+    let otherwise = at + nc + 1 + i + 1 in
+    let end = otherwise + j + 1 in
+    let e : at + nc + (i + 2) ≡ otherwise = omega arith in
+    let f : at + long + 1 ≡ otherwise = omega arith in
+    let m : at + long + (j + 2) ≡ end = omega arith in
+    let n : at + long + 1 + j + (0 + 1) ≡ end = omega arith in
+    of scope x (IfElse c s t) old l4 is
     (h ∙ ap (λ xs. old ++ xs) (append_assoc front (over ∷ body) rest)
     ∙ ap (λ p. old ++ (front ++ JumpIfZero (Temporary 0) p ∷ (body ++ rest))) e
-    ∙ ap (λ p. old ++ (front ++ JumpIfZero (Temporary 0) (at + nc + 1 + i + 1)
-    ∷ (body ++ Jump p ∷ statement_code scope t (at + long + 1)))) m
-    ∙ ap (λ p. old ++ (front ++ JumpIfZero (Temporary 0) (at + nc + 1 + i + 1)
-    ∷ (body ++ Jump (at + nc + 1 + i + 1 + j) ∷ statement_code scope t p))) f)
+    ∙ ap (λ p. old ++ (front ++ JumpIfZero (Temporary 0) otherwise
+    ∷ (body ++ Jump p ∷ no (at + long + 1) (at + long + 1 + j + (0 + 1))))) m
+    ∙ ap (λ p. old ++ (front ++ JumpIfZero (Temporary 0) otherwise
+    ∷ (body ++ Jump end ∷ no (at + long + 1) p))) n
+    ∙ ap (λ p. old ++ (front ++ JumpIfZero (Temporary 0) otherwise
+    ∷ (body ++ Jump end ∷ no p end))) f)
   where
     two_lengths : length (when_code scope c s 2 (length old))
         ≡ expression_size c + (1 + statement_size s)

@@ -22,7 +22,7 @@ filter_funclet owner names e = record {
   parent = owner.parent;
   body =
       body_with owner.locals (expression_code names e 0 0 ++ instructions.Return (Temporary 0) ∷ [])
-      [];
+      [] [];
 }
 
 abbrev pub filter_funclets : Owner → Names → Filter → List LinearFunclet
@@ -37,7 +37,7 @@ finally_funclet owner names last = record {
   parent = owner.parent;
   body =
       body_with owner.locals (statements_code (finally_scope names) last 0
-      ++ instructions.Return (Local names.free) ∷ []) (statements_regions last 0);
+      ++ instructions.Return (Local names.free) ∷ []) (statements_regions last 0) [];
 }
 
 -- in the body of a funclet

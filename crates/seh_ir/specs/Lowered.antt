@@ -15,6 +15,7 @@ use Rattle.lowering_expressions.specs.Expressions.{constant}
 use Rattle.seh_ir.specs.Statements.{statements_code}
 use Rattle.seh_ir.specs.Regions.{statements_regions}
 use Rattle.seh_ir.specs.Funclets.{statements_funclets}
+use Rattle.seh_ir.specs.ColdParts.{statements_cold}
 
 -- parameters and locals, and after them codes and flags
 abbrev pub all_locals : Function → ℕ
@@ -26,7 +27,7 @@ abbrev pub first_separators : Function → List Instruction
 first_separators f = Separator ∷ replicate (surplus f) Separator
 
 -- after them comes its body; it returns 0 at its end, and what its first temporary holds at its
--- exit
+-- exit, where each `return` leads
 abbrev pub scope_of : Function → LoweringContext
 scope_of f = function_scope (own_locals f) (weight f + statements_size f.body + 1)
 
@@ -38,7 +39,8 @@ lowered_function f = record {
   surplus = surplus f;
   body =
       body_with (all_locals f) (first_separators f ++ statements_code (scope_of f) f.body (weight f)
-      ++ constant 0 0 ∷ Return (Temporary 0) ∷ []) (statements_regions f.body (weight f));
+      ++ constant 0 0 ∷ Return (Temporary 0) ∷ []) (statements_regions f.body (weight f))
+      (statements_cold f.body (weight f));
 }
 
 -- the funclets of a function of this number

@@ -5,6 +5,7 @@ use Rattle.linear_code.specs.declared.slot.Slot.TheVariants.{Local, Temporary}
 use Rattle.linear_code.specs.declared.instruction.Instruction.{Instruction}
 use Rattle.linear_code.specs.declared.instruction.Instruction.TheVariants as instructions
 use Rattle.linear_code.specs.declared.program.Region.{Region}
+use Rattle.linear_code.specs.declared.program.LabelRange.{LabelRange}
 use Rattle.linear_code.specs.Program.{LinearBody}
 
 abbrev pub slot_temporaries : Slot → ℕ
@@ -38,13 +39,14 @@ abbrev pub passed_in : List Instruction → ℕ
 passed_in [] = 0
 passed_in (i ∷ is) = max (instruction_passes i) (passed_in is)
 
--- a body of an activation with so many locals
-abbrev pub body_with : ℕ → List Instruction → List Region → LinearBody
-body_with locals code regions =
+-- a body of an activation with so many locals, with these cold parts
+abbrev pub body_with : ℕ → List Instruction → List Region → List LabelRange → LinearBody
+body_with locals code regions cold =
     record {
       locals = locals;
       temporaries = temporaries_in code;
       passed = passed_in code;
       code = code;
       regions = regions;
+      cold = cold;
     }

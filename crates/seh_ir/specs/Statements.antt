@@ -7,7 +7,7 @@ use Rattle.c_checked.specs.Statement.{Declared, Statement, Declare, Block, Evalu
 use Rattle.c_checked.specs.Statement as statements
 use Rattle.linear_code.specs.declared.slot.Slot.TheVariants.{Local, Temporary}
 use Rattle.linear_code.specs.declared.instruction.Instruction.{Instruction}
-use Rattle.linear_code.specs.declared.instruction.Instruction.TheVariants.{Compute, Jump, JumpIfZero, CallFinally, LocalUnwind, Landing, Separator, Return}
+use Rattle.linear_code.specs.declared.instruction.Instruction.TheVariants.{Compute, Jump, JumpIfZero, CallFinally, LocalUnwind, Landing, Separator}
 use Rattle.lowering_expressions.specs.declared.scope.Names.{Names}
 use Rattle.lowering_expressions.specs.declared.scope.Way.{Way}
 use Rattle.lowering_expressions.specs.declared.scope.LoweringContext.{LoweringContext}
@@ -23,11 +23,9 @@ jump_code Nowhere = Separator ∷ Separator ∷ []
 jump_code (Jumps label) = Jump label ∷ Separator ∷ []
 jump_code (Unwinds label) = LocalUnwind label ∷ Separator ∷ []
 
--- with the number in the first temporary
+-- of a `return`, with the number in the first temporary
 abbrev pub return_code : Way → List Instruction
-return_code Nowhere = Separator ∷ Separator ∷ []
-return_code (Jumps label) = Return (Temporary 0) ∷ Separator ∷ []
-return_code (Unwinds label) = LocalUnwind label ∷ Separator ∷ []
+return_code way = jump_code way
 
 abbrev pub leave_code : Option ℕ → Instruction
 leave_code None = Separator
@@ -79,7 +77,8 @@ repeated end begin = JumpIfZero (Temporary 0) end ∷ Jump begin ∷ Separator �
 abbrev pub finally_called : ℕ → List Instruction
 finally_called k = Separator ∷ CallFinally k ∷ Separator ∷ []
 
--- ---- statements, placed at an instruction; a loop ends with a separator, where a `break` leads
+-- ---- statements, placed at an instruction; a loop ends with a separator, where a `break` leads;
+-- an `else` branch ends with a jump, since it may stand apart
 
 abbrev mutual
   pub statement_code : LoweringContext → Statement → ℕ → List Instruction
@@ -94,11 +93,13 @@ abbrev mutual
   statement_code scope (IfElse c s t) at =
       let then = at + expression_size c + 1 in
       let otherwise = then + statement_size s + 1 in
+      let end = otherwise + statement_size t + 1 in
       expression_code scope.names c 0 at
       ++ (JumpIfZero (Temporary 0) otherwise
       ∷ (statement_code scope s then
-      ++ (Jump (otherwise + statement_size t)
-      ∷ statement_code scope t otherwise)))
+      ++ (Jump end
+      ∷ (statement_code scope t otherwise
+      ++ Jump end ∷ []))))
   statement_code scope (For ds first c next s) at =
       let begin = at + all_declared_size ds in
       let iteration = begin + discarded_size first in

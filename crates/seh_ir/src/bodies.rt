@@ -5,7 +5,7 @@ ghost use Rattle.linear_code.specs.Program.{linear_body};
 ghost use Rattle.seh_ir.specs.Slots as spec;
 
 use linear_code::instruction::Instruction;
-use linear_code::program::{IrBody, Region};
+use linear_code::program::{IrBody, LabelRange, Region};
 use linear_code::slot::Slot;
 use lowering_sizes::sums::{larger, sum};
 use std::alloc::AllocError;
@@ -89,13 +89,15 @@ fn passed_in(code: &[Instruction]) -> u64
     most
 }
 
-/// A body of an activation with so many locals.
+/// A body of an activation with so many locals, with these cold parts.
 pub fn body_with(
     locals: u64,
     code: Vec<Instruction>,
     regions: Vec<Region>,
+    cold: Vec<LabelRange>,
 ) -> Result<IrBody, AllocError>
-    ensures { IfOk result (λ b. linear_body b ≡ spec.body_with locals code.items regions.items) }
+    ensures { IfOk result (λ b. linear_body b ≡
+        spec.body_with locals code.items regions.items cold.items) }
 {
     let temporaries = temporaries_in(&code)?;
     let passed = passed_in(&code);
@@ -105,5 +107,6 @@ pub fn body_with(
         passed,
         code,
         regions,
+        cold,
     })
 }

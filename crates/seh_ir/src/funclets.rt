@@ -47,7 +47,7 @@ fn filter_funclet(
     code.push(Instruction::Return {
         from: Slot::Temporary(0),
     })?;
-    let body = body_with(owner.locals, code, Vec::new(alloc))?;
+    let body = body_with(owner.locals, code, Vec::new(alloc), Vec::new(alloc))?;
     Ok(IrFunclet {
         kind: FuncletKind::Filter,
         function: owner.function,
@@ -75,7 +75,7 @@ fn finally_funclet(
     })?;
     let mut regions = Vec::new(alloc);
     statements_regions(&mut regions, last, 0)?;
-    let body = body_with(owner.locals, code, regions)?;
+    let body = body_with(owner.locals, code, regions, Vec::new(alloc))?;
     Ok(IrFunclet {
         kind: FuncletKind::Finally { flag: names.free },
         function: owner.function,

@@ -7,6 +7,7 @@
 #![tactic(auto)]
 
 pub mod bodies;
+pub mod cold_parts;
 pub mod funclets;
 pub mod lower;
 pub mod regions;

@@ -9,6 +9,7 @@ ghost use Rattle.lowering_expressions.specs.Appended.{AppendsFunclets};
 ghost use Rattle.seh_ir.specs.Lowered as spec;
 
 use crate::bodies::body_with;
+use crate::cold_parts::statements_cold;
 use crate::funclets::{Owner, statements_funclets};
 use crate::regions::statements_regions;
 use crate::statements::statements;
@@ -92,7 +93,9 @@ fn lower_function(alloc: Global, f: &Function) -> Result<IrFunction, AllocError>
     put_all(&mut code, &[constant(0, 0), returns])?;
     let mut regions = Vec::new(alloc);
     statements_regions(&mut regions, &f.body, begin)?;
-    let body = body_with(locals, code, regions)?;
+    let mut cold = Vec::new(alloc);
+    statements_cold(&mut cold, alloc, &f.body, begin)?;
+    let body = body_with(locals, code, regions, cold)?;
     let mut name = Vec::new(alloc);
     name.extend_from_slice(&f.name)?;
     Ok(IrFunction {

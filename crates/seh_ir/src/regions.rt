@@ -40,14 +40,14 @@ fn finally_kind(number: u32) -> RegionKind
 }
 
 /// The place after so many instructions.
-fn shifted(at: u64, size: u64, more: u64) -> Result<u64, AllocError>
+pub(crate) fn shifted(at: u64, size: u64, more: u64) -> Result<u64, AllocError>
     ensures { IfOk result (λ n. n ≡ at + size + more) }
 {
     sum(sum(at, size)?, more)
 }
 
 /// The place after an expression at a place, and one instruction more.
-fn after_condition(at: u64, condition: &Expr) -> Result<u64, AllocError>
+pub(crate) fn after_condition(at: u64, condition: &Expr) -> Result<u64, AllocError>
     ensures { IfOk result (λ n. n ≡ at + expression_size (tree.expression condition.now) + 1) }
 {
     shifted(at, expression_size(condition)?, 1)
@@ -165,7 +165,8 @@ fn statement_regions(regions: &mut Vec<Region>, stmt: &Stmt, at: u64) -> Result<
         } => {
             let first = after_condition(at, condition)?;
             let second = sum(statement_regions(regions, then, first)?, 1)?;
-            statement_regions(regions, otherwise, second)
+            let last = statement_regions(regions, otherwise, second)?;
+            sum(last, 1)
         }
         Stmt::Return(expr) => sum(at, return_size(expr)?),
         Stmt::Break => sum(at, 2),

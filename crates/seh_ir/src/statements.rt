@@ -33,7 +33,7 @@ fn here(code: &Vec<Instruction>) -> u64
     code.len() as u64
 }
 
-/// The first instruction to where `break` or `continue` lead.
+/// The first instruction to where `break`, `continue` or `return` lead.
 fn jump_first(way: Way) -> Instruction
     ensures { result ∷ Separator ∷ [] ≡ spec.jump_code way }
 {
@@ -44,31 +44,11 @@ fn jump_first(way: Way) -> Instruction
     }
 }
 
-/// Two instructions to where `break` or `continue` lead.
+/// Two instructions to where `break`, `continue` or `return` lead.
 fn jump(code: &mut Vec<Instruction>, way: Way) -> Result<(), AllocError>
     ensures { OnOk result (Appends code.old code.new (spec.jump_code way)) }
 {
     put_all(code, &[jump_first(way), Instruction::Separator])
-}
-
-/// The first instruction of the end of a `return`, with its number in the first temporary.
-fn return_first(way: Way) -> Instruction
-    ensures { result ∷ Separator ∷ [] ≡ spec.return_code way }
-{
-    match way {
-        Way::Nowhere => Instruction::Separator,
-        Way::Jumps(_) => Instruction::Return {
-            from: Slot::Temporary(0),
-        },
-        Way::Unwinds(label) => Instruction::LocalUnwind { label },
-    }
-}
-
-/// The end of a `return`, with its number in the first temporary.
-fn end_return(code: &mut Vec<Instruction>, way: Way) -> Result<(), AllocError>
-    ensures { OnOk result (Appends code.old code.new (spec.return_code way)) }
-{
-    put_all(code, &[return_first(way), Instruction::Separator])
 }
 
 fn leave(label: Option<u64>) -> Instruction
@@ -112,7 +92,7 @@ fn returned(
     }
 }
 
-/// A `return`.
+/// A `return`, which leads to the function's exit with its number in the first temporary.
 fn leave_function(
     code: &mut Vec<Instruction>,
     scope: &LoweringContext,
@@ -122,7 +102,7 @@ fn leave_function(
         (spec.statement_code scope.now (statements.Return (option_map tree.expression expr.now)))) }
 {
     returned(code, scope.names, expr)?;
-    end_return(code, scope.exit)
+    jump(code, scope.exit)
 }
 
 /// A condition, and a jump where it is 0.
@@ -468,8 +448,9 @@ fn statement(
             Some(other) => {
                 let more = next_size(sizes);
                 when(code, scope, sizes, then, condition, 2)?;
-                skip(code, more, 1)?;
-                statement(code, scope, sizes, other)
+                skip(code, more, 2)?;
+                statement(code, scope, sizes, other)?;
+                skip(code, 0, 1)
             }
         },
         _ => other_statement(code, scope, sizes, stmt),

@@ -6,7 +6,7 @@ use Rattle.std.specs.Fmt.{decimal}
 use Rattle.hex.specs.Hex.{encode_lower}
 use Rattle.seh_io.specs.Text.{hexadecimal, ended}
 use Rattle.pe_image.specs.Image.{Image}
-use Rattle.pe_image.specs.NameRows.{NameRow, names_of, rows_read, name_at_begin}
+use Rattle.pe_image.specs.NameRows.{NameRow, names_of, rows_read, row_holding, name_of}
 use Rattle.eh_tables.specs.declared.code.UnwindOperation.{UnwindOperation}
 use Rattle.eh_tables.specs.declared.code.UnwindOperation.TheVariants.{Push, Allocate, SetFrame, Save, SaveVector, MachineFrame}
 use Rattle.eh_tables.specs.declared.code.UnwindCode.{UnwindCode}
@@ -167,7 +167,15 @@ refused_table_line e = ended (codes "refused table " ++ directory_text e)
 
 -- ---- the view
 
--- the name of the function whose code begins where the entry does
+-- the name of the function a part of whose code begins where an entry does: that of the number in
+-- the row that begins there
+abbrev pub name_if_begun : List NameRow → ℕ → Option NameRow → Option (List ℕ)
+name_if_begun names rva None = None
+name_if_begun names rva (Some r) = if r.begin == rva then name_of r.number names else None
+
+abbrev pub begun_name : List NameRow → ℕ → Option (List ℕ)
+begun_name names rva = name_if_begun names rva (row_holding rva names)
+
 abbrev pub name_line : Option (List ℕ) → List ℕ
 name_line None = []
 name_line (Some name) = codes " name " ++ ended name
@@ -175,7 +183,7 @@ name_line (Some name) = codes " name " ++ ended name
 -- an entry's lines, of which its name in a table of names is the last, or the one of its refusal
 abbrev pub entry_lines : List NameRow → ℕ → Result Entry TableErr → List ℕ
 entry_lines names index (Ok e) =
-    entry_line index e.range ++ info_lines e.info ++ name_line (name_at_begin e.range.begin names)
+    entry_line index e.range ++ info_lines e.info ++ name_line (begun_name names e.range.begin)
 entry_lines names index (Err e) = refused_line index e
 
 -- from an index on, after an entry that ends there

@@ -1,9 +1,9 @@
 //! The view, written.
 
-ghost use Rattle.std.specs.Prelude.{◌≡◌, ◌≤◌, ◌<◌, ◌*◌, ◌++◌, length, Some, true, false, OnOk, OnErr, IfErr};
+ghost use Rattle.std.specs.Prelude.{◌≡◌, ◌≤◌, ◌<◌, ◌*◌, ◌++◌, length, option_map, Some, true, false, OnOk, OnErr, IfErr};
 ghost use Rattle.std.specs.List.{flat_map};
 ghost use Rattle.hex.specs.Hex.{encode_lower};
-ghost use Rattle.pe_image.specs.NameRows.{names_of, name_at_begin, rows_read};
+ghost use Rattle.pe_image.specs.NameRows.{names_of, rows_read};
 ghost use Rattle.seh_io.specs.Streams.{Rose, Grew};
 ghost use Rattle.seh_io.specs.Writer.{PutText, TookPart};
 ghost use Rattle.table_view.specs.View as spec;
@@ -132,14 +132,25 @@ fn put_name<O: Sink>(out: &mut Lines<'_, O>, name: &[u8])
     out.put(b"\n");
 }
 
-/// The line of the name in the row that begins at an address, if there is one. The rows are
-/// searched by halves.
+/// The name of the function a part of whose code begins at an address: that of the number in the
+/// row that begins there. The row of a cold part may have no name of its own.
+fn begun_name<'a>(names: &NameTable<'a>, rva: u32) -> Option<&'a [u8]>
+    ensures { option_map (λ b. b.now) result ≡ spec.begun_name names.now rva }
+{
+    let (begin, number) = names.row(rva as u64)?;
+    if begin != rva as u64 {
+        return None;
+    }
+    names.name(number)
+}
+
+/// The line of the name of the function a part of whose code begins at an address, if there is one.
 fn put_name_at<O: Sink>(out: &mut Lines<'_, O>, names: &NameTable<'_>, rva: u32)
     ensures same_reference { out.new.sink.ghost_name ≡ out.old.sink.ghost_name }
     ensures wrote { PutText O.taken O.faults out.old
-        (spec.name_line (name_at_begin rva names.now)) out.new }
+        (spec.name_line (spec.begun_name names.now rva)) out.new }
 {
-    match names.name_at_begin(rva as u64) {
+    match begun_name(names, rva) {
         Some(name) => put_name(out, name),
         None => {}
     }
@@ -207,8 +218,8 @@ fn put_table<O: Sink>(out: &mut Lines<'_, O>, image: &ImageView<'_>)
 }
 
 /// Writes the view of an image's function table, line by line. An entry that is refused is one
-/// line. An entry that begins where a row of the image's table of names does has its name; where
-/// that table is refused no entry has one.
+/// line. An entry that begins where a row of the image's table of names does has the name of the
+/// row's number; where that table is refused no entry has one.
 ///
 /// After a fault the sink has taken a part of the text from the front, of `taken` bytes; that count
 /// stays at 2^64 - 1.

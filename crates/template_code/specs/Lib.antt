@@ -8,4 +8,5 @@ pub mod Frames
 pub mod Calls
 pub mod Probing
 pub mod Template
+pub mod ColdParts
 pub mod Laws

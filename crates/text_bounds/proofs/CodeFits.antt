@@ -1,6 +1,6 @@
 -- The linear code of an accepted text within the limits can be linked.
 use Rattle.std.specs.Prelude.{slice_get}
-use Rattle.std.proofs.Common.{ℕ, suc, ◌*◌, ◌≡◌, ◌+◌, ◌<◌, ◌≤◌, List, [], ◌∷◌, length, map, Option, Some, None, refl, arith}
+use Rattle.std.proofs.Common.{false, ℕ, suc, ◌*◌, ◌≡◌, ◌+◌, ◌<◌, ◌≤◌, List, [], ◌∷◌, length, map, Option, Some, None, refl, ap, arith}
 use Rattle.std.specs.List.{AllByRecursion}
 use Rattle.std.proofs.lemmas.Bool.{leb-true}
 use Rattle.text_bounds.specs.Words.{Program, Function, resolve, Local, Temporary, Instruction, LinearBody, LinearFunclet, LinearProgram, lowered_function, all_funclets, lowered, tables_room, function_bodies, funclet_bodies, IsSound, LinearFunction, FitsSlot, FitsInstruction, FitsBody, FitsFunction, FitsKind, FitsFunclet, text_room, program_tables_room, names_room, other_room, file_of, empty_file, AcceptedFits, TextsFit}
@@ -21,25 +21,36 @@ use Rattle.lowering_invariants.specs.Registers.{HasRegisters}
 use Rattle.lowering_invariants.specs.Slots as small
 use Rattle.lowering_invariants.specs.Slots.{IsAmong, IsField, IsPlain, IsSmallBody, HasFlag, IsSmallFunclet, IsSmallFunction}
 use Rattle.lowering_invariants.proofs.SparedRegisters.{lowered_has}
+use Rattle.lowering_invariants.proofs.ColdParts.{lowered_has_cold_parts}
+use Rattle.linear_machine.specs.Frames.{FunctionBody, function_body}
 use Rattle.text_bounds.proofs.StatementNesting.{accepted_is_small}
 use Rattle.x64_emit.specs.Near.{IsFieldNear}
 use Rattle.image_link.specs.Routines as links
+use Rattle.template_code.specs.ColdParts.{AreParts, is_cold}
+use Rattle.text_bounds.proofs.ColdParts.{are_parts, first_hot}
 use Rattle.text_bounds.proofs.ProgramRooms.{lowered_is_bounded}
 use Rattle.text_bounds.proofs.CodeIsBounded.{code_is_bounded}
 use Rattle.text_bounds.proofs.NamesSpelled.{functions_spelled}
 use Rattle.text_bounds.proofs.NamesWithin.{functions_named, names_within}
 use Rattle.host_layout.specs.declared.limit.TheConstants.{MOST_IMAGE}
 
--- ---- bodies have the temporaries that their code uses
+-- ---- bodies have the temporaries that their code uses, and cold parts one after another
 
 abbrev IsCounted : LinearBody → Type 0
 IsCounted b = b.temporaries ≡ temporaries_in b.code
 
+abbrev HasParts : LinearBody → Type 0
+HasParts b = AreParts 0 b.cold (length b.code)
+
 abbrev FunctionIsCounted : LinearFunction → Type 0
 FunctionIsCounted f = IsCounted f.body × (0 < length f.body.code)
 
+abbrev FunctionHasParts : LinearFunction → Type 0
+FunctionHasParts f = HasParts f.body × (is_cold f.body.cold 0 ≡ false)
+
+-- a funclet has no cold part
 abbrev FuncletIsCounted : LinearFunclet → Type 0
-FuncletIsCounted f = IsCounted f.body
+FuncletIsCounted f = IsCounted f.body × HasParts f.body
 
 functions_counted : (fs : List Function) → AllByRecursion FunctionIsCounted
     (map lowered_function fs)
@@ -48,7 +59,8 @@ functions_counted (f ∷ fs) = ((refl, omega arith), functions_counted fs)
 
 funclets_counted : (number : ℕ) (fs : List Function)
     → AllByRecursion FuncletIsCounted (all_funclets number fs)
-funclets_counted = funclets_any FuncletIsCounted (λ owner names e. refl) (λ owner names last. refl)
+funclets_counted = funclets_any FuncletIsCounted (λ owner names e. (refl, omega arith))
+    (λ owner names last. (refl, omega arith))
 
 -- ---- instructions
 
@@ -92,9 +104,9 @@ code_fits b (i ∷ is) h le = (
 
 -- ---- bodies
 
-body_fits : (b : LinearBody) → IsSmallBody b → IsCounted b → 16 * length b.regions ≤ MOST_IMAGE
-    → FitsBody b
-body_fits b s c few =
+body_fits : (b : LinearBody) → IsSmallBody b → IsCounted b → HasParts b
+    → 16 * length b.regions ≤ MOST_IMAGE → FitsBody b
+body_fits b s c apart few =
     let p = s.passed in
     let t = s.temporaries in
     let l = s.locals in
@@ -103,6 +115,7 @@ body_fits b s c few =
       locals = omega arith;
       code = code_fits b b.code s.code (omega arith);
       regions = few;
+      cold = apart;
     }
 
 -- what each has by its number, all have
@@ -113,9 +126,10 @@ all_of P (f ∷ fs) h = (h 0 f refl, all_of P fs (λ k g e. h (suc k) g e))
 
 functions_fit : (fs : List LinearFunction) → AllByRecursion IsSmallFunction fs
     → AllByRecursion FunctionIsCounted fs → AllByRecursion HasRegisters fs
-    → tables_room (function_bodies fs) ≤ MOST_IMAGE → AllByRecursion FitsFunction fs
-functions_fit [] s c r few = tt
-functions_fit (f ∷ fs) s c r few =
+    → AllByRecursion FunctionHasParts fs → tables_room (function_bodies fs) ≤ MOST_IMAGE
+    → AllByRecursion FitsFunction fs
+functions_fit [] s c r apart few = tt
+functions_fit (f ∷ fs) s c r apart few =
     let p = s.0.body.passed in
     let t = s.0.body.temporaries in
     let l = s.0.locals in
@@ -124,11 +138,12 @@ functions_fit (f ∷ fs) s c r few =
         parameters = s.0.parameters;
         registers = r.0.few;
         some = c.0.1;
+        first = apart.0.1;
         weight = omega arith;
         words = omega arith;
-        body = body_fits f.body s.0.body c.0.0 (omega arith);
+        body = body_fits f.body s.0.body c.0.0 apart.0.0 (omega arith);
       },
-      functions_fit fs s.1 c.1 r.1 (omega arith),
+      functions_fit fs s.1 c.1 r.1 apart.1 (omega arith),
     )
 
 kind_fits : (b : LinearBody) (k : FuncletKind) → HasFlag b k → FitsKind b k
@@ -148,7 +163,7 @@ funclets_fit p (f ∷ fs) s c few = (
     kind = kind_fits f.body f.kind s.0.kind;
     function = s.0.function;
     parent = parent_fits p f.parent s.0.parent;
-    body = body_fits f.body s.0.body c.0 (omega arith);
+    body = body_fits f.body s.0.body c.0.0 c.0.1 (omega arith);
   },
   funclets_fit p fs s.1 c.1 (omega arith),
 )
@@ -186,7 +201,11 @@ accepted_fits text xs within accepted few short named =
       globals = omega arith;
       main = s.main;
       functions = functions_fit p.functions s.functions (functions_counted program.functions)
-          (all_of HasRegisters p.functions (lowered_has program)) (omega arith);
+          (all_of HasRegisters p.functions (lowered_has program))
+          (all_of FunctionHasParts p.functions (λ k f e.
+          (let cold = lowered_has_cold_parts program (FunctionBody k) f.body (ap function_body e) in
+          (are_parts f.body cold, first_hot f.body cold))))
+          (omega arith);
       funclets = funclets_fit p p.funclets s.funclets (funclets_counted 0 program.functions)
           (omega arith);
       names = named;

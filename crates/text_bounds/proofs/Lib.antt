@@ -5,6 +5,7 @@ pub mod ExpressionWeights
 pub mod LocalCounts
 pub mod StatementWeights
 pub mod ExpressionRooms
+pub mod ColdParts
 pub mod StatementRooms
 pub mod ProgramRooms
 pub mod CodeIsBounded

@@ -1,7 +1,7 @@
--- The code of statements, of the filters and `__finally` blocks in them, and their scope records
--- take no more than their room.
+-- The code of statements, of the filters and `__finally` blocks in them, their scope records and
+-- what their cold parts have beside their code take no more than their room.
 use Rattle.std.proofs.Common.{◌≡◌, ℕ, ◌+◌, ◌-◌, ◌*◌, ◌≤◌, List, [], ◌∷◌, ◌++◌, length, Option, Some, None, sym, arith, zero-add, length-append}
-use Rattle.text_bounds.specs.Words.{Expression, Local, Temporary, LinearBody, LinearFunclet, Owner, expression_size, copy, expression_code, statements_code, instruction_room, code_room, discarded_room, condition_room, initialiser_room, all_declared_room, returned_room, statement_room, statements_room, discarded_size, condition_size, declared_size, all_declared_size, statement_size, statements_size, jump_code, return_code, leave_code, discarded_code, returned_code, condition_code, initialiser_code, declared_code, all_declared_code, landed, repeated, statement_code, declared_room, filter_room}
+use Rattle.text_bounds.specs.Words.{Expression, Local, Temporary, LinearBody, LinearFunclet, Owner, expression_size, copy, expression_code, statements_code, instruction_room, code_room, discarded_room, condition_room, initialiser_room, all_declared_room, returned_room, statement_room, statements_room, cold_room, discarded_size, condition_size, declared_size, all_declared_size, statement_size, statements_size, jump_code, return_code, leave_code, discarded_code, returned_code, condition_code, initialiser_code, declared_code, all_declared_code, landed, repeated, statement_code, declared_room, filter_room}
 use Rattle.c_checked.specs.Statement as statements
 use Rattle.c_checked.specs.Statement.{Declared, Filter, Always, Funclet, Statement, Declare, Block, Evaluate, If, IfElse, For, DoWhile, Break, Continue, Leave, TryExcept, TryFinally, Statements, Empty, Then}
 use Rattle.linear_code.specs.declared.instruction.Instruction.TheVariants as instructions
@@ -12,13 +12,15 @@ use Rattle.lowering_expressions.specs.declared.scope.Way.{Way}
 use Rattle.lowering_expressions.specs.declared.scope.Way.TheVariants.{Nowhere, Jumps, Unwinds}
 use Rattle.lowering_expressions.specs.Scope.{except_names, filter_names, finally_names, finally_scope, in_loop, in_try, in_except, in_guarded}
 use Rattle.seh_ir.specs.Regions.{region, except_kind, statement_regions, statements_regions}
+use Rattle.seh_ir.specs.ColdParts.{branch_cold, statement_cold, statements_cold}
 use Rattle.seh_ir.specs.Funclets.{filter_funclets, finally_funclet, in_funclet, statement_funclets, statements_funclets}
+use Rattle.text_bounds.proofs.ColdParts.{branch_count}
 use Rattle.text_bounds.proofs.ExpressionRooms.{room_append, expression_bound}
 
--- ---- funclets: their code and their scope records
+-- ---- funclets: their code, their scope records and their cold parts
 
 abbrev pub body_room : LinearBody → ℕ
-body_room b = code_room b.code + 16 * length b.regions
+body_room b = code_room b.code + 16 * length b.regions + cold_room * length b.cold
 
 abbrev pub funclets_room : List LinearFunclet → ℕ
 funclets_room [] = 0
@@ -35,11 +37,6 @@ jumped : (w : Way) → code_room (jump_code w) ≤ 16
 jumped Nowhere = omega arith
 jumped (Jumps label) = omega arith
 jumped (Unwinds label) = omega arith
-
-returned_by : (w : Way) → code_room (return_code w) ≤ 53
-returned_by Nowhere = omega arith
-returned_by (Jumps label) = omega arith
-returned_by (Unwinds label) = omega arith
 
 left_by : (o : Option ℕ) → instruction_room (leave_code o) ≤ 5
 left_by None = omega arith
@@ -102,17 +99,17 @@ filtered owner names (Funclet k e) = let a = expression_bound names e 0 0 in
           (instructions.Return (Temporary 0) ∷ []),
     )
 
--- ---- statements: the code is placed at one instruction, and the regions at another
+-- ---- statements: the code is placed at one instruction, and the regions and cold parts at another
 
 abbrev Bound : LoweringContext → ℕ → ℕ → Owner → Names → Statement → Type 0
 Bound scope at from owner names s = code_room (statement_code scope s at)
     + 16 * length (statement_regions s from) + funclets_room (statement_funclets owner names s)
-    ≤ statement_room s
+    + cold_room * length (statement_cold s from) ≤ statement_room s
 
 abbrev Bounds : LoweringContext → ℕ → ℕ → Owner → Names → Statements → Type 0
 Bounds scope at from owner names ss = code_room (statements_code scope ss at)
     + 16 * length (statements_regions ss from) + funclets_room (statements_funclets owner names ss)
-    ≤ statements_room ss
+    + cold_room * length (statements_cold ss from) ≤ statements_room ss
 
 mutual
   statement_bound : (scope : LoweringContext) (at from : ℕ) (owner : Owner) (names : Names)
@@ -141,15 +138,19 @@ mutual
       let a = expression_bound scope.names c 0 at in
       let b = statement_bound scope then then' owner names s in
       let d = statement_bound scope otherwise otherwise' owner names t in
-      let last = instructions.Jump (otherwise + statement_size t)
-      ∷ statement_code scope t otherwise in
+      let end = otherwise + statement_size t + 1 in
+      let joins = instructions.Jump end ∷ [] in
+      let last = instructions.Jump end ∷ (statement_code scope t otherwise ++ joins) in
+      let parts = branch_count t otherwise' in
       omega (
         arith,
         room_append (expression_code scope.names c 0 at)
             (instructions.JumpIfZero (Temporary 0) otherwise ∷
             (statement_code scope s then ++ last)),
         room_append (statement_code scope s then) last,
+        room_append (statement_code scope t otherwise) joins,
         length-append (statement_regions s then') (statement_regions t otherwise'),
+        length-append (statement_cold s then') (branch_cold t otherwise'),
         funclets_append (statement_funclets owner names s) (statement_funclets owner names t),
       )
   statement_bound scope at from owner names (For ds first c next s) =
@@ -192,7 +193,7 @@ mutual
       )
   statement_bound scope at from owner names (statements.Return e) =
       let a = returned scope.names e at in
-      let b = returned_by scope.exit in
+      let b = jumped scope.exit in
       omega (arith, room_append (returned_code scope.names e at) (return_code scope.exit))
   statement_bound scope at from owner names Break = let a = jumped scope.loop_end in omega arith
   statement_bound scope at from owner names Continue = let a = jumped scope.loop_next in omega arith
@@ -247,5 +248,6 @@ mutual
         room_append (statement_code scope s at)
             (statements_code scope ss (at + statement_size s)),
         length-append (statement_regions s from) (statements_regions ss (from + statement_size s)),
+        length-append (statement_cold s from) (statements_cold ss (from + statement_size s)),
         funclets_append (statement_funclets owner names s) (statements_funclets owner names ss),
       )

@@ -108,8 +108,12 @@ abbrev pub filter_room : Filter → ℕ
 filter_room Always = 0
 filter_room (Funclet k e) = expression_room e + 52
 
+-- a cold part has an unwind info, an entry in the function table and a row in the table of names
+abbrev pub cold_room : ℕ
+cold_room = 16 + 12 + 17
+
 -- of a statement and of the filters and `__finally` blocks in it, with 16 bytes for the scope
--- record of each `__try`
+-- record of each `__try`; each `else` branch may be a cold part
 abbrev mutual
   pub statement_room : Statement → ℕ
   statement_room (Declare d) = declared_room d
@@ -117,12 +121,12 @@ abbrev mutual
   statement_room (Evaluate e) = discarded_room e
   statement_room (If c s) = expression_room c + (18 + statement_room s)
   statement_room (IfElse c s t) =
-      expression_room c + (18 + (statement_room s + (5 + statement_room t)))
+      expression_room c + (18 + (statement_room s + (5 + (statement_room t + (5 + cold_room)))))
   statement_room (For ds first c next s) =
       all_declared_room ds + (discarded_room first + (condition_room c
       + (statement_room s + (1 + (discarded_room next + 6)))))
   statement_room (DoWhile s c) = statement_room s + (1 + (expression_room c + 24))
-  statement_room (Return e) = returned_room e + 53
+  statement_room (Return e) = returned_room e + 16
   statement_room Break = 16
   statement_room Continue = 16
   statement_room Leave = 5

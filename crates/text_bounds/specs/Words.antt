@@ -42,5 +42,5 @@ pub use Rattle.image_link.specs.Fits.{tables_room, function_bodies, funclet_bodi
 pub use Rattle.image_link.specs.Walks.{IsName, IsNamed, names_room}
 pub use Rattle.text_bounds.specs.Names.{name_bytes}
 pub use Rattle.text_bounds.specs.BoundLaws.{AcceptedFits, TextsFit, CodeIsBounded}
-pub use Rattle.text_bounds.specs.Rooms.{conversion_room, expression_room, read_room, write_room, locate_room, node_room, arguments_room, discarded_room, condition_room, initialiser_room, returned_room, all_declared_room, statement_room, statements_room, functions_room, address_room, declared_room, filter_room}
+pub use Rattle.text_bounds.specs.Rooms.{conversion_room, expression_room, read_room, write_room, locate_room, node_room, arguments_room, discarded_room, condition_room, initialiser_room, returned_room, all_declared_room, statement_room, statements_room, functions_room, address_room, declared_room, filter_room, cold_room}
 pub use Rattle.text_bounds.specs.Weights.{Weights, optional, NodesAdd, StatementsAdd}

@@ -3,7 +3,7 @@ use Rattle.std.proofs.Common.{◌≡◌, ℕ, zero, suc, ◌+◌, ◌-◌, ◌*�
 use Rattle.std.specs.Prelude.{OnOk}
 use Rattle.std.specs.List.{AllByRecursion}
 use Rattle.std.proofs.lemmas.Grind.{flat_map-append}
-use Rattle.x64_emit.specs.Words.{W32, W64, Instr, chosen, is_signed, spelled, sizes, temporary_at, fetched, fetch, distance, compare_zero, test_code, keep_register, arguments_code, passing_code, parameter_code, parameters_code, Links, template, template_size, body_size, code_from, IsInstructionNear, IsNear, instruction_room, code_room, slot_room, label_list, Instruction, Layout, Slot, Local, Temporary, Rax, Rsp}
+use Rattle.x64_emit.specs.Words.{W32, W64, Instr, chosen, is_signed, spelled, sizes, temporary_at, fetched, fetch, distance, compare_zero, test_code, keep_register, arguments_code, passing_code, parameter_code, parameters_code, Links, template, template_size, body_size, code_from, IsInstructionNear, IsNear, instruction_room, code_room, slot_room, labels_from, Instruction, Layout, Slot, Local, Temporary, Rax, Rsp}
 use Rattle.x64_emit.proofs.Rooms.{template_in_room}
 use Rattle.linear_code.specs.declared.instruction.Instruction.TheVariants as instructions
 use Rattle.c_operations.specs.declared.operation.Operation.TheVariants as operations
@@ -133,10 +133,10 @@ code_room_next i body d lt = ap code_room (drop-cons body i d lt)
     ∙ ap (λ (n : ℕ). instruction_room (get_or body i d) + code_room (drop n body)) (after i)
 
 pub labels_next : (y : Layout) (at i : ℕ) (body : List Instruction) (d : Instruction)
-    → i < length body → label_list y at (drop i body)
-    ≡ at ∷ label_list y (at + template_size y (get_or body i d)) (drop (i + 1) body)
-labels_next y at i body d lt = ap (label_list y at) (drop-cons body i d lt)
-    ∙ ap (λ (n : ℕ). at ∷ label_list y (at + template_size y (get_or body i d)) (drop n body))
+    → i < length body → labels_from y at (drop i body)
+    ≡ at ∷ labels_from y (at + template_size y (get_or body i d)) (drop (i + 1) body)
+labels_next y at i body d lt = ap (labels_from y at) (drop-cons body i d lt)
+    ∙ ap (λ (n : ℕ). at ∷ labels_from y (at + template_size y (get_or body i d)) (drop n body))
     (after i)
 
 pub size_next : (y : Layout) (i : ℕ) (body : List Instruction) (d : Instruction) → i < length body

@@ -19,7 +19,7 @@ pub use Rattle.template_code.specs.Slots.{temporary_at, fetched, fetch, fetch_if
 pub use Rattle.template_code.specs.Template.{Links, template, body_size, code_from}
 unfoldable pub use Rattle.template_code.specs.Template.{template_size}
 pub use Rattle.template_code.specs.declared.layout.Layout.{Layout}
-pub use Rattle.x64_emit.specs.Bodies.{label_list}
+pub use Rattle.x64_emit.specs.Bodies.{label_list, labels_from, part_ranges}
 pub use Rattle.x64_emit.specs.Linking.{links_of}
 pub use Rattle.x64_emit.specs.Near.{IsInstructionNear, IsNear}
 pub use Rattle.x64_emit.specs.Rooms.{instruction_room, code_room, slot_room}

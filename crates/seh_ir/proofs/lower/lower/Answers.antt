@@ -19,8 +19,8 @@ loop-f-preserved c =
       functions_next items i x (linear_function c.in_ok-function.function)
           (map linear_function c.loop-f.functions.items) (map linear_function c.push.new.self.items)
           lt is c.loop-f.invariant.1 c.in_ok-function.ensures
-          (mapped c.loop-f.functions.items c.push.new.self.items c.in_ok-function.function
-          c.in_ok-push.ensures.items),
+          (mapped linear_function c.loop-f.functions.items c.push.new.self.items
+          c.in_ok-function.function c.in_ok-push.ensures.items),
       all_next items i c.loop-f.number x (map linear_funclet c.loop-f.funclets.items)
           (map linear_funclet c.lower_funclets.new.funclets.items) lt is at c.loop-f.invariant.2
           c.in_ok-lower_funclets.ensures,

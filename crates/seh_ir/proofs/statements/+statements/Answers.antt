@@ -116,23 +116,24 @@ statement-returns-in-None t c =
     ))
     c.when.ensures
 
-pub statement-returns-in_ok-skip-in-Some : goal.statement-returns-in_ok-skip-in-Some
-statement-returns-in_ok-skip-in-Some t c =
+pub statement-returns-in_ok-statement-in-Some : goal.statement-returns-in_ok-statement-in-Some
+statement-returns-in_ok-statement-in-Some t c =
     let s = tree.statement c.in-If.then.value in
     let other = tree.statement c.in-Some.other.value in
     let is = made.if_some c.in-If.condition c.in-If.then
     c.in-If.otherwise c.in-Some.other c.args.stmt.now c.in-If.is c.in-Some.is in
-    on_ok_weaker c.statement.result
+    on_ok_weaker c.skip-in-Some.result
     (λ h rest p.
     let last = with_parts other rest in
     let more = c.next_size-more.ensures.last (part s last) (statement_size other)
     (p ∙ ap (λ s. with_parts s rest) is) in
     let first = (rw c.deref-in-Some.ensures at c.in_ok-when-in-Some.ensures) last more.1 in
-    let second = (rw c.deref-in-Some-2.ensures at h) rest first.1 in (
-      if_else_is _ _ _ _ _ _ _ _ _ _ is more.0 first.0 c.in_ok-skip-in-Some.ensures second.0,
+    let second = (rw c.deref-in-Some-2.ensures at c.in_ok-statement-in-Some.ensures) rest first.1
+    in (
+      if_else_is _ _ _ _ _ _ _ _ _ _ _ is more.0 first.0 c.in_ok-skip-in-Some.ensures second.0 h,
       second.1,
     ))
-    c.statement.ensures
+    c.skip-in-Some.ensures
 
 pub other_statement-returns-in_ok-tried-in-TryExcept :
     goal.other_statement-returns-in_ok-tried-in-TryExcept

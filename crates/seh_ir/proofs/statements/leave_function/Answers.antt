@@ -6,7 +6,7 @@ use Rattle.seh_ir.proofs.statements.leave_function.Goals as goal
 
 pub returns : goal.returns
 returns c =
-    on_ok_weaker c.end_return.result
+    on_ok_weaker c.jump.result
     (λ h. return_is c.args.scope.now (option_map expression c.args.expr.now) c.args.code.now.items _
     _ c.in_ok-returned.ensures h)
-    c.end_return.ensures
+    c.jump.ensures

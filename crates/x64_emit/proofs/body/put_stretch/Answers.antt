@@ -1,13 +1,13 @@
 use Rattle.std.proofs.Common.{◌≡◌, ℕ, ◌+◌, ◌-◌, ◌++◌, get_or, drop, ap, ◌∙◌, arith}
 use Rattle.x64_emit.specs.Words.{template, template_size, code_from, links_of, IsInstructionNear}
-use Rattle.x64_emit.proofs.Nearby.{stepped, some_instruction, all_at, instruction_in_room, code_room_next, grown_template, body_next}
-use Rattle.x64_emit.proofs.body.put_body.Goals as goal
+use Rattle.x64_emit.proofs.Nearby.{stepped, some_instruction, all_at, instruction_in_room, code_room_next, size_next, grown_template, body_next}
+use Rattle.x64_emit.proofs.body.put_stretch.Goals as goal
 
 pub loop-instruction-preserved : goal.loop-instruction-preserved
 loop-instruction-preserved c =
     let y = c.args.layout.now in
     let k = links_of c.args.links.now in
-    let body = c.args.body.now in
+    let body = c.args.stretch.now in
     let i = c.loop-instruction.instruction-index in
     let at = c.loop-instruction.at in
     let x = get_or body i some_instruction in
@@ -27,5 +27,7 @@ loop-instruction-preserved c =
           c.in_ok-put_instruction.ensures (body_next k y at i body some_instruction lt
           ∙ ap (λ (n : ℕ). template k y at x ++ code_from k y n (drop (i + 1) body)) there)
           c.loop-instruction.invariant.code;
+      end = (let s = size_next y i body some_instruction lt in
+          let e = c.loop-instruction.invariant.end in omega arith);
       room = omega arith;
     }
