@@ -4,9 +4,11 @@ use crate::calls::{answer, answers, compiled, words_of};
 use crate::inputs::all_answer;
 use std::alloc::{AllocError, Global};
 
-/// The image of a text, which has one entry, and an image without a function table.
+/// The image of a text, which has one entry, one with a chained entry, and an image without a
+/// function table.
 const YES: &str = r"
 check | compiled int main(void){ put(2+3*4); return 7; } | 0 yes 1
+check | compiled int g(int n){ if (n) put(1); else { put(2); *(int*)0 = 1; } return 0; } int main(void){ __try{ g(0); } __except(1){ put(3); } return 0; } | 0 yes 3
 check | fourteen | 0 yes 0
 ";
 

@@ -3,7 +3,9 @@
 use crate::calls::{Shown, answer, compiled, words_of};
 use crate::ways::{COMPILED, MEANING, TEXT, WAYS, all_show};
 use std::process::Abort;
-use test_texts::{binary, depths, examples, handlers, many_locals, refused, texts, unary, walks};
+use test_texts::{
+    binary, cold_parts, depths, examples, handlers, many_locals, refused, texts, unary, walks,
+};
 
 /// Expressions, calls and loops show what they mean, and a recursion returns as often as it called.
 #[test]
@@ -93,6 +95,12 @@ fn many_locals(rt: HostRuntime) {
     all_show(&rt, rt.alloc(), &WAYS, &TEXT, many_locals::FRAMES);
     let largest = [many_locals::LARGEST];
     all_show(&rt, rt.alloc(), &WAYS, &largest, many_locals::LARGEST_SHOWN);
+}
+
+/// An `else` branch that holds a call stands apart, and does what it means.
+#[test]
+fn cold_parts(rt: HostRuntime) {
+    all_show(&rt, rt.alloc(), &WAYS, &TEXT, cold_parts::COLD);
 }
 
 /// Each program shows what is beside it.

@@ -107,6 +107,32 @@ fn largest_frame(rt: HostRuntime) {
     assert!(rt; shown.contains(" save r15 524384\n"), "{shown}");
 }
 
+/// A function with a cold part: two functions and a chained entry, which comes last.
+const COLD: &str =
+    "int g(int n){ if (n) put(1); else { put(2); *(int*)0 = 1; } return 0; } int main(void){ __try{ g(0); } __except(1){ put(3); } return 0; }";
+
+/// An `else` branch that holds a call has a chained entry. One that holds none has none, nor one
+/// that holds a `__try` or stands in one.
+#[test]
+fn chained_entries(rt: HostRuntime) {
+    let view = view_of(&rt, rt.alloc(), COLD);
+    let shown = str::from_utf8(&view).unwrap_or("");
+    let mut chained = shown.lines().filter(|line| line.starts_with(" chain"));
+    assert!(rt;
+        chained.next().is_some() && chained.next().is_none(),
+        "{shown}"
+    );
+    assert!(rt; shown.ends_with("\nentries 3\n"), "{shown}");
+    for text in [
+        "int main(void){ int x = 1; if (x) put(1); else x = 2; return x; }",
+        "int main(void){ __try{ if (1) put(1); else put(2); } __except(1){ } return 0; }",
+        "int main(void){ if (1) put(1); else { put(2); __try{ put(3); } __except(1){ } } return 0; }",
+    ] {
+        let view = view_of(&rt, rt.alloc(), text);
+        assert!(rt; view.ends_with(b"\nentries 1\n"), "{text}");
+    }
+}
+
 /// A leaf function has no entry in the function table: `main` alone has one.
 #[test]
 fn leaf_functions(rt: HostRuntime) {

@@ -112,6 +112,24 @@ entry 2 00002038 00002040 00003000
  bytes 01000000
  info prolog 0 flags 0 frame - 0
 entries 3
+# part with the name of its function
+info 01
+table 00200000 20200000 00300000
+table 20200000 30200000 00300000
+names 02000000
+names 00200000 20200000 01000000 24500000
+names 20200000 30200000 01000000 28500000
+names 6D61696E 00
+shows
+entry 0 00002000 00002020 00003000
+ bytes 01000000
+ info prolog 0 flags 0 frame - 0
+ name main
+entry 1 00002020 00002030 00003000
+ bytes 01000000
+ info prolog 0 flags 0 frame - 0
+ name main
+entries 2
 # refused entry with a name
 info 02
 table 00200000 20200000 00300000

@@ -10,6 +10,7 @@
 #![tactic(auto)]
 
 pub mod binary;
+pub mod cold_parts;
 pub mod depths;
 pub mod examples;
 pub mod handlers;
