@@ -1,6 +1,6 @@
 -- The rules as a test on what is decoded: an unwind info, the instructions of its prologue, and
--- those after it up to the entry's end. Decode is that these instructions are there, and Chain
--- that the info has no parent.
+-- those after it up to the entry's end, for an entry that isn't chained. Decode is that these
+-- instructions are there.
 use Rattle.std.specs.Prelude.{ℕ, ◌+◌, ◌^◌, Bool, true, false, not, ◌==◌, ◌&&◌, ◌||◌, nat_lt, List, [], ◌∷◌, Option, Some, None}
 use Rattle.eh_tables.specs.declared.code.UnwindCode.{UnwindCode}
 use Rattle.eh_tables.specs.Infos.{Info}
