@@ -2,13 +2,15 @@
 use Rattle.std.proofs.Common.{◌≡◌, ℕ, ◌+◌, ◌<◌, List, [], ◌∷◌, ◌++◌, map, length, drop, get_or, append-nil, append_assoc, Option, refl, sym, ap, ◌∙◌, subst}
 use Rattle.std.proofs.lemmas.List.{map-append}
 use Rattle.c_checked.proofs.Items.{next_of}
-use Rattle.c_check.specs.Words.{SymbolTable, names_around, scopes_of, with_block, opened, closed, Progress, sizes_of, function, least_of, kept, FaultAt, with_parameters, parameter_faults, result_size, around, function_of, functions_of, Scope, spelled, Numbering, resolve_statements, Parameter, CType, Identifier, ExternalDeclaration, Globals, Function, external_declaration}
+use Rattle.c_check.specs.Words.{SymbolTable, names_around, scopes_of, with_block, opened, closed, Progress, sizes_of, function, least_of, kept, FaultAt, with_parameters, parameter_faults, result_size, around, function_of, functions_of, Scope, spelled, Numbering, resolve_statements, Parameter, CType, Identifier, ExternalDeclaration, Globals, Function, external_declaration, variables_of}
 use Rattle.c_check.specs.Functions.{AddsFunctions}
 use Rattle.c_checked.specs.declared.function.Function.{Function as Function'}
 use Rattle.c_checked.specs.Program as checked_program
 use Rattle.c_checked.specs.Statement as checked
 use Rattle.c_check.proofs.Lemmas.{kept_append, kept_more}
 use Rattle.c_resolved.specs.Program as definitions
+use Rattle.c_resolved.specs.Layout.{layout_of, base_local, data_frame_of}
+use Rattle.c_resolved.specs.Placed.{place_statements}
 use Rattle.c_locals.specs.declared.environment.Walk.{Walk}
 use Rattle.c_locals.specs.WalkResults.{Resolves}
 use Rattle.c_locals.specs.Views.{numbering}
@@ -17,51 +19,56 @@ use Rattle.c_syntax.specs.Statement.{Statements}
 
 -- ---- a function
 
+-- what these numbers and statements are as a function
+abbrev pub placed_function : List ℕ → List Parameter → CType → Numbering → List checked.Statement
+    → checked_program.Function
+placed_function name ps t counts done =
+    let layout = layout_of counts.variables (checked.statements done) in
+    record {
+      name = name;
+      parameters = sizes_of ps;
+      locals = drop (length ps) counts.sizes ++ base_local layout;
+      data_frame = data_frame_of (length ps) layout;
+      returns = result_size t;
+      body = place_statements layout (checked.statements done);
+    }
+
 -- what is made of a function's parts, with the walk over its body
 function_added : (before after : Progress) (text : List ℕ) (file : Scope) (t : CType)
     (n : Identifier) (ps : List Parameter) (body : Statements) (block : Scope)
     (was names : SymbolTable) (walk walk' : Walk) (done : List checked.Statement)
     (made : Function')
     → block ≡ with_parameters text ps [] 0 → walk.sizes.items ≡ sizes_of ps
+    → walk.variables.items ≡ variables_of ps
     → walk.number ≡ before.number → least_of walk.worst
     ≡ kept (least_of before.worst) (parameter_faults text ps [])
     → Resolves was names walk walk' done (resolve_statements body (around text file t) block
     (numbering walk))
-    → function made ≡ record {
-      name = spelled text n;
-      parameters = sizes_of ps;
-      locals = drop (length ps) walk'.sizes.items;
-      returns = result_size t;
-      body = checked.statements done;
-    }
+    → function made ≡ placed_function (spelled text n) ps t (numbering walk') done
     → after.done.items ≡ before.done.items ++ made ∷ [] → after.number ≡ walk'.number
     → after.worst ≡ walk'.worst
     → AddsFunctions before after (function_of text file t n ps body before.number)
 function_added before after text file t n ps body block was names walk walk' done made is sizes
-    number parameters resolves is_made pushed next worst =
-    let start : Numbering = record { sizes = sizes_of ps; number = before.number } in
-    let begun : numbering walk ≡ start = λ i. record { sizes = sizes i; number = number i } in
+    variables number parameters resolves is_made pushed next worst =
+    let start : Numbering = record {
+      sizes = sizes_of ps;
+      variables = variables_of ps;
+      number = before.number;
+    } in
+    let begun : numbering walk ≡ start = λ i. record {
+      sizes = sizes i;
+      variables = variables i;
+      number = number i;
+    } in
     let m = resolve_statements body (around text file t) (with_parameters text ps [] 0) start in
     let r : Resolves was names walk walk' done m =
     subst (λ b. Resolves was names walk walk' done
     (resolve_statements body (around text file t) b start)) is
     (subst (λ k. Resolves was names walk walk' done
     (resolve_statements body (around text file t) block k)) begun resolves) in
-    let whole : checked_program.Function = record {
-      name = spelled text n;
-      parameters = sizes_of ps;
-      locals = drop (length ps) m.counts.sizes;
-      returns = result_size t;
-      body = checked.statements m.done;
-    } in
+    let whole = placed_function (spelled text n) ps t m.counts m.done in
     let same : function made ≡ whole = is_made
-    ∙ (λ i. record {
-      name = spelled text n;
-      parameters = sizes_of ps;
-      locals = drop (length ps) (r.counts i).sizes;
-      returns = result_size t;
-      body = checked.statements (r.done i);
-    }) in
+    ∙ (λ i. placed_function (spelled text n) ps t (r.counts i) (r.done i)) in
     record {
       done = ap (map function) pushed ∙ map-append function before.done.items (made ∷ [])
           ∙ ap (λ f. map function before.done.items ++ f ∷ []) same;
@@ -75,24 +82,19 @@ pub function_inside : (before after : Progress) (text : List ℕ) (start was nam
     (t : CType) (n : Identifier) (ps : List Parameter) (body : Statements) (walk walk' : Walk)
     (done : List checked.Statement) (made : Function')
     → was ≡ with_block (opened start) (with_parameters text ps [] 0)
-    → walk.sizes.items ≡ sizes_of ps → walk.number ≡ before.number → least_of walk.worst
+    → walk.sizes.items ≡ sizes_of ps → walk.variables.items ≡ variables_of ps
+    → walk.number ≡ before.number → least_of walk.worst
     ≡ kept (least_of before.worst) (parameter_faults text ps [])
     → Resolves was names walk walk' done (resolve_statements body
     (around text (names_around was.around) t) was.block (numbering walk))
-    → function made ≡ record {
-      name = spelled text n;
-      parameters = sizes_of ps;
-      locals = drop (length ps) walk'.sizes.items;
-      returns = result_size t;
-      body = checked.statements done;
-    }
+    → function made ≡ placed_function (spelled text n) ps t (numbering walk') done
     → after.done.items ≡ before.done.items ++ made ∷ [] → after.number ≡ walk'.number
     → after.worst ≡ walk'.worst
     → AddsFunctions before after (function_of text (scopes_of start) t n ps body before.number)
 function_inside before after text start was names t n ps body walk walk' done made begins sizes
-    number parameters resolves is_made pushed next worst =
+    variables number parameters resolves is_made pushed next worst =
     function_added before after text (scopes_of start) t n ps body (with_parameters text ps [] 0)
-    was names walk walk' done made refl sizes number parameters
+    was names walk walk' done made refl sizes variables number parameters
     (subst (λ (k : SymbolTable). Resolves was names walk walk' done (resolve_statements body
     (around text (names_around k.around) t) k.block (numbering walk))) begins resolves) is_made
     pushed next worst

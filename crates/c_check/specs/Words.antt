@@ -13,5 +13,5 @@ pub use Rattle.c_resolved.specs.declared.fault.Fault.TheVariants.{Duplicate, Typ
 pub use Rattle.c_expressions.specs.Kept.{least_of, kept, broken, kept_one}
 pub use Rattle.c_expressions.specs.SymbolTables.{SymbolTable, names_around, scopes_of, opened, closed, with_block}
 pub use Rattle.c_locals.specs.Files.{IsFile}
-pub use Rattle.c_check.specs.Parameters.{sizes_of, faults_of_parameter}
+pub use Rattle.c_check.specs.Parameters.{sizes_of, variables_of, faults_of_parameter}
 pub use Rattle.c_check.specs.declared.functions.Progress.{Progress}

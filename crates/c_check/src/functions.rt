@@ -16,6 +16,7 @@ use c_expressions::scopes::spelled;
 use c_expressions::symbol_table::SymbolTable;
 use c_locals::environment::Walk;
 use c_operations::operation::Size;
+use c_stacked::functions::place;
 use c_statements::statements;
 use c_syntax::declaration::{ExternalDeclaration, Parameter};
 use c_syntax::expression::{CType, Identifier};
@@ -74,6 +75,7 @@ fn function<'t>(
     parameters::declare_all(text, names, &mut progress.worst, list)?;
     let mut walk = Walk {
         sizes: parameters::sizes_of(alloc, list)?,
+        variables: parameters::variables_of(alloc, list)?,
         number: progress.number,
         worst: progress.worst,
     };
@@ -81,12 +83,15 @@ fn function<'t>(
     names.close();
     progress.number = walk.number;
     progress.worst = walk.worst;
+    let locals = rest_of(alloc, &walk.sizes, list.len())?;
+    let placed = place(alloc, list.len(), locals, walk.variables, made)?;
     progress.done.push(Function {
         name: Vec::from_slice(alloc, spelled(text, name))?,
         parameters: parameters::sizes_of(alloc, list)?,
-        locals: rest_of(alloc, &walk.sizes, list.len())?,
+        locals: placed.locals,
+        data_frame: placed.data_frame,
         returns: result_size(returns),
-        body: made,
+        body: placed.body,
     })?;
     Ok(())
 }

@@ -2,7 +2,7 @@
 //! and 6.9.1).
 
 ghost use Rattle.std.specs.Prelude.{◌≡◌, [], IfOk, OnOk};
-ghost use Rattle.c_check.specs.Parameters.{faults_of_parameter, sizes_of};
+ghost use Rattle.c_check.specs.Parameters.{faults_of_parameter, sizes_of, variables_of};
 ghost use Rattle.c_expressions.specs.Kept.{AddsFaults};
 ghost use Rattle.c_expressions.specs.SymbolTables.{with_block};
 ghost use Rattle.c_resolved.specs.Expressions.{LocalVariable};
@@ -16,6 +16,7 @@ use c_expressions::symbol_table::SymbolTable;
 use c_expressions::values::unless_holds;
 use c_operations::operation::Size;
 use c_resolved::fault::Fault;
+use c_resolved::variable::Variable;
 use c_syntax::declaration::Parameter;
 use c_types::types::{is_scalar, size_of};
 use std::alloc::{AllocError, Global};
@@ -29,6 +30,20 @@ pub fn sizes_of(alloc: Global, list: &[Parameter]) -> Result<Vec<Size>, AllocErr
         sizes.push(size_of(parameter.of))?;
     }
     Ok(sizes)
+}
+
+/// Parameters as variables of their function.
+pub fn variables_of(alloc: Global, list: &[Parameter]) -> Result<Vec<Variable>, AllocError>
+    ensures { IfOk result (λ vs. vs.items ≡ variables_of list.now) }
+{
+    let mut variables = Vec::new(alloc);
+    for parameter in list {
+        variables.push(Variable {
+            of: parameter.of,
+            elements: None,
+        })?;
+    }
+    Ok(variables)
 }
 
 /// A parameter of this number: no second one of its name, and an integer or a pointer.

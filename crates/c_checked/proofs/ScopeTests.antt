@@ -1,8 +1,11 @@
 -- Tests of several parts, and locals that are seen.
 use Rattle.std.proofs.Common.{◌≡◌, ◌⊎◌, inl, inr, ℕ, refl, ◌<◌}
 use Rattle.std.proofs.lemmas.Bool.{eqb-true, eq-eqb, ltb-true}
-use Rattle.std.specs.Prelude.{Bool, true, false, ◌&&◌, ◌||◌, nat_eq}
-use Rattle.c_checked.specs.LocalScopes.{SeenNames, with_local, IsPart, first_seen}
+use Rattle.std.specs.Prelude.{Bool, true, false, ◌&&◌, ◌||◌, nat_eq, nat_lt, Option, Some, None}
+use Rattle.c_checked.specs.declared.statement.StackedVariable.{StackedVariable}
+use Rattle.c_checked.specs.Statement.{Declared}
+use Rattle.c_checked.specs.Program.{DataFrame}
+use Rattle.c_checked.specs.LocalScopes.{SeenNames, with_local, IsPart, first_seen, is_base, with_declared, after_declared}
 
 pub both_left : (a b : Bool) → (a && b) ≡ true → a ≡ true
 both_left true b h = refl
@@ -41,9 +44,40 @@ sees_own seen x = or_left (nat_eq x x) (seen x) (eq-eqb x x refl)
 pub sees_before : (seen : SeenNames) (x : ℕ) → IsPart seen (with_local x seen)
 sees_before seen x y h = or_right (nat_eq y x) (seen y) h
 
--- a parameter
-pub is_parameter : (parameters x : ℕ) → first_seen parameters x ≡ true → x < parameters
-is_parameter parameters x h = ltb-true x parameters h
+-- a parameter, or the base
+pub is_first : (parameters : ℕ) (frame : Option DataFrame) (x : ℕ)
+    → first_seen parameters frame x ≡ true → (x < parameters) ⊎ (is_base frame x ≡ true)
+is_first parameters frame x h = of (either (nat_lt x parameters) (is_base frame x) h)
+  where
+    of : (nat_lt x parameters ≡ true) ⊎ (is_base frame x ≡ true)
+        → (x < parameters) ⊎ (is_base frame x ≡ true)
+    of (inl e) = inl (ltb-true x parameters e)
+    of (inr e) = inr e
+
+-- without a part of the data stack, a parameter
+pub is_parameter : (parameters x : ℕ) → first_seen parameters None x ≡ true → x < parameters
+is_parameter parameters x h = of (is_first parameters None x h)
+  where
+    of : (x < parameters) ⊎ (is_base None x ≡ true) → x < parameters
+    of (inl lt) = lt
+    of (inr e) = absurd (cc)
+
+-- what a declaration makes seen: its own local, or a variable on the data stack nothing
+pub after_cases : (seen : SeenNames) (d : Declared) (y : ℕ) → after_declared seen d y ≡ true
+    → (y ≡ d.local) ⊎ (seen y ≡ true)
+after_cases seen d y h = of d.stacked h
+  where
+    of : (v : Option StackedVariable) → with_declared v d.local seen y ≡ true
+        → (y ≡ d.local) ⊎ (seen y ≡ true)
+    of None h = seen_cases seen d.local y h
+    of (Some v) h = inr h
+
+pub after_before : (seen : SeenNames) (d : Declared) → IsPart seen (after_declared seen d)
+after_before seen d y h = of d.stacked
+  where
+    of : (v : Option StackedVariable) → with_declared v d.local seen y ≡ true
+    of None = sees_before seen d.local y h
+    of (Some v) = h
 
 pub itself : (a : SeenNames) → IsPart a a
 itself a x h = h
@@ -57,3 +91,12 @@ part_with a b x h y k = of (either (nat_eq y x) (a y) k)
     of : (nat_eq y x ≡ true) ⊎ (a y ≡ true) → with_local x b y ≡ true
     of (inl e) = or_left (nat_eq y x) (b y) e
     of (inr e) = or_right (nat_eq y x) (b y) (h y e)
+
+pub part_after : (a b : SeenNames) (d : Declared) → IsPart a b
+    → IsPart (after_declared a d) (after_declared b d)
+part_after a b d h y k = of d.stacked k
+  where
+    of : (v : Option StackedVariable) → with_declared v d.local a y ≡ true
+        → with_declared v d.local b y ≡ true
+    of None k = part_with a b d.local h y k
+    of (Some v) k = h y k

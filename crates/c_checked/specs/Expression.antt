@@ -21,6 +21,7 @@ mutual
 
   pub data Node : Type 0 where
     Constant : Size → ℕ → Node
+    StackedArray : (base offset : ℕ) → Node
     Read : Lvalue → Node
     AddressOf : Lvalue → Node
     Assign : Lvalue → Expression → Node
@@ -43,6 +44,7 @@ mutual
   pub data Lvalue : Type 0 where
     Local : ℕ → Lvalue
     Global : Access → ℕ → Lvalue
+    Stacked : Access → (base offset : ℕ) → Lvalue
     Indirection : Access → Expression → Lvalue
     Element : Access → Expression → Expression → Lvalue
 
@@ -58,6 +60,7 @@ arguments (e ∷ es) = Next e (arguments es)
 
 abbrev pub node_layer : opened.Node-F Lvalue Node Expression → Node
 node_layer (opened.Constant z n) = Constant z n
+node_layer (opened.StackedArray base offset) = StackedArray base offset
 node_layer (opened.Read p) = Read p
 node_layer (opened.AddressOf p) = AddressOf p
 node_layer (opened.Assign p e) = Assign p e.value
@@ -80,6 +83,7 @@ node_layer opened.AbnormalTermination = AbnormalTermination
 abbrev pub lvalue_layer : opened.Lvalue-F Lvalue Node Expression → Lvalue
 lvalue_layer (opened.Local x) = Local x
 lvalue_layer (opened.Global access a) = Global access a
+lvalue_layer (opened.Stacked access base offset) = Stacked access base offset
 lvalue_layer (opened.Indirection access e) = Indirection access e.value
 lvalue_layer (opened.Element access a i) = Element access a.value i.value
 

@@ -1,10 +1,11 @@
 -- Each local that a part of a program names is a parameter, or was declared before, in a block
 -- around the part.
-use Rattle.std.specs.Prelude.{◌≡◌, ℕ, Bool, true, ◌&&◌, ◌||◌, nat_eq, nat_lt, List, [], ◌∷◌, length, Option, Some, None}
+use Rattle.std.specs.Prelude.{◌≡◌, ℕ, Bool, true, false, ◌&&◌, ◌||◌, nat_eq, nat_lt, List, [], ◌∷◌, length, Option, Some, None}
 use Rattle.c_checked.specs.Expression as nodes
-use Rattle.c_checked.specs.Expression.{Expression, On, Node, Lvalue, Local, Global, Indirection, Element, Arguments, Done, Next}
+use Rattle.c_checked.specs.Expression.{Expression, On, Node, Lvalue, Local, Global, Stacked, Indirection, Element, Arguments, Done, Next}
 use Rattle.c_checked.specs.Statement.{Declared, Filter, Always, Funclet, Statement, Declare, Block, Evaluate, If, IfElse, For, DoWhile, Return, Break, Continue, Leave, TryExcept, TryFinally, Statements, Empty, Then}
-use Rattle.c_checked.specs.Program.{Program, Function}
+use Rattle.c_checked.specs.Program.{DataFrame, Program, Function}
+use Rattle.c_checked.specs.declared.statement.StackedVariable.{StackedVariable}
 
 -- the locals that are declared so far
 abbrev pub SeenNames : Type 0
@@ -17,9 +18,13 @@ with_local x seen y = nat_eq y x || seen y
 abbrev pub IsPart : SeenNames → SeenNames → Type 0
 IsPart a b = (x : ℕ) → a x ≡ true → b x ≡ true
 
--- a function's parameters are its first locals
-abbrev pub first_seen : ℕ → SeenNames
-first_seen parameters x = nat_lt x parameters
+-- a function's parameters are its first locals; its base is there from its beginning on
+abbrev pub is_base : Option DataFrame → SeenNames
+is_base None x = false
+is_base (Some d) x = nat_eq x d.base
+
+abbrev pub first_seen : ℕ → Option DataFrame → SeenNames
+first_seen parameters frame x = nat_lt x parameters || is_base frame x
 
 -- ---- expressions
 
@@ -29,6 +34,7 @@ abbrev mutual
 
   pub node_within : SeenNames → Node → Bool
   node_within seen (nodes.Constant z n) = true
+  node_within seen (nodes.StackedArray base offset) = seen base
   node_within seen (nodes.Read p) = lvalue_within seen p
   node_within seen (nodes.AddressOf p) = lvalue_within seen p
   node_within seen (nodes.Assign p e) = lvalue_within seen p && expression_within seen e
@@ -54,6 +60,7 @@ abbrev mutual
   pub lvalue_within : SeenNames → Lvalue → Bool
   lvalue_within seen (Local x) = seen x
   lvalue_within seen (Global access a) = true
+  lvalue_within seen (Stacked access base offset) = seen base
   lvalue_within seen (Indirection access e) = expression_within seen e
   lvalue_within seen (Element access e i) = expression_within seen e && expression_within seen i
 
@@ -65,13 +72,24 @@ abbrev pub optional_within : SeenNames → Option Expression → Bool
 optional_within seen None = true
 optional_within seen (Some e) = expression_within seen e
 
--- ---- declarations: a name is seen in its own initialiser
+-- ---- declarations: a name is seen in its own initialiser; the local of a variable on the data
+-- stack isn't used
+
+abbrev pub with_declared : Option StackedVariable → ℕ → SeenNames → SeenNames
+with_declared None x seen = with_local x seen
+with_declared (Some v) x seen = seen
 
 abbrev pub after_declared : SeenNames → Declared → SeenNames
-after_declared seen d = with_local d.local seen
+after_declared seen d = with_declared d.stacked d.local seen
+
+-- a variable on the data stack stands above the base
+abbrev pub stacked_within : SeenNames → Option StackedVariable → Bool
+stacked_within seen None = true
+stacked_within seen (Some v) = seen v.base
 
 abbrev pub declared_within : SeenNames → Declared → Bool
-declared_within seen d = optional_within (after_declared seen d) d.value
+declared_within seen d =
+    stacked_within seen d.stacked && optional_within (after_declared seen d) d.value
 
 abbrev pub after_all_declared : SeenNames → List Declared → SeenNames
 after_all_declared seen [] = seen
@@ -122,7 +140,7 @@ abbrev mutual
 -- ---- programs
 
 abbrev pub function_within : Function → Bool
-function_within f = statements_within (first_seen (length f.parameters)) f.body
+function_within f = statements_within (first_seen (length f.parameters) f.data_frame) f.body
 
 abbrev pub functions_within : List Function → Bool
 functions_within [] = true

@@ -1,7 +1,7 @@
 -- What holds of an accepted program beside its shape: numbers name what is there, each operand has
 -- the size that its operator takes, jumps and the names of exceptions are where they mean
 -- something, filters and `__finally` blocks are numbered in their order.
-use Rattle.std.specs.Prelude.{◌≡◌, ℕ, ◌+◌, ◌^◌, Bool, true, false, ◌&&◌, ◌||◌, nat_lt, nat_le}
+use Rattle.std.specs.Prelude.{◌≡◌, ℕ, ◌+◌, ◌-◌, ◌^◌, Bool, true, false, ◌&&◌, ◌||◌, nat_lt, nat_le}
 use Rattle.std.specs.Prelude.{nat_eq, if◌then◌else◌, List, [], ◌∷◌, ◌++◌, length, slice_get, Option}
 use Rattle.std.specs.Prelude.{Some, None}
 use Rattle.seh_num.specs.declared.width.Width.{Width}
@@ -21,12 +21,15 @@ use Rattle.c_checked.specs.declared.expression.Conversion.TheVariants.{Kept, Ext
 use Rattle.c_operations.specs.declared.built_in.BuiltIn.{BuiltIn}
 use Rattle.c_operations.specs.declared.built_in.BuiltIn.TheVariants.{Put, Protect, RaiseException, Walk}
 use Rattle.c_checked.specs.Expression as nodes
-use Rattle.c_checked.specs.Expression.{Expression, On, Node, Lvalue, Local, Global, Indirection}
+use Rattle.c_checked.specs.Expression.{Expression, On, Node, Lvalue, Local, Global, Stacked}
+use Rattle.c_checked.specs.Expression.{Indirection}
 use Rattle.c_checked.specs.Expression.{Element, Arguments, Done, Next}
 use Rattle.c_checked.specs.Statement.{Declared, Filter, Always, Funclet, Statement, Declare, Block}
 use Rattle.c_checked.specs.Statement.{Evaluate, If, IfElse, For, DoWhile, Return, Break, Continue}
 use Rattle.c_checked.specs.Statement.{Leave, TryExcept, TryFinally, Statements, Empty, Then}
-use Rattle.c_checked.specs.Program.{Program, Function}
+use Rattle.c_checked.specs.Program.{DataFrame, Program, Function, declared_locals}
+use Rattle.c_checked.specs.declared.function.StackedParameter.{StackedParameter}
+use Rattle.c_checked.specs.declared.statement.StackedVariable.{StackedVariable}
 
 -- what is around a part of a program: the functions; the sizes of the function's parameters and
 -- locals; whether GetExceptionCode, GetExceptionInformation and AbnormalTermination mean something
@@ -153,6 +156,7 @@ result_size (Some f) = f.returns
 abbrev pub lvalue_size : TypingContext → Lvalue → Option Size
 lvalue_size s (Local x) = slice_get s.sizes x
 lvalue_size s (Global access a) = Some (size_in_memory access.width)
+lvalue_size s (Stacked access base offset) = Some (size_in_memory access.width)
 lvalue_size s (Indirection access e) = Some (size_in_memory access.width)
 lvalue_size s (Element access e i) = Some (size_in_memory access.width)
 
@@ -162,6 +166,7 @@ abbrev mutual
 
   pub node_size : TypingContext → Node → Option Size
   node_size s (nodes.Constant z n) = Some z
+  node_size s (nodes.StackedArray base offset) = Some Long
   node_size s (nodes.Read p) = lvalue_size s p
   node_size s (nodes.AddressOf p) = Some Long
   node_size s (nodes.Assign p e) = lvalue_size s p
@@ -210,6 +215,10 @@ change_fits place before o amount after =
     can_convert before place && is_number result && can_convert after result && same_sizes
     (size_after after result) place
 
+-- a local has the size of a base, and above it a place is so many bytes
+abbrev pub place_sound : TypingContext → (base offset : ℕ) → Bool
+place_sound s base offset = is_size Long (slice_get s.sizes base) && nat_lt offset (2 ^ 32)
+
 -- ---- expressions: whether they are sound
 
 abbrev mutual
@@ -218,6 +227,7 @@ abbrev mutual
 
   pub node_sound : TypingContext → Node → Bool
   node_sound s (nodes.Constant z n) = constant_fits z n
+  node_sound s (nodes.StackedArray base offset) = place_sound s base offset
   node_sound s (nodes.Read p) = lvalue_sound s p
   node_sound s (nodes.AddressOf p) = lvalue_sound s p && is_in_memory p
   node_sound s (nodes.Assign p e) =
@@ -257,6 +267,7 @@ abbrev mutual
   pub lvalue_sound : TypingContext → Lvalue → Bool
   lvalue_sound s (Local x) = nat_lt x (length s.sizes)
   lvalue_sound s (Global access a) = nat_lt a (2 ^ 64)
+  lvalue_sound s (Stacked access base offset) = place_sound s base offset
   lvalue_sound s (Indirection access e) = expression_sound s e && is_size Long (expression_size s e)
   lvalue_sound s (Element access e i) =
       expression_sound s e && expression_sound s i && is_size Long
@@ -292,9 +303,21 @@ abbrev pub value_fits : TypingContext → Option Size → Option Expression → 
 value_fits s size None = true
 value_fits s size (Some e) = expression_sound s e && same_sizes (expression_size s e) size
 
+-- an array has no initialiser
+abbrev pub is_array_sound : Option ℕ → Option Expression → Bool
+is_array_sound None value = true
+is_array_sound (Some n) None = nat_lt n (2 ^ 32)
+is_array_sound (Some n) (Some e) = false
+
+abbrev pub stacked_sound : TypingContext → Option StackedVariable → Option Expression → Bool
+stacked_sound s None value = true
+stacked_sound s (Some v) value =
+    place_sound s v.base v.offset && is_array_sound v.elements value
+
 abbrev pub declared_sound : TypingContext → Declared → Bool
 declared_sound s d =
-    nat_lt d.local (length s.sizes) && value_fits s (slice_get s.sizes d.local) d.value
+    nat_lt d.local (length s.sizes) && value_fits s (slice_get s.sizes d.local) d.value &&
+    stacked_sound s d.stacked d.value
 
 abbrev pub all_declared_sound : TypingContext → List Declared → Bool
 all_declared_sound s [] = true
@@ -384,6 +407,20 @@ all_funclets (f ∷ fs) = funclets f.body ++ all_funclets fs
 
 -- ---- programs
 
+-- its parameters on the data stack are among the function's
+abbrev pub parameters_sound : ℕ → List StackedParameter → Bool
+parameters_sound count [] = true
+parameters_sound count (p ∷ ps) =
+    nat_lt p.parameter count && nat_lt p.offset (2 ^ 32) && parameters_sound count ps
+
+-- the base is the last of the locals, and no parameter
+abbrev pub data_sound : (parameters : ℕ) → List Size → Option DataFrame → Bool
+data_sound parameters locals None = true
+data_sound parameters locals (Some d) =
+    nat_lt 0 (length locals) && nat_eq d.base (parameters + (length locals - 1))
+    && is_size Long (slice_get locals (length locals - 1)) && nat_lt d.size (2 ^ 21)
+    && nat_le (length d.parameters) parameters && parameters_sound parameters d.parameters
+
 abbrev pub function_sound : List Function → Function → Bool
 function_sound functions f =
     statements_sound
@@ -400,7 +437,8 @@ function_sound functions f =
       body = false;
       function = true;
     }) f.body
-    && nat_le (length f.parameters) MOST_PARAMETERS && nat_le (length f.locals) MOST_LOCALS
+    && nat_le (length f.parameters) MOST_PARAMETERS && nat_le (declared_locals f) MOST_LOCALS
+    && data_sound (length f.parameters) f.locals f.data_frame
 
 abbrev pub functions_sound : List Function → List Function → Bool
 functions_sound functions [] = true

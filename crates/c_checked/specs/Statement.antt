@@ -1,6 +1,7 @@
 -- Statements, wherever they lie in memory.
 use Rattle.std.specs.Prelude.{ℕ, List, [], ◌∷◌, map, Option, Some, None, option_map}
 use Rattle.c_checked.specs.declared.statement.Declared.{Declared as Declared'}
+use Rattle.c_checked.specs.declared.statement.StackedVariable.{StackedVariable}
 use Rattle.c_checked.specs.declared.statement.Filter.{Filter as Filter'}
 use Rattle.c_checked.specs.declared.statement.Filter.TheVariants as filters
 use Rattle.c_checked.specs.declared.statement.Stmt.{Stmt}
@@ -10,6 +11,7 @@ use Rattle.c_checked.specs.Expression.{Expression, expression}
 
 pub record Declared : Type 0 where
   pub local : ℕ
+  pub stacked : Option StackedVariable
   pub value : Option Expression
 
 pub data Filter : Type 0 where
@@ -46,7 +48,8 @@ statements [] = Empty
 statements (s ∷ ss) = Then s (statements ss)
 
 abbrev pub declared : Declared' → Declared
-declared d = record { local = d.local; value = option_map expression d.value }
+declared d =
+    record { local = d.local; stacked = d.stacked; value = option_map expression d.value }
 
 abbrev pub filter : Filter' → Filter
 filter filters.Always = Always

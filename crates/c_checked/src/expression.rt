@@ -54,6 +54,13 @@ pub enum Lvalue {
         access: Access,
         address: u64,
     },
+    /// A variable on the data stack, by the local that has its function's base, and how many bytes
+    /// it stands above the base.
+    Stacked {
+        access: Access,
+        base: u64,
+        offset: u64,
+    },
     /// `*pointer` (C11, 6.5.3.2)
     Indirection {
         access: Access,
@@ -81,10 +88,17 @@ pub struct Expr {
 #[derive(Drop)]
 #[cycle(tree)]
 pub enum Node {
-    /// A constant, the name of a built-in constant, or the address of an array's first element.
+    /// A constant, the name of a built-in constant, or the address of a global array's first
+    /// element.
     Constant {
         size: Size,
         value: u64,
+    },
+    /// The name of a local array: the address of its first element, so many bytes above what the
+    /// local of this number has.
+    StackedArray {
+        base: u64,
+        offset: u64,
     },
     Read(Lvalue),
     /// `&lvalue` (C11, 6.5.3.2)

@@ -1,12 +1,28 @@
 //! Statements.
 
 use crate::expression::Expr;
+use seh_num::width::Width;
+
+/// Where a variable stands on the data stack.
+#[derive(Clone, Copy)]
+pub struct StackedVariable {
+    /// The local that has its function's base.
+    pub base: u64,
+    /// The width of the variable, or of an element of the array.
+    pub width: Width,
+    /// How many bytes it stands above the base.
+    pub offset: u64,
+    /// How many elements the array has, if it is one.
+    pub elements: Option<u64>,
+}
 
 /// A declared local by its index, with its initialiser (C11, 6.7.9).
 #[derive(Drop)]
 pub struct Declared {
     /// Its index among the function's locals, parameters first.
     pub local: u64,
+    /// Where it stands, if that is the data stack; then its local isn't used.
+    pub stacked: Option<StackedVariable>,
     /// Its initialiser, if it has one.
     pub value: Option<Expr>,
 }

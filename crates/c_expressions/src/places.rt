@@ -2,7 +2,7 @@
 
 ghost use Rattle.std.specs.Prelude.{◌≡◌, IfOk, OnOk, option_map};
 ghost use Rattle.c_resolved.specs.Expressions as definitions;
-ghost use Rattle.c_resolved.specs.Expressions.{is_lvalue, is_addressable};
+ghost use Rattle.c_resolved.specs.Expressions.{is_lvalue};
 ghost use Rattle.c_syntax.specs.Expression.{expression, start};
 ghost use Rattle.c_expressions.specs.Rules.{FindsByRule, Adds, stepping, preceding, assigning_at};
 ghost use Rattle.c_expressions.specs.Rules.{assigning_to};
@@ -37,22 +37,6 @@ fn is_lvalue(context: &Context<'_, '_>, e: &Expr) -> bool
     }
 }
 
-/// Whether an expression is an operand of `&`: a global variable, `*e` or `a[i]`.
-fn is_addressable(context: &Context<'_, '_>, e: &Expr) -> bool
-    ensures { result ≡ is_addressable (names_of context.now) (expression e.now) }
-{
-    match e {
-        Expr::Variable(name) => match named(context, *name) {
-            None | Some(Entity::GlobalVariable { .. }) => true,
-            Some(_) => false,
-        },
-        Expr::Parentheses { inner, .. } => is_addressable(context, inner),
-        Expr::Index { .. } => true,
-        Expr::Unary { operator, .. } => is_indirection(*operator),
-        _ => false,
-    }
-}
-
 fn is_indirection(operator: UnaryOperator) -> bool
     ensures { result ≡ definitions.is_indirection operator }
 {
@@ -68,7 +52,7 @@ fn operand_is_lvalue(context: &Context<'_, '_>, operator: UnaryOperator, e: &Exp
         (expression e.now) }
 {
     match operator {
-        UnaryOperator::AddressOf => is_addressable(context, e),
+        UnaryOperator::AddressOf => is_lvalue(context, e),
         _ => true,
     }
 }

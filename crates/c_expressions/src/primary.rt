@@ -94,6 +94,13 @@ pub fn name(
             of,
             read(Lvalue::Local(number)),
         ))),
+        Some(Entity::LocalArray { number, of }) => Ok(Some(typed(
+            pointer_to(of)?,
+            Node::StackedArray {
+                base: number,
+                offset: 0,
+            },
+        ))),
         Some(Entity::GlobalVariable { address, of }) => {
             let access = access_of(of);
             Ok(Some(typed(of, read(Lvalue::Global { access, address }))))

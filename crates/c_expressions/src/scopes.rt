@@ -19,6 +19,11 @@ pub enum Entity<'a> {
         number: u64,
         of: CType,
     },
+    /// `of` is the type of its elements.
+    LocalArray {
+        number: u64,
+        of: CType,
+    },
     GlobalVariable {
         address: u64,
         of: CType,

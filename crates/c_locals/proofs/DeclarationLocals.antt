@@ -1,19 +1,18 @@
 -- Locals of a declaration, one after another.
-use Rattle.std.proofs.Common.{◌≡◌, ℕ, ◌+◌, ◌<◌, ◌≤◌, List, [], ◌∷◌, ◌++◌, map, length, drop, get_or, append-nil, Option, refl, sym, ap, ◌∙◌, subst}
+use Rattle.std.proofs.Common.{◌≡◌, ℕ, ◌+◌, ◌<◌, ◌≤◌, List, [], ◌∷◌, ◌++◌, map, length, drop, get_or, append-nil, Option, refl, sym, ap, ◌∙◌, subst, None}
 use Rattle.std.proofs.lemmas.List.{drop_all, map-append}
 use Rattle.std.specs.Prelude.{not, option_map}
 use Rattle.c_locals.proofs.Lemmas.{next_of, kept_more}
-use Rattle.c_locals.specs.Words.{Expr, declared, statement, layer, Least, least_of, kept, SymbolTable, with_block, environment, Walk, Resolves, declares, MayEvaluate, numbering, resolved_at, Duplicate, TypeClash, LocalVariable, Scope, spelled, Environment, Optional, ResolvedStatements, declare, declare_all, is_taken, names_only, optional, to_type, unless_holds, with_name, is_scalar, size_of, Base, CType, start, local}
+use Rattle.c_locals.specs.Words.{Expr, declared, statement, layer, Least, least_of, kept, SymbolTable, with_block, environment, Walk, Resolves, declares, MayEvaluate, numbering, Duplicate, TypeClash, Scope, spelled, Environment, Optional, ResolvedStatements, declare, declare_all, is_taken, names_only, unless_holds, with_name, is_scalar, size_of, Base, CType, local, local_entity, variable_of, elements_of, length_faults, local_value_in}
 use Rattle.c_checked.specs.declared.statement.Declared.{Declared as Declared'}
 use Rattle.c_checked.specs.declared.statement.Stmt.TheVariants as statements
 use Rattle.c_checked.specs.declared.statement.Stmt.TheOpen as opened
 use Rattle.c_checked.specs.declared.statement.Stmt.TheFolds.{fold-roll-Stmt}
-use Rattle.c_checked.specs.Expression.{expression}
+use Rattle.c_checked.specs.Expression.{Expression, expression}
 use Rattle.c_checked.specs.Statement as checked
 use Rattle.c_locals.specs.declared.environment.Environment.{Environment as Environment'}
 use Rattle.c_locals.proofs.WalkResults.{StillToMake, one_made}
 use Rattle.c_syntax.specs.declared.statement.Local.{Local as Local'}
-use Rattle.c_syntax.specs.Expression.{expression as tree}
 
 -- what is still to be declared from here
 abbrev pub rest_of : Environment → Base → List Local' → Scope → Walk → ResolvedStatements
@@ -101,37 +100,35 @@ pub declared_local : (a : Environment') (base : Base) (l : Local') (w w' : Walk)
     → (let of : CType = record { base = base; pointers = l.pointers } in
     let name = spelled a.text.now l.name in
     n ≡ length w.sizes.items
-    → t' ≡ with_block t (with_name t.block name (LocalVariable n of))
-    → w'.sizes.items ≡ w.sizes.items ++ size_of of ∷ [] → w'.number ≡ w.number
+    → t' ≡ with_block t (with_name t.block name (local_entity n of l.length))
+    → w'.sizes.items ≡ w.sizes.items ++ size_of of ∷ []
+    → w'.variables.items ≡ w.variables.items ++ variable_of of (elements_of l.length) ∷ []
+    → w'.number ≡ w.number
     → least_of middle ≡ kept (least_of w.worst)
     (unless_holds (not (is_taken t.block name)) l.name.start Duplicate
-    ++ unless_holds (is_scalar of) l.name.start TypeClash)
-    → MayEvaluate middle w'.worst v (optional
-    (λ e. to_type of (start e) (resolved_at (environment a t'.around) t'.block e))
-    (option_map tree l.initialiser))
-    → Resolves t t' w w' (declares (record { local = n; value = v }) ∷ [])
+    ++ unless_holds (is_scalar of) l.name.start TypeClash ++ length_faults l.length)
+    → MayEvaluate middle w'.worst v (local_value_in of l.length a t' l.initialiser)
+    → Resolves t t' w w' (declares (record { local = n; stacked = None; value = v }) ∷ [])
     (declare (environment a t.around) base (local l) t.block (numbering w)))
-declared_local a base l w w' middle n v t t' at named sized numbered checks valued =
+declared_local a base l w w' middle n v t t' at named sized varied numbered checks valued =
     let of : CType = record { base = base; pointers = l.pointers } in
     let name = spelled a.text.now l.name in
     let made : SymbolTable = with_block t
-    (with_name t.block name (LocalVariable (length w.sizes.items) of)) in
+    (with_name t.block name (local_entity (length w.sizes.items) of l.length)) in
     let is : t' ≡ made = named
-    ∙ ap (λ k. with_block t (with_name t.block name (LocalVariable k of))) at in
-    let rule : SymbolTable → Optional = λ s. optional
-    (λ e. to_type of (start e) (resolved_at (environment a s.around) s.block e))
-    (option_map tree l.initialiser) in
+    ∙ ap (λ k. with_block t (with_name t.block name (local_entity k of l.length))) at in
+    let rule : SymbolTable → Optional = λ s. local_value_in of l.length a s l.initialiser in
     let own : MayEvaluate middle w'.worst v (rule made) = subst
     (λ s. MayEvaluate middle w'.worst v (rule s)) is valued in
+    let declared_as : ℕ → Option Expression → List checked.Statement = λ k o.
+    checked.Declare (record { local = k; stacked = None; value = o }) ∷ [] in
     record {
-      done = ap (λ k. checked.Declare (record { local = k; value = option_map expression v }) ∷ [])
-          at ∙ ap (λ k. checked.Declare (record { local = length w.sizes.items; value = k }) ∷ [])
-          own.value;
-      counts = ap (λ k. record { sizes = k; number = w'.number }) sized
-          ∙ ap (λ k. record { sizes = w.sizes.items ++ size_of of ∷ []; number = k }) numbered;
+      done = ap (λ k. declared_as k (option_map expression v)) at
+          ∙ ap (declared_as (length w.sizes.items)) own.value;
+      counts = λ i. record { sizes = sized i; variables = varied i; number = numbered i };
       names = is;
       faults = kept_more (least_of w.worst) (least_of middle) (least_of w'.worst)
           (unless_holds (not (is_taken t.block name)) l.name.start Duplicate
-          ++ unless_holds (is_scalar of) l.name.start TypeClash)
+          ++ unless_holds (is_scalar of) l.name.start TypeClash ++ length_faults l.length)
           (rule made).faults checks own.faults;
     }

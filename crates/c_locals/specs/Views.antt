@@ -7,7 +7,9 @@ use Rattle.c_locals.specs.declared.environment.Reach.TheVariants as reaches
 use Rattle.c_locals.specs.declared.environment.Walk.{Walk}
 use Rattle.c_resolved.specs.Expressions.{ResolvedExpression, resolve_expression}
 use Rattle.c_resolved.specs.Scopes.{Scope}
-use Rattle.c_resolved.specs.Statements.{Reach, Nowhere, Beyond, Near, past_finally, Environment, Numbering, Value, Optional, optional, names_at, filter_names}
+use Rattle.c_resolved.specs.Statements.{Reach, Nowhere, Beyond, Near, past_finally, Environment, Numbering, Value, Optional, optional, local_value, names_at, filter_names}
+use Rattle.c_syntax.specs.declared.declaration.Length.{Length}
+use Rattle.c_syntax.specs.declared.expression.CType.{CType}
 use Rattle.c_syntax.specs.declared.expression.Expr.{Expr}
 use Rattle.c_syntax.specs.Expression.{Expression, expression}
 
@@ -31,7 +33,8 @@ environment a around =
     }
 
 abbrev pub numbering : Walk → Numbering
-numbering w = record { sizes = w.sizes.items; number = w.number }
+numbering w =
+    record { sizes = w.sizes.items; variables = w.variables.items; number = w.number }
 
 -- ---- further inside
 
@@ -72,6 +75,13 @@ resolved_in a names e = resolved_at (environment a names.around) names.block (ex
 abbrev pub filter_resolved_in : Environment' → SymbolTable → Expr → ResolvedExpression
 filter_resolved_in a names e =
     filter_resolved_at (environment a names.around) names.block (expression e)
+
+-- the value of a local of a type, or of an array of this length
+abbrev pub local_value_in : CType → Option Length → Environment' → SymbolTable → Option Expr
+    → Optional
+local_value_in t length a names e =
+    local_value (names_at (environment a names.around) names.block) t length
+    (option_map expression e)
 
 -- by a rule on its value, where there is an expression
 abbrev pub optional_in : (Expression → ResolvedExpression → Value) → Environment' → SymbolTable

@@ -6,15 +6,18 @@ ghost use Rattle.c_checked.specs.Statement.{statement};
 ghost use Rattle.c_resolved.specs.declared.fault.Fault.TheVariants.{Duplicate, TypeClash};
 ghost use Rattle.c_resolved.specs.Scopes.{spelled};
 ghost use Rattle.c_resolved.specs.Statements as definitions;
-ghost use Rattle.c_resolved.specs.Statements.{is_taken, unless_holds};
+ghost use Rattle.c_resolved.specs.Statements.{is_taken, length_faults, unless_holds};
 ghost use Rattle.c_resolved.specs.Types.{is_scalar};
 ghost use Rattle.c_expressions.specs.Kept.{AddsFaults};
 ghost use Rattle.c_locals.specs.WalkResults.{Resolves, IsBeginning, declares};
-ghost use Rattle.c_locals.specs.Views.{environment, numbering};
+ghost use Rattle.c_expressions.specs.Views.{entity};
+ghost use Rattle.c_locals.specs.Values.{MayEvaluate};
+ghost use Rattle.c_locals.specs.Views.{environment, numbering, local_value_in};
 ghost use Rattle.c_syntax.specs.Statement as trees;
 
 use crate::environment::{Environment, Walk};
-use crate::evaluated::{any_or_none, to_type_or_none};
+use crate::evaluated::{any_or_none, refused_initialiser, to_type_or_none};
+use crate::lengths::check_length;
 use c_checked::expression::Expr as Checked;
 use c_checked::statement::{Declared, Stmt};
 use c_expressions::least::Least;
@@ -23,7 +26,9 @@ use c_expressions::symbol_table::SymbolTable;
 use c_expressions::values::unless_holds;
 use c_operations::operation::Size;
 use c_resolved::fault::Fault;
-use c_syntax::expression::{Base, CType, Identifier};
+use c_resolved::variable::Variable;
+use c_syntax::declaration::Length;
+use c_syntax::expression::{Base, CType, Expr, Identifier};
 use c_syntax::statement::{ForInitialiser, Local};
 use c_types::types::{is_scalar, size_of};
 use std::alloc::{AllocError, Global};
@@ -37,22 +42,68 @@ pub struct Beginning {
     pub first: Option<Checked>,
 }
 
-/// The rules of a declared local: its name is a new one, and its type has values.
+/// The rules of a declared local: its name is a new one, its type has values, and an array has an
+/// element or more.
 fn check_local<'t>(
     worst: &mut Least,
     text: &'t [u8],
     names: &SymbolTable<'t>,
     name: Identifier,
     of: CType,
+    length: Option<Length>,
 )
     ensures { AddsFaults worst.old worst.new
         (unless_holds (not (is_taken names.now.block (spelled text.now name)))
         name.start Duplicate
-        ++ unless_holds (is_scalar of) name.start TypeClash) }
+        ++ unless_holds (is_scalar of) name.start TypeClash ++ length_faults length) }
 {
     let taken = is_taken(spelled(text, name), names);
     unless_holds(worst, !taken, name.start, Fault::Duplicate);
     unless_holds(worst, is_scalar(of), name.start, Fault::TypeClash);
+    check_length(worst, length);
+}
+
+/// What the name of a local means.
+fn meaning_of(number: u64, of: CType, length: Option<Length>) -> Entity<'static>
+    ensures { entity result ≡ definitions.local_entity number of length }
+{
+    match length {
+        None => Entity::LocalVariable { number, of },
+        Some(_) => Entity::LocalArray { number, of },
+    }
+}
+
+/// A local as a variable of its function.
+fn variable_of(of: CType, length: Option<Length>) -> Variable
+    ensures { result ≡ definitions.variable_of of (definitions.elements_of length) }
+{
+    let elements = match length {
+        None => None,
+        Some(length) => Some(length.value),
+    };
+    Variable { of, elements }
+}
+
+/// The value of a local; an array has none.
+fn value_of<'t>(
+    alloc: Global,
+    env: &Environment<'t>,
+    names: &SymbolTable<'t>,
+    worst: &mut Least,
+    of: CType,
+    length: Option<Length>,
+    initialiser: &Option<Expr>,
+) -> Result<Option<Checked>, AllocError>
+    ensures { IfOk result (λ r. MayEvaluate worst.old worst.new r
+        (local_value_in of length env.now names.now initialiser.now)) }
+{
+    match length {
+        None => to_type_or_none(alloc, env, names, worst, of, initialiser),
+        Some(_) => {
+            refused_initialiser(alloc, env, names, worst, initialiser)?;
+            Ok(None)
+        }
+    }
 }
 
 fn count_of(sizes: &Vec<Size>) -> u64
@@ -79,16 +130,20 @@ fn declare<'t>(
         pointers: local.pointers,
     };
     let number = count_of(&walk.sizes);
-    check_local(&mut walk.worst, env.text, names, local.name, of);
+    let length = local.length;
+    check_local(&mut walk.worst, env.text, names, local.name, of, length);
     scopes::declare(
         spelled(env.text, local.name),
-        Entity::LocalVariable { number, of },
+        meaning_of(number, of, length),
         names,
     )?;
     walk.sizes.push(size_of(of))?;
-    let value = to_type_or_none(alloc, env, names, &mut walk.worst, of, &local.initialiser)?;
+    walk.variables.push(variable_of(of, length))?;
+    let worst = &mut walk.worst;
+    let value = value_of(alloc, env, names, worst, of, length, &local.initialiser)?;
     Ok(Declared {
         local: number,
+        stacked: None,
         value,
     })
 }

@@ -14,6 +14,7 @@ use c_expressions::least::Least;
 use c_expressions::symbol_table::SymbolTable;
 use c_operations::operation::Size;
 use c_resolved::fault::Fault;
+use c_resolved::variable::Variable;
 use c_syntax::expression::CType;
 use std::alloc::AllocError;
 
@@ -50,6 +51,8 @@ pub struct Environment<'t> {
 pub struct Walk {
     /// The sizes of its locals so far, parameters first.
     pub sizes: Vec<Size>,
+    /// These variables.
+    pub variables: Vec<Variable>,
     /// The number of the next filter or `__finally` block.
     pub number: u32,
     /// The least fault so far.

@@ -1,7 +1,7 @@
 //! The values of a statement's expressions.
 
 ghost use Rattle.std.specs.Prelude.{◌++◌, IfOk, OnOk, Some, option_map};
-ghost use Rattle.c_resolved.specs.declared.fault.Fault.TheVariants.{TypeClash};
+ghost use Rattle.c_resolved.specs.Statements.{names_at};
 ghost use Rattle.c_resolved.specs.Expressions.{fault_at};
 ghost use Rattle.c_resolved.specs.Statements as definitions;
 ghost use Rattle.c_expressions.specs.Kept.{AddsFaults};
@@ -139,6 +139,27 @@ pub fn to_type_or_none<'t>(
     }
 }
 
+/// The faults of the initialiser of an array, which has none (C11, 6.7.9).
+pub fn refused_initialiser<'t>(
+    alloc: Global,
+    env: &Environment<'t>,
+    names: &SymbolTable<'t>,
+    worst: &mut Least,
+    e: &Option<Expr>,
+) -> Result<(), AllocError>
+    ensures { OnOk result (AddsFaults worst.old worst.new
+        (definitions.without_initialiser (names_at (environment env.now names.now.around)
+        names.now.block) (option_map expression e.now)).faults) }
+{
+    match e {
+        None => Ok(()),
+        Some(e) => {
+            let at = e.start();
+            refused_value(alloc, env, names, worst, at, Fault::BadInitialiser, e)
+        }
+    }
+}
+
 /// The value of a `return`: of the function's type, and none where that is void (C11, 6.8.6.4 p1).
 pub fn returned<'t>(
     alloc: Global,
@@ -175,25 +196,26 @@ fn returned_value<'t>(
         (Some (expression e.now)))) }
 {
     if is_void(env.returns) {
-        refused_value(alloc, env, names, worst, at, e)?;
+        refused_value(alloc, env, names, worst, at, Fault::TypeClash, e)?;
         return Ok(None);
     }
     Ok(Some(to_type(alloc, env, names, worst, env.returns, e)?))
 }
 
-/// The faults of a value that a function of type void returns.
+/// The faults of a value that may not be there.
 fn refused_value<'t>(
     alloc: Global,
     env: &Environment<'t>,
     names: &SymbolTable<'t>,
     worst: &mut Least,
     at: u64,
+    fault: Fault,
     e: &Expr,
 ) -> Result<(), AllocError>
     ensures { OnOk result (AddsFaults worst.old worst.new
-        ((resolved_in env.now names.now e.now).faults ++ fault_at at TypeClash)) }
+        ((resolved_in env.now names.now e.now).faults ++ fault_at at fault)) }
 {
     drop(resolved_at(alloc, env, names, worst, e)?);
-    worst.add(at, Fault::TypeClash);
+    worst.add(at, fault);
     Ok(())
 }

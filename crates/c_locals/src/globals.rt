@@ -7,12 +7,14 @@ ghost use Rattle.c_resolved.specs.Program as definitions;
 ghost use Rattle.c_resolved.specs.Scopes.{spelled};
 ghost use Rattle.c_resolved.specs.Statements.{is_taken, with_name, unless_holds};
 ghost use Rattle.c_resolved.specs.Types.{bytes_in};
+ghost use Rattle.c_resolved.specs.Layout.{stored_bytes};
 ghost use Rattle.c_syntax.specs.Program as trees;
 ghost use Rattle.c_locals.specs.Files.{DeclaresByRule};
 ghost use Rattle.c_expressions.specs.Kept.{AddsFaults};
 ghost use Rattle.c_expressions.specs.SymbolTables.{with_block};
 ghost use Rattle.c_expressions.specs.Views.{entity};
 
+use crate::lengths::check_length;
 use c_expressions::least::Least;
 use c_expressions::scopes::{Entity, declare, is_taken, spelled};
 use c_expressions::symbol_table::SymbolTable;
@@ -21,7 +23,7 @@ use c_lex::token::IntegerType;
 use c_resolved::fault::Fault;
 use c_syntax::declaration::{Constant, Global as Declarator, Initialiser, Length};
 use c_syntax::expression::{Base, CType, Identifier, Literal};
-use c_types::types::{bytes_in, is_scalar};
+use c_types::types::{bytes_in, is_scalar, stored_bytes};
 use host_layout::range::FIRST_DATA;
 use seh_num::extension::{wrap, zero_extend};
 use seh_num::width::Width;
@@ -102,16 +104,9 @@ fn put_zeros(bytes: &mut Vec<u8>, count: u64) -> Result<(), AllocError>
     Ok(())
 }
 
-/// How many bytes a variable of a type takes. One of type void, which is refused, takes none.
-fn stored_bytes(t: CType) -> u64
-    ensures { result ≡ definitions.stored_bytes t }
-{
-    if is_scalar(t) { bytes_in(t) } else { 0 }
-}
-
 /// How many bytes an array has; as many as 2^64 are more than there are.
 fn array_bytes(length: Length, t: CType) -> Result<u64, AllocError>
-    ensures { IfOk result (λ n. n ≡ length.value * definitions.stored_bytes t) }
+    ensures { IfOk result (λ n. n ≡ length.value * stored_bytes t) }
 {
     match length.value.checked_mul(stored_bytes(t)) {
         Some(count) => Ok(count),
@@ -250,15 +245,6 @@ fn meaning_of<'a>(of: CType, address: u64, length: Option<Length>) -> Entity<'a>
     match length {
         None => Entity::GlobalVariable { address, of },
         Some(_) => Entity::GlobalArray { address, of },
-    }
-}
-
-/// An array has an element or more.
-fn check_length(worst: &mut Least, length: Option<Length>)
-    ensures { AddsFaults worst.old worst.new (definitions.length_faults length) }
-{
-    if let Some(length) = length {
-        unless_holds(worst, 0 < length.value, length.at, Fault::TypeClash);
     }
 }
 

@@ -14,3 +14,4 @@ pub mod environment;
 pub mod evaluated;
 pub mod filters;
 pub mod globals;
+pub mod lengths;

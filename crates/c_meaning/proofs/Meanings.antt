@@ -1,6 +1,6 @@
 -- What the machine of a program comes to is what the program means.
 use Rattle.std.proofs.Common.{◌≡◌, ℕ, List, refl, sym, ap, ◌∙◌, subst}
-use Rattle.std.specs.Prelude.{ℤ, Option, slice_get, false, []}
+use Rattle.std.specs.Prelude.{ℤ, Option, None, slice_get, false, []}
 use Rattle.seh_num.specs.declared.event.Event.{Event}
 use Rattle.c_checked.specs.Program.{Program}
 use Rattle.source_meaning.specs.declared.ended.Ended.{Ended}
@@ -22,14 +22,14 @@ use Rattle.c_meaning.specs.Runs.{Ran, ShownPart, Means, MeansPart, end_of}
 abbrev pub first_call : Program → List ℕ → frames.Next
 first_call p vs =
     frames.Call (frames.Defined p.main) vs
-    (record { activation = 0; exception = no_exception; abnormal = false })
+    (record { activation = 0; data_part = None; exception = no_exception; abnormal = false })
 
 -- the machine with which a program begins comes to what its run comes to
 begins : (p : Program) (arg : ℤ) (n : ℕ) (vs : List ℕ)
     → vs ≡ main_arguments (slice_get p.functions p.main) arg
     → comes_to p (does p) (beginning p n (first_call p vs)) ≡ ran p arg n
 begins p arg n vs e =
-    ap (λ vs. enter (does p) p.main (slice_get p.functions p.main) vs outside (start p n)) e
+    ap (λ vs. enter p (does p) p.main (slice_get p.functions p.main) vs outside (start p n)) e
 
 -- and so does one that was made as it, with the arguments of `main` from a number that is the run's
 pub started : (p : Program) (arg again : ℤ) (n : ℕ) (vs : List ℕ) (made : frames.Next → Machine)

@@ -196,6 +196,7 @@ pub fn run_program<O: Sink, N: Names>(
 {
     let place = Place {
         activation: 0,
+        data_part: None,
         exception: NO_EXCEPTION,
         abnormal: false,
     };

@@ -70,6 +70,7 @@ result_small (pures.Subtract z) a b lt =
 result_small (pures.Multiply z) a b lt =
     of_size z (low (width z) (low (width z) a * low (width z) b))
     (low_below (width z) (low (width z) a * low (width z) b))
+result_small (pures.MultiplyBy n) a b lt = low_below W64 (low W64 a * low W64 n)
 result_small (pures.And z) a b lt = bits_small z bit_and and_lt a b
 result_small (pures.Or z) a b lt = bits_small z bit_or or_lt a b
 result_small (pures.Xor z) a b lt = bits_small z bit_xor xor_lt a b

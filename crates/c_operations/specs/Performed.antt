@@ -1,6 +1,7 @@
 -- What an operation on two numbers comes to, in the memory of a program.
-use Rattle.std.specs.Prelude.{ℕ, Bool, true, false, not, ℤ, Option, Some, None, Result, Ok, Err}
+use Rattle.std.specs.Prelude.{ℕ, ◌+◌, ◌-◌, ◌^◌, Bool, true, false, not, ◌&&◌, ℤ, Option, Some, None, Result, Ok, Err}
 use Rattle.seh_num.specs.declared.width.Width.{Width}
+use Rattle.seh_num.specs.declared.width.Width.TheVariants.{W64}
 use Rattle.seh_num.specs.declared.event.Code.{Code}
 use Rattle.seh_num.specs.declared.division.DivFault.{DivFault}
 use Rattle.seh_num.specs.declared.division.DivFault.TheVariants as faults
@@ -9,7 +10,7 @@ use Rattle.seh_num.specs.Division.{divided_signed, divided_unsigned}
 use Rattle.seh_num.specs.declared.code.TheConstants.{ACCESS_VIOLATION, INTEGER_DIVIDE_BY_ZERO}
 use Rattle.seh_num.specs.declared.code.TheConstants.{INTEGER_OVERFLOW}
 use Rattle.flat_memory.specs.Memory.{Memory, first_refused, may_read, may_write, number_at}
-use Rattle.flat_memory.specs.Memory.{with_number, with_bytes}
+use Rattle.flat_memory.specs.Memory.{with_number, with_bytes, pointer_of, with_pointer}
 use Rattle.c_operations.specs.declared.operation.Signedness.{Signedness}
 use Rattle.c_operations.specs.declared.operation.Signedness.TheVariants.{Unsigned, Signed}
 use Rattle.c_operations.specs.declared.operation.Operation.{Operation}
@@ -72,6 +73,19 @@ store reserved w at v m =
     accessed reserved true (may_write m) (bytes_of w) at
     (Gives v (with_bytes m (with_number m.byte (bytes_of w) at (low w v))))
 
+-- ---- variables on the data stack: an access by a variable's name has the variable's bytes alone,
+-- and nothing is said where one of them is reserved or may not be written
+
+abbrev pub placed : (ℕ → Bool) → Width → (at v result : ℕ) → Memory → OperationResult
+placed reserved w at v result m =
+    unless_reserved
+    (first_refused (λ a. not (reserved a) && may_write m a) (bytes_of w) at)
+    (Gives result (with_bytes m (with_number m.byte (bytes_of w) at (low w v))))
+
+-- how many bytes of an array are before the last element of so many
+abbrev pub before_last : Width → ℕ → ℕ
+before_last w n = low W64 (n + (2 ^ 64 - bytes_of w))
+
 -- ---- operations on two operands of 64 bits
 
 abbrev pub performed : (ℕ → Bool) → Operation → ℕ → ℕ → Memory → OperationResult
@@ -80,3 +94,10 @@ performed reserved (operations.Divide s z) a b m = quotient s (width z) a b m
 performed reserved (operations.Remainder s z) a b m = remainder s (width z) a b m
 performed reserved (operations.Load w) a b m = load reserved w a m
 performed reserved (operations.Store w) a b m = store reserved w a b m
+performed reserved (operations.Allocate n) a b m =
+    Gives (pointer_of m) (with_pointer m (low W64 (pointer_of m + n)))
+performed reserved (operations.SetPointer n) a b m = Gives a (with_pointer m (low W64 (a + n)))
+performed reserved (operations.Place w offset) a b m =
+    placed reserved w (low W64 (a + offset)) b b m
+performed reserved (operations.Clear w offset) a b m =
+    placed reserved w (low W64 (a + offset + before_last w b)) 0 (before_last w b) m

@@ -50,6 +50,8 @@ pub enum Pure {
     Add(Size),
     Subtract(Size),
     Multiply(Size),
+    /// The first operand times this number, in 64 bits.
+    MultiplyBy(u64),
     And(Size),
     Or(Size),
     Xor(Size),
@@ -80,4 +82,16 @@ pub enum Operation {
     /// Stores the second operand's low bits at the address that the first operand is; the result is
     /// the second operand.
     Store(Width),
+    /// The data stack's pointer, which becomes larger by so many bytes.
+    Allocate(u64),
+    /// The data stack's pointer becomes the first operand and so many bytes; the result is the
+    /// first operand.
+    SetPointer(u64),
+    /// Stores the second operand's low bits so many bytes above the first operand, where a variable
+    /// stands; the result is the second operand.
+    Place { width: Width, offset: u64 },
+    /// Sets an element of an array to 0, which begins so many bytes above the first operand: the
+    /// one before as many bytes of it as the second operand says. The result is how many bytes are
+    /// before that element.
+    Clear { width: Width, offset: u64 },
 }

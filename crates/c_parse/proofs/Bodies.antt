@@ -1,10 +1,10 @@
 -- Functions are read as far as they go after their names.
 use Rattle.std.proofs.Common.{◌≡◌, ◌≤◌, ℕ, List, [], ◌∷◌, ◌++◌, length, refl, sym, ap, ◌∙◌, subst}
 use Rattle.std.proofs.Common.{arith}
-use Rattle.c_syntax.specs.declared.limit.TheConstants.{MOST_LOCALS}
+use Rattle.c_syntax.specs.declared.limit.TheConstants.{MOST_LOCALS, MOST_ARRAY_BYTES}
 use Rattle.c_lex.specs.declared.punctuator.Punctuator.TheVariants as punctuators
 use Rattle.c_lex.specs.declared.token.Kind.TheVariants as kinds
-use Rattle.c_parse.specs.Words.{Token, Parameter, Wraps, FunctionWithinFirst, AreParameters, Empty, token, HasPunctuator, Left, NoPunctuator, APunctuator, NoBlockItems, HasBlockItems, NoParameters, HasParameters, IsTail, NoTail, HasTail}
+use Rattle.c_parse.specs.Words.{Token, Parameter, Wraps, FunctionWithinFirst, end_of_all_arrays, bytes_so_far, AreParameters, Empty, token, HasPunctuator, Left, NoPunctuator, APunctuator, NoBlockItems, HasBlockItems, NoParameters, HasParameters, IsTail, NoTail, HasTail}
 use Rattle.c_syntax.specs.Statements.{AreBlockItems}
 use Rattle.c_parse.proofs.Lemmas.{append_append, alike_same, has_same, parameters}
 use Rattle.c_syntax.proofs.MovesPrograms as programs
@@ -13,11 +13,12 @@ use Rattle.c_parse.proofs.Refusing.{punctuator, has_it, following}
 abbrev braces : List Token
 braces = punctuator punctuators.OpenBrace ∷ punctuator punctuators.CloseBrace ∷ []
 
-pub empty : (n : ℕ) (ps : List Parameter) → (3 ≤ n → length ps ≤ 8) → FunctionWithinFirst n ps Empty
+pub empty : (n : ℕ) (ps : List Parameter) → (4 ≤ n → length ps ≤ 8) → FunctionWithinFirst n ps Empty
 empty n ps few = record {
   statements = λ one. omega arith;
   expressions = λ one. omega arith;
   locals = λ two. omega arith;
+  arrays = λ three. omega arith;
   parameters = few;
 }
 
@@ -42,7 +43,7 @@ in_parameters text funclets ts = record {
         };
       });
       within = empty n h.trees h.few;
-      numbered = λ six. omega arith;
+      numbered = λ seven. omega arith;
     };
   };
 }
@@ -80,18 +81,19 @@ in_brace text funclets ts b found is few =
                   items = has_it punctuators.CloseBrace other;
                 };
               }));
-          within = empty n found (λ three. few);
-          numbered = λ six. omega arith;
+          within = empty n found (λ four. few);
+          numbered = λ seven. omega arith;
         };
       };
     }
 
 pub in_body : (text : List ℕ) (left : Left) (ts b c : List Token) (found : List Parameter)
-    → left.locals ≡ MOST_LOCALS → AreParameters found ts b → length found ≤ 8
-    → HasPunctuator punctuators.OpenBrace b c
+    → left.locals ≡ MOST_LOCALS → left.bytes ≡ MOST_ARRAY_BYTES → AreParameters found ts b
+    → length found ≤ 8 → HasPunctuator punctuators.OpenBrace b c
     → Wraps (NoBlockItems 65 left) (HasBlockItems 65 left) (NoTail left.funclets)
     (HasTail left.funclets) text c ts
-in_body text left ts b c found l is few o =
+in_body text left ts b c found l z is few o =
+    let none : bytes_so_far left.bytes ≡ 0 = omega arith in
     let (opening_at, (opening_end, opening_split)) = o in
     let m = programs.parameters found text ts b is in
     let again : (other : List Token) → AreParameters found (m.front ++ other) other =
@@ -112,6 +114,8 @@ in_body text left ts b c found l is few o =
             statements = w.statements;
             expressions = w.expressions;
             locals = λ two. let a = w.locals two in omega arith;
+            bytes = λ three. subst (λ (z : ℕ). end_of_all_arrays body z ≤ 65536) (sym none)
+                (w.arrays three);
             funclets = k;
           }));
       has = λ n text' inner a s h.
@@ -139,7 +143,9 @@ in_body text left ts b c found l is few o =
                 statements = v.statements;
                 expressions = v.expressions;
                 locals = λ two. let a = v.locals two in omega arith;
-                parameters = λ three. few;
+                arrays = λ three. subst (λ (z : ℕ). end_of_all_arrays h.trees z ≤ 65536) none
+                    (v.bytes three);
+                parameters = λ four. few;
               };
               numbered = v.funclets;
             };

@@ -118,8 +118,8 @@ no_first : (base : Base) (at n : ℕ) (text : List ℕ) (ts : List Token) → No
     → NoGlobals base at n text ts
 no_first base at n text ts none [] end h low = absurd h
 no_first base at n text ts none (g ∷ gs) end h low =
-    none g gs end h (λ five. let a = grows base gs (end_of base g.pointers g.length at) in
-    let b = low five in omega arith)
+    none g gs end h (λ six. let a = grows base gs (end_of base g.pointers g.length at) in
+    let b = low six in omega arith)
 
 pub in_first : (text : List ℕ) (base : Base) (at : ℕ) (ts : List Token)
     → Wraps (NoGlobal base at) (HasGlobals base at) (NoGlobals base at) (HasGlobals base at) text ts
@@ -142,7 +142,7 @@ in_first text base at ts = record {
 no_more : (base : Base) (now n : ℕ) (text : List ℕ) (rest b : List Token)
     → HasPunctuator punctuators.Comma rest b → NoGlobal base now n text b
     → (gs : List Global) (end : List Token) → AreMoreGlobals gs rest end
-    → (5 ≤ n → end_of_globals base gs now ≤ 1048576) → ⊥
+    → (6 ≤ n → end_of_globals base gs now ≤ 1048576) → ⊥
 no_more base now n text rest b k none [] end m low =
     let e : punctuators.Comma ≡ punctuators.Semicolon =
     other_punctuator punctuators.Comma punctuators.Semicolon rest rest b end refl k m in absurd cc
@@ -153,8 +153,8 @@ no_more base now n text rest b k none (g ∷ gs) end m low =
           (has_same punctuators.Comma rest rest m.after_comma b refl m.comma k) m.element,
       m.others,
     )
-    (λ five. let a = grows base gs
-    (end_of base g.pointers g.length now) in let c = low five in omega arith)
+    (λ six. let a = grows base gs
+    (end_of base g.pointers g.length now) in let c = low six in omega arith)
 
 listed : (gs : List Global) (rest ts end : List Token) → HasPunctuator punctuators.Comma rest ts
     → AreGlobals gs ts end → AreMoreGlobals gs rest end
@@ -184,8 +184,8 @@ in_next text base at now ts rest b found d k =
           (subst (λ (z : List Token). SameFirst z (t ∷ other)) (sym comma_split) (other, refl))
           gs end h in
           no_more base now n text' (t ∷ other) other (comma_at, (comma_end, refl)) x r.0 end r.2
-          (λ five. subst (λ (m : ℕ). m ≤ 1048576)
-          (ap (λ (z : List Global). end_of_globals base z at) r.1 ∙ d.1 r.0) (low five)));
+          (λ six. subst (λ (m : ℕ). m ≤ 1048576)
+          (ap (λ (z : List Global). end_of_globals base z at) r.1 ∙ d.1 r.0) (low six)));
       has = λ n text' inner a s h. record {
         more = [];
         has = record {
@@ -200,7 +200,7 @@ in_next text base at now ts rest b found d k =
               (d.0.forward (t ∷ (inner ++ other)) h.trees other
               (listed h.trees (t ∷ (inner ++ other)) (inner ++ other) other
               (comma_at, (comma_end, refl)) (h.are other)))));
-          low = λ five. subst (λ (m : ℕ). m ≤ 1048576) (sym (d.1 h.trees)) (h.low five);
+          low = λ six. subst (λ (m : ℕ). m ≤ 1048576) (sym (d.1 h.trees)) (h.low six);
         };
       };
     }
@@ -229,7 +229,7 @@ in_end text base at now ts rest found d w k = record {
           (d.0.front ++ inner) [] other
           (following (λ z. AreGlobals (map global found ++ []) z other) d.0.front inner other
           (d.0.forward (inner ++ other) [] other (h other)));
-      low = λ five. subst (λ (m : ℕ). m ≤ 1048576) (sym (d.1 [])) w;
+      low = λ six. subst (λ (m : ℕ). m ≤ 1048576) (sym (d.1 [])) w;
     };
   };
 }

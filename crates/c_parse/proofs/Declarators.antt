@@ -45,7 +45,7 @@ array_has base pointers at n text w = record {
     initialiser = refl;
     others = has_it punctuators.Semicolon other;
   };
-  low = λ five. no_elements base pointers at w;
+  low = λ six. no_elements base pointers at w;
 }
 
 no_scalar : (base : Base) (pointers at n : ℕ) (text : List ℕ) (ts : List Token)
@@ -65,18 +65,18 @@ not_scalar text base pointers at ts w l z =
     (λ text' other s. no_scalar base pointers at 0 text' other
     (firsts.no_punctuator punctuators.OpenBracket ts other s l)
     (refusing_continues postfix ts other s z))
-    (λ text'. record { more = array; has = array_has base pointers at 6 text' w })
+    (λ text'. record { more = array; has = array_has base pointers at 7 text' w })
 
-scalar_far : (base : Base) (pointers at n : ℕ) (text : List ℕ) (ts : List Token) → 5 ≤ n
+scalar_far : (base : Base) (pointers at n : ℕ) (text : List ℕ) (ts : List Token) → 6 ≤ n
     → Lacks punctuators.OpenBracket ts → 1048576 < end_of base pointers None at
     → NoLength base pointers at n text ts
-scalar_far base pointers at n text ts five l f None i gs end h low = let a = low five in
+scalar_far base pointers at n text ts six l f None i gs end h low = let a = low six in
     absurd (omega arith)
-scalar_far base pointers at n text ts five l f (Some m) i gs end h low =
+scalar_far base pointers at n text ts six l f (Some m) i gs end h low =
     l h.length.after_opening h.length.opening
 
 punctuator_continues : (base : Base) (pointers at k : ℕ) (text : List ℕ) (ts : List Token)
-    → 5 ≡ suc k → EndsScalar ts → Onward (HasLength base pointers at) k text [] ts
+    → 6 ≡ suc k → EndsScalar ts → Onward (HasLength base pointers at) k text [] ts
 punctuator_continues base pointers at k text ts e (rest, inl h) =
     let (sign_at, (sign_end, sign_split)) = h in
     let t = token (kinds.Punctuator punctuators.Semicolon) sign_at sign_end in record {
@@ -95,7 +95,7 @@ punctuator_continues base pointers at k text ts e (rest, inl h) =
           initialiser = refl;
           others = (sign_at, (sign_end, refl));
         };
-        low = λ five. absurd (omega arith);
+        low = λ six. absurd (omega arith);
       };
     }
 punctuator_continues base pointers at k text ts e (rest, inr (inl h)) =
@@ -133,7 +133,7 @@ punctuator_continues base pointers at k text ts e (rest, inr (inl h)) =
                 others = has_it punctuators.Semicolon other;
               };
             };
-        low = λ five. absurd (omega arith);
+        low = λ six. absurd (omega arith);
       };
     }
 punctuator_continues base pointers at k text ts e (rest, inr (inr h)) =
@@ -157,21 +157,21 @@ punctuator_continues base pointers at k text ts e (rest, inr (inr h)) =
               initialiser = (digit 1 ∷ s, (sign_at, (sign_end, refl)), (0, refl));
               others = has_it punctuators.Semicolon other;
             };
-        low = λ five. absurd (omega arith);
+        low = λ six. absurd (omega arith);
       };
     }
 
 scalar_too_far : (text : List ℕ) (base : Base) (pointers at : ℕ) (ts : List Token) → at ≤ 1048576
     → Lacks punctuators.OpenBracket ts → 1048576 < end_of base pointers None at → EndsScalar ts
-    → Failed 5 (place text ts) (NoLength base pointers at) (HasLength base pointers at) text ts
+    → Failed 6 (place text ts) (NoLength base pointers at) (HasLength base pointers at) text ts
 scalar_too_far text base pointers at ts w l f g = record {
   front = [];
   fault = ts;
   split = refl;
   located = refl;
-  against = λ text' other a s. scalar_far base pointers at 5 text' other (omega arith)
+  against = λ text' other a s. scalar_far base pointers at 6 text' other (omega arith)
       (firsts.no_punctuator punctuators.OpenBracket ts other s l) f;
-  able = λ text' a k. record { more = array; has = array_has base pointers at 6 text' w };
+  able = λ text' a k. record { more = array; has = array_has base pointers at 7 text' w };
   further = λ text' k a s e. punctuator_continues base pointers at k text' ts e g;
 }
 
@@ -213,7 +213,7 @@ scalar_ends text base pointers at ts w l z =
     missing (NoLength base pointers at) (HasLength base pointers at) text ts [] ts refl
     (λ text' other s. no_punctuator base pointers at 0 text' other
     (firsts.no_punctuator punctuators.OpenBracket ts other s l) (ends_first ts other s z))
-    (λ text'. record { more = array; has = array_has base pointers at 6 text' w })
+    (λ text'. record { more = array; has = array_has base pointers at 7 text' w })
 
 pub scalar : (e : ParseErr) (text : List ℕ) (base : Base) (pointers at : ℕ) (ts : List Token)
     → at ≤ 1048576 → Lacks punctuators.OpenBracket ts → 1048576 < end_of base pointers None at
@@ -274,7 +274,7 @@ no_name text base at n ts d w s z none =
               },
               has_it punctuators.Semicolon other,
             );
-        low = λ five. no_elements base n at w;
+        low = λ six. no_elements base n at w;
       };
     })
 
@@ -293,7 +293,7 @@ no_length base at k n text called ts d b s z m none g gs end h low =
           subst (λ (x : List Token). IsLength g.length x h.1.after_length) (sym q.1) h.1.length;
       initialiser = h.1.initialiser;
       others = h.2;
-    }) (λ five. subst (λ (x : ℕ). end_of base x g.length at ≤ 1048576) (sym p.0) (low five))
+    }) (λ six. subst (λ (x : ℕ). end_of base x g.length at ≤ 1048576) (sym p.0) (low six))
 
 no_star : (called : Identifier) (other : List Token)
     → NoStar (token kinds.Identifier called.start called.end ∷ other)
@@ -415,7 +415,7 @@ in_initialiser text base at n called l ts d b c s e i stop w =
                     },
                     has_it punctuators.Semicolon other,
                   )));
-              low = λ five. w;
+              low = λ six. w;
             };
           };
     }

@@ -57,13 +57,13 @@ function text base n called ps body ts d rest inner end h o t = record {
 }
 
 full : (counts : Counts) (k : ℕ) (text : List ℕ) (base : Base) (n : ℕ) (called : Identifier)
-    (ts d rest inner : List Token) → 4 ≤ k → IsDeclarationHead base n called ts d rest
+    (ts d rest inner : List Token) → 5 ≤ k → IsDeclarationHead base n called ts d rest
     → HasPunctuator punctuators.OpenParenthesis rest inner → counts.functions ≡ 0
     → NoExternalDeclaration counts k text ts
-full counts k text base n called ts d rest inner four h o z (Globals b gs) end g w =
+full counts k text base n called ts d rest inner five h o z (Globals b gs) end g w =
     not_globals text b base n called gs ts d rest inner end h o g
-full counts k text base n called ts d rest inner four h o z (Function t again ps body) end g w =
-    let a = w.functions four in absurd (omega arith)
+full counts k text base n called ts d rest inner five h o z (Function t again ps body) end g w =
+    let a = w.functions five in absurd (omega arith)
 
 abbrev nothing : List Token
 nothing = punctuator punctuators.CloseParenthesis ∷ punctuator punctuators.OpenBrace ∷ punctuator
@@ -73,7 +73,7 @@ pub functions_full : (text : List ℕ) (counts : Counts) (base : Base) (n : ℕ)
     (ts d rest inner : List Token) → counts.bytes ≤ 1048576
     → IsDeclarationHead base n called ts d rest
     → HasPunctuator punctuators.OpenParenthesis rest inner → counts.functions ≡ 0
-    → Failed 4 (place text rest) (NoExternalDeclaration counts) (HasExternalDeclaration counts) text
+    → Failed 5 (place text rest) (NoExternalDeclaration counts) (HasExternalDeclaration counts) text
     ts
 functions_full text counts base n called ts d rest inner w h o z =
     let (opening_at, (opening_end, opening_split)) = o in
@@ -85,14 +85,14 @@ functions_full text counts base n called ts d rest inner w h o z =
       located = refl;
       against = λ text' other a s.
           let f = subst (λ (x : List Token). SameFirst x other) opening_split s in
-          following (λ x. NoExternalDeclaration counts 4 text' x) m.front m.declared other
-          (full counts 4 text' base n called (m.front ++ (m.declared ++ other))
+          following (λ x. NoExternalDeclaration counts 5 text' x) m.front m.declared other
+          (full counts 5 text' base n called (m.front ++ (m.declared ++ other))
           (m.declared ++ other) other f.0 (omega arith)
           (is_head base n called ts d rest m other) (opening_at, (opening_end, f.1)) z);
       able = λ text' a s. record {
         more = array;
-        has = array_after counts 6 text' (m.front ++ m.declared) w
-            (has_head 6 text' base n called ts d rest m);
+        has = array_after counts 7 text' (m.front ++ m.declared) w
+            (has_head 7 text' base n called ts d rest m);
       };
       further = λ text' k a s e. record {
         token = t;
@@ -123,11 +123,11 @@ functions_full text counts base n called ts d rest inner w h o z =
                 };
               })));
           fits = record {
-            each = (empty k [] (λ three. omega arith), tt);
-            functions = λ four. absurd (omega arith);
-            bytes = λ five. w;
+            each = (empty k [] (λ four. omega arith), tt);
+            functions = λ five. absurd (omega arith);
+            bytes = λ six. w;
             funclets =
-                λ six. omega arith;
+                λ seven. omega arith;
           };
         };
       };
@@ -156,7 +156,7 @@ no_tail counts k text base n called ts d rest inner h o none (Function t again p
       parameters =
           subst (λ (x : List Token). AreParameters ps x g.after_parameters) (sym i) g.parameters;
       body = g.body;
-    }) w.each.0 (λ six. let a = w.funclets six in omega arith)
+    }) w.each.0 (λ seven. let a = w.funclets seven in omega arith)
 
 pub in_tail : (text : List ℕ) (counts : Counts) (base : Base) (n : ℕ) (called : Identifier)
     (ts d rest inner : List Token) → counts.bytes ≤ 1048576
@@ -200,9 +200,9 @@ in_tail text counts base n called ts d rest inner w h o z =
                   (g.is other)))));
               fits = record {
                 each = (g.within, tt);
-                functions = λ four. grind arith;
-                bytes = λ five. w;
-                funclets = λ six. let b = g.numbered six in omega arith;
+                functions = λ five. grind arith;
+                bytes = λ six. w;
+                funclets = λ seven. let b = g.numbered seven in omega arith;
               };
             };
           };
@@ -219,8 +219,8 @@ no_globals counts k text base n called ts d rest h l none (Globals b gs) end g w
     (declarators_type n called d h.after_stars rest h.stars h.name)
     (globals_type gs g.0 end g.2) h.base g.1 in
     none gs end (subst (λ (x : List Token). AreGlobals gs x end) (sym q.1) g.2)
-    (λ five. subst (λ (x : Base). end_of_globals x gs counts.bytes ≤ 1048576) (sym q.0)
-    (w.bytes five))
+    (λ six. subst (λ (x : Base). end_of_globals x gs counts.bytes ≤ 1048576) (sym q.0)
+    (w.bytes six))
 no_globals counts k text base n called ts d rest h l none (Function t again ps body) end g w =
     let r = head_once base t.base n t.pointers called again ts d g.returns.0 rest g.after_name h
     (record {
@@ -293,7 +293,7 @@ against counts k text base n called ts d rest front fault other m w l s f (inr (
     ) in
     absurd (f o (subst (λ (z : List Token). SameFirst z o) (sym q) (g ++ array, refl)) (x ∷ []) []
     (subst (λ (z : List Token). AreGlobals (x ∷ []) z []) e are)
-    (λ five. no_elements base n counts.bytes w))
+    (λ six. no_elements base n counts.bytes w))
 
 globals_has : (counts : Counts) (k : ℕ) (text : List ℕ) (base : Base) (front inner : List Token)
     → ((other : List Token) → IsBase base (front ++ other) other)
@@ -305,9 +305,9 @@ globals_has counts k text base front inner b h = record {
       inner other (inner ++ other, b (inner ++ other), h.are other);
   fits = record {
     each = tt;
-    functions = λ four. omega arith;
+    functions = λ five. omega arith;
     bytes = h.low;
-    funclets = λ six. omega arith;
+    funclets = λ seven. omega arith;
   };
 }
 
@@ -335,9 +335,9 @@ as_globals text counts base n called ts d rest w h l kind at f =
           let o = f.able text' (alike_inner text text' m.front d ts m.split a) k in
           record {
             more = o.more;
-            has = subst (λ (z : List Token). HasExternalDeclaration counts 6 text' z)
+            has = subst (λ (z : List Token). HasExternalDeclaration counts 7 text' z)
                 (sym (append_append m.front f.front o.more))
-                (globals_has counts 6 text' base m.front (f.front ++ o.more) m.again o.has);
+                (globals_has counts 7 text' base m.front (f.front ++ o.more) m.again o.has);
           };
       further = λ text' k a s e.
           let o = f.further text' k (alike_inner text text' m.front d ts m.split a) s e in

@@ -185,10 +185,10 @@ array_after counts n text inner w h =
           );
       fits = record {
         each = tt;
-        functions = λ four. omega arith;
-        bytes = λ five. no_elements h.base h.pointers counts.bytes w;
+        functions = λ five. omega arith;
+        bytes = λ six. no_elements h.base h.pointers counts.bytes w;
         funclets =
-            λ six. omega arith;
+            λ seven. omega arith;
       };
     }
 

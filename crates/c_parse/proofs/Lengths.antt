@@ -43,20 +43,20 @@ integer_first value p ts b other is s = let (literal_type, (literal_end, literal
     let q = subst (λ (z : List Token). SameFirst z other) literal_split s in
     (q.0, (literal_type, (literal_end, q.1)))
 
-far : (base : Base) (pointers at value p n : ℕ) (text : List ℕ) (ts b : List Token) → 5 ≤ n
+far : (base : Base) (pointers at value p n : ℕ) (text : List ℕ) (ts b : List Token) → 6 ≤ n
     → IsInteger value p ts b → 1048576 < end_of base pointers (Some (length_of p value)) at
     → NoneBracketed base pointers at n text ts
-far base pointers at value p n text ts b five is f l end h s low =
+far base pointers at value p n text ts b six is f l end h s low =
     let q = integer_same value l.value p l.at ts ts b h.0 refl is h.1 in
     let e : end_of base pointers (Some (length_of p value)) at ≡ end_of base pointers (Some l) at =
     ap (λ (v : ℕ). end_of base pointers (Some (length_of p v)) at) q.0 in
-    let a = low five in
+    let a = low six in
     absurd (omega arith)
 
 pub too_long : (text : List ℕ) (base : Base) (pointers at value p : ℕ) (ts b : List Token)
     → at ≤ 1048576 → IsInteger value p ts b
     → 1048576 < end_of base pointers (Some (length_of p value)) at
-    → Failed 5 p (NoneBracketed base pointers at) (HasBracketed base pointers at) text ts
+    → Failed 6 p (NoneBracketed base pointers at) (HasBracketed base pointers at) text ts
 too_long text base pointers at value p ts b w is f =
     let (literal_type, (literal_end, literal_split)) = is in
     let t = token (kinds.Integer value literal_type) p literal_end in record {
@@ -65,7 +65,7 @@ too_long text base pointers at value p ts b w is f =
       split = refl;
       located = sym (ap (λ (z : List Token). place text z) literal_split);
       against = λ text' other a s. let i = integer_first value p ts b other is s in
-          far base pointers at value p 5 text' other i.0 (omega arith) i.1 f;
+          far base pointers at value p 6 text' other i.0 (omega arith) i.1 f;
       able = λ text' a k. record {
         more = digit 0 ∷ punctuator punctuators.CloseBracket ∷ [];
         has = record {
@@ -90,7 +90,7 @@ too_long text base pointers at value p ts b w is f =
             (literal_type, (literal_end, refl)),
             has_it punctuators.CloseBracket other,
           );
-          low = λ five. absurd (omega arith);
+          low = λ six. absurd (omega arith);
         };
       };
     }
@@ -115,7 +115,7 @@ in_close text base pointers at value p ts b is w =
           tree = length_of p value;
           is = λ other. following (λ z. IsBracketed (length_of p value) z other)
               (t ∷ inner) [] other (inner ++ other, (literal_type, (literal_end, refl)), h other);
-          low = λ five. w;
+          low = λ six. w;
         };
       };
     }
@@ -148,7 +148,7 @@ goes_further text base pointers at value p ts b rest is c w z =
           (literal_type, (literal_end, refl)),
           (closing_at, (closing_end, refl)),
         );
-        low = λ five. w;
+        low = λ six. w;
       };
     })
 

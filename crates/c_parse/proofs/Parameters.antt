@@ -140,7 +140,7 @@ ends ts rest end found d h =
 -- ---- refusals
 
 listed_of : (n : ℕ) (text : List ℕ) (ts : List Token) (ps : List Parameter) → 1 ≤ length ps
-    → ((other : List Token) → AreParameters ps (ts ++ other) other) → (3 ≤ n → length ps ≤ 8)
+    → ((other : List Token) → AreParameters ps (ts ++ other) other) → (4 ≤ n → length ps ≤ 8)
     → HasListed n text ts
 listed_of n text ts [] some are few = absurd (omega arith)
 listed_of n text ts (p ∷ ps) some are few = record { first = p; others = ps; are = are; few = few }
@@ -162,7 +162,7 @@ in_first text ts = record {
       are = λ other. following (λ z. AreParameters (h.tree ∷ []) z other) inner (close ∷ []) other
           (close ∷ other, h.is (close ∷ other), has_it punctuators.CloseParenthesis other);
       few =
-          λ three. omega arith;
+          λ four. omega arith;
     };
   };
 }
@@ -170,7 +170,7 @@ in_first text ts = record {
 -- one more after the comma
 one_more : (n : ℕ) (text : List ℕ) (ts rest b inner : List Token) (found : List Parameter)
     (p : Parameter) → (d : Parameters ts found rest) → (k : HasPunctuator punctuators.Comma rest b)
-    → ((other : List Token) → IsParameter p (inner ++ other) other) → (3 ≤ n → length found + 1 ≤ 8)
+    → ((other : List Token) → IsParameter p (inner ++ other) other) → (4 ≤ n → length found + 1 ≤ 8)
     → HasListed n text (d.front ++ token (kinds.Punctuator punctuators.Comma) k.0 k.1.0
     ∷ (inner ++ close ∷ []))
 one_more n text ts rest b inner found p d k is few =
@@ -191,7 +191,7 @@ one_more n text ts rest b inner found p d k is few =
           (is (close ∷ other));
       others = has_it punctuators.CloseParenthesis other;
     })))
-    (λ three. let a = few three in omega arith)
+    (λ four. let a = few four in omega arith)
 
 no_more : (n left : ℕ) (rest b : List Token) → left ≡ 0 → HasPunctuator punctuators.Comma rest b
     → (ps : List Parameter) (end : List Token) → AreMoreParameters ps rest end → length ps ≤ left
@@ -210,11 +210,11 @@ ended ts rest found n text left d low e =
     (subst (λ (z : List Parameter). 1 ≤ length z) (sym (append-nil found)) (omega arith))
     (λ other. following (λ z. AreParameters (found ++ []) z other) d.front (close ∷ []) other
     (d.forward (close ∷ other) [] other (has_it punctuators.CloseParenthesis other)))
-    (λ three. subst (λ (z : List Parameter). length z ≤ 8) (sym (append-nil found)) (omega arith))
+    (λ four. subst (λ (z : List Parameter). length z ≤ 8) (sym (append-nil found)) (omega arith))
 
 pub full : (text : List ℕ) (left : ℕ) (ts rest b : List Token) (found : List Parameter)
     → Parameters ts found rest → left + length found ≡ 8 → left ≡ 0
-    → HasPunctuator punctuators.Comma rest b → Failed 3 (place text rest) NoListed HasListed text ts
+    → HasPunctuator punctuators.Comma rest b → Failed 4 (place text rest) NoListed HasListed text ts
 full text left ts rest b found d e z k =
     let (comma_at, (comma_end, comma_split)) = k in
     let t = token (kinds.Punctuator punctuators.Comma) comma_at comma_end in record {
@@ -228,10 +228,10 @@ full text left ts rest b found d e z k =
           let f = length-append found r.0 in
           let w = few (omega arith) in
           let o = subst (λ (x : List Token). SameFirst x other) comma_split s in
-          no_more 3 left other o.0 z (comma_at, (comma_end, o.1)) r.0 end r.2 (omega arith);
+          no_more 4 left other o.0 z (comma_at, (comma_end, o.1)) r.0 end r.2 (omega arith);
       able = λ text' a k. record {
         more = close ∷ [];
-        has = ended ts rest found 6 text' left d
+        has = ended ts rest found 7 text' left d
             (omega arith) e;
       };
       further = λ text' n a s q. record {
@@ -240,7 +240,7 @@ full text left ts rest b found d e z k =
         more = word ∷ name ∷ close ∷ [];
         is = comma_split;
         has = one_more n text' ts rest b (word ∷ name ∷ []) found int_named d k is_int_named
-            (λ three. absurd (omega arith));
+            (λ four. absurd (omega arith));
       };
     }
 
@@ -265,7 +265,7 @@ in_next text left ts rest b found d e z k =
         more = close ∷ [];
         has = following (λ y. HasListed n text' y) (d.front ++ t ∷ []) inner (close ∷ [])
             (following (λ y. HasListed n text' y) d.front (t ∷ []) (inner ++ close ∷ [])
-            (one_more n text' ts rest b inner found h.tree d k h.is (λ three. grind arith)));
+            (one_more n text' ts rest b inner found h.tree d k h.is (λ four. grind arith)));
       };
     }
 
@@ -287,7 +287,7 @@ in_end text left ts rest found d e low k = record {
         (λ other. following (λ z. AreParameters (found ++ []) z other) (d.front ++ inner) [] other
         (following (λ z. AreParameters (found ++ []) z other) d.front inner other
         (d.forward (inner ++ other) [] other (h other))))
-        (λ three. subst (λ (z : List Parameter). length z ≤ 8) (sym (append-nil found))
+        (λ four. subst (λ (z : List Parameter). length z ≤ 8) (sym (append-nil found))
         (omega arith));
   };
 }
@@ -320,7 +320,7 @@ no_void n text ts [] (t ∷ us) other end p v s f h =
         refl,
       ),
       has_it punctuators.CloseParenthesis [],
-    ) (λ three. omega arith)
+    ) (λ four. omega arith)
 no_void n text ts (t ∷ []) fault other end p v s f h =
     let (mid, (void_at, (void_end, void_split)), closing) = h in
     let e : t ∷ other ≡ token (kinds.Keyword keywords.Void) void_at void_end ∷ mid = void_split in
@@ -368,7 +368,7 @@ all text ts c v kind at f = record {
   against = λ text' other a s. none_at_all kind text' ts f.front f.fault other f.split c v s
       (λ o q. f.against text' o a q);
   able = λ text' a k. let o = f.able text' a k in
-      record { more = o.more; has = widen 6 text' (f.front ++ o.more) o.has };
+      record { more = o.more; has = widen 7 text' (f.front ++ o.more) o.has };
   further = λ text' k a s e. let o = f.further text' k a s e in
       record {
         token = o.token;

@@ -9,9 +9,9 @@ nothing_within : (text : List ℕ) → Within text []
 nothing_within text =
     record {
       each = tt;
-      functions = λ four. omega arith;
-      bytes = λ five. omega arith;
-      numbered = λ six. omega arith;
+      functions = λ five. omega arith;
+      bytes = λ six. omega arith;
+      numbered = λ seven. omega arith;
     }
 
 module _ (text : List ℕ) (ts : List Token) (faultless : HasNoFault text ts) where

@@ -43,15 +43,15 @@ begins text ts counts f b n = record {
   back = λ text' other a xs h. (xs, refl, h);
   within = λ k text' a xs w. record {
     each = w.each;
-    functions = λ four. let o = w.functions four in omega arith;
-    bytes = λ five. subst (λ (z : ℕ). bytes_from xs z ≤ 1048576) b (w.bytes five);
-    numbered = λ six. let u = w.funclets six in omega arith;
+    functions = λ five. let o = w.functions five in omega arith;
+    bytes = λ six. subst (λ (z : ℕ). bytes_from xs z ≤ 1048576) b (w.bytes six);
+    numbered = λ seven. let u = w.funclets seven in omega arith;
   };
   fits = λ k text' a xs w. record {
     each = w.each;
-    functions = λ four. let o = w.functions four in omega arith;
-    bytes = λ five. subst (λ (z : ℕ). bytes_from xs z ≤ 1048576) (sym b) (w.bytes five);
-    funclets = λ six. let u = w.numbered six in omega arith;
+    functions = λ five. let o = w.functions five in omega arith;
+    bytes = λ six. subst (λ (z : ℕ). bytes_from xs z ≤ 1048576) (sym b) (w.bytes six);
+    funclets = λ seven. let u = w.numbered seven in omega arith;
   };
   low = omega arith;
 }
@@ -64,18 +64,18 @@ more : (n : ℕ) (text : List ℕ) (counts less : Counts) (x : ExternalDeclarati
 more n text counts less (Globals b gs) xs t w =
     let p = t.functions in let v = t.funclets in record {
       each = w.each;
-      functions = λ four. let o = w.functions four in omega arith;
-      bytes = λ five. subst (λ (k : ℕ). bytes_from xs k ≤ 1048576) t.bytes (w.bytes five);
-      funclets = λ six. let u = w.funclets six in omega arith;
+      functions = λ five. let o = w.functions five in omega arith;
+      bytes = λ six. subst (λ (k : ℕ). bytes_from xs k ≤ 1048576) t.bytes (w.bytes six);
+      funclets = λ seven. let u = w.funclets seven in omega arith;
     }
 more n text counts less (Function r name ps body) xs t w =
     let p = t.functions in let v = t.funclets in
     let a = length-append (funclets_of_all text body) (funclets_in text xs) in
     let c = length-append (funclets_of_all text body) [] in record {
       each = (function_fewer every_limit n ps body (λ k a b. a) t.each.0, w.each);
-      functions = λ four. let o = w.functions four in omega arith;
-      bytes = λ five. subst (λ (k : ℕ). bytes_from xs k ≤ 1048576) t.bytes (w.bytes five);
-      funclets = λ six. let u = w.funclets six in omega arith;
+      functions = λ five. let o = w.functions five in omega arith;
+      bytes = λ six. subst (λ (k : ℕ). bytes_from xs k ≤ 1048576) t.bytes (w.bytes six);
+      funclets = λ seven. let u = w.funclets seven in omega arith;
     }
 
 fewer : (n : ℕ) (text : List ℕ) (counts less : Counts) (x : ExternalDeclaration)
@@ -84,18 +84,18 @@ fewer : (n : ℕ) (text : List ℕ) (counts less : Counts) (x : ExternalDeclarat
 fewer n text counts less (Globals b gs) xs t w =
     let p = t.functions in let v = t.funclets in record {
       each = w.each;
-      functions = λ four. let o = w.functions four in omega arith;
-      bytes = λ five. subst (λ (k : ℕ). bytes_from xs k ≤ 1048576) (sym t.bytes) (w.bytes five);
-      funclets = λ six. let u = w.funclets six in omega arith;
+      functions = λ five. let o = w.functions five in omega arith;
+      bytes = λ six. subst (λ (k : ℕ). bytes_from xs k ≤ 1048576) (sym t.bytes) (w.bytes six);
+      funclets = λ seven. let u = w.funclets seven in omega arith;
     }
 fewer n text counts less (Function r name ps body) xs t w =
     let p = t.functions in let v = t.funclets in
     let a = length-append (funclets_of_all text body) (funclets_in text xs) in
     let c = length-append (funclets_of_all text body) [] in record {
       each = w.each.1;
-      functions = λ four. let o = w.functions four in omega arith;
-      bytes = λ five. subst (λ (k : ℕ). bytes_from xs k ≤ 1048576) (sym t.bytes) (w.bytes five);
-      funclets = λ six. let u = w.funclets six in omega arith;
+      functions = λ five. let o = w.functions five in omega arith;
+      bytes = λ six. subst (λ (k : ℕ). bytes_from xs k ≤ 1048576) (sym t.bytes) (w.bytes six);
+      funclets = λ seven. let u = w.funclets seven in omega arith;
     }
 
 -- in each text that spells it alike
@@ -196,9 +196,9 @@ within text ts rest found counts d =
     (d.within every_limit text (alike_same text ts) []
     (record {
       each = tt;
-      functions = λ four. omega arith;
-      bytes = λ five. d.low;
-      funclets = λ six. omega arith;
+      functions = λ five. omega arith;
+      bytes = λ six. d.low;
+      funclets = λ seven. omega arith;
     }))
 
 -- ---- refusals
@@ -216,18 +216,18 @@ one : (n : ℕ) (text : List ℕ) (counts : Counts) (x : ExternalDeclaration)
 one n text counts (Globals b gs) xs w =
     let a = bytes_grow xs (end_of_globals b gs counts.bytes) in record {
       each = tt;
-      functions = λ four. omega arith;
-      bytes = λ five. let c = w.bytes five in omega arith;
-      funclets = λ six. omega arith;
+      functions = λ five. omega arith;
+      bytes = λ six. let c = w.bytes six in omega arith;
+      funclets = λ seven. omega arith;
     }
 one n text counts (Function r name ps body) xs w =
     let a = bytes_grow xs counts.bytes in
     let e = length-append (funclets_of_all text body) (funclets_in text xs) in
     let f = length-append (funclets_of_all text body) [] in record {
       each = (w.each.0, tt);
-      functions = λ four. let o = w.functions four in omega arith;
-      bytes = λ five. let c = w.bytes five in omega arith;
-      funclets = λ six. let u = w.funclets six in omega arith;
+      functions = λ five. let o = w.functions five in omega arith;
+      bytes = λ six. let c = w.bytes six in omega arith;
+      funclets = λ seven. let u = w.funclets seven in omega arith;
     }
 
 not_empty : (xs : List Token) (t : Token) (ys : List Token) → xs ++ t ∷ ys ≡ [] → ⊥

@@ -41,7 +41,7 @@ refused_so (Err e) No Has No' Has' text ts ts' w p = placed_so e No Has No' Has'
 -- no phrase continues with the first token of the fault
 pub missing : (No Has : Family) (text : List ℕ) (ts front fault : List Token) → ts ≡ front ++ fault
     → ((text' : List ℕ) (other : List Token) → SameFirst fault other → No 0 text' (front ++ other))
-    → ((text' : List ℕ) → Able Has 6 text' front)
+    → ((text' : List ℕ) → Able Has 7 text' front)
     → Failed 0 (place text fault) No Has text ts
 missing No Has text ts front fault p none able = record {
   front = front;

@@ -11,19 +11,19 @@ use Rattle.c_syntax.specs.declared.expression.Base.{Base}
 use Rattle.c_syntax.specs.declared.expression.Identifier.{Identifier}
 use Rattle.c_syntax.specs.declared.limit.Count.TheVariants.{Parameters, Globals, Funclets}
 use Rattle.c_syntax.specs.declared.limit.TheConstants.{MOST_GLOBALS, MOST_PARAMETERS}
-use Rattle.c_syntax.specs.Expressions.{IsInteger}
 use Rattle.c_syntax.specs.Follow.{Stops}
 use Rattle.c_syntax.specs.Limits.{Number, IsInForce, FunctionWithinFirst, size, elements, aligned}
 use Rattle.c_syntax.specs.Limits.{end_of_globals, funclets_of_all}
 use Rattle.c_syntax.specs.Operators.{postfix, assignment}
 use Rattle.c_syntax.specs.Phrases.{InTurn}
 use Rattle.c_syntax.specs.Program.{Initialiser, Single, Several, Global}
-use Rattle.c_syntax.specs.Programs.{IsConstant, AreConstants, IsInitialiser, IsLength}
+use Rattle.c_syntax.specs.Programs.{IsConstant, AreConstants, IsInitialiser}
 use Rattle.c_syntax.specs.Programs.{AreMoreGlobals, AreGlobals, IsParameter, AreParameters}
 use Rattle.c_syntax.specs.Statement.{Statements}
-use Rattle.c_syntax.specs.Statements.{IsBlock, AreBlockItems}
+use Rattle.c_syntax.specs.Statements.{IsLength, IsBlock, AreBlockItems}
 use Rattle.c_syntax.specs.Tokens.{Phrase, IsPunctuator, IsIdentifier, HasPunctuator, HasKeyword}
 use Rattle.c_syntax.specs.Types.{IsBase, AreStars}
+use Rattle.c_parse_stmt.specs.Parts.{IsBracketed}
 
 -- ---- initialisers
 
@@ -66,10 +66,6 @@ pub record HasInitialiser (n : ℕ) (text : List ℕ) (ts : List Token) : Type 0
 -- where a global ends that is placed after the bytes of others
 abbrev pub end_of : Base → ℕ → Option Length → ℕ → ℕ
 end_of base pointers n at = aligned at (size base pointers) + size base pointers * elements n
-
--- after `[`
-abbrev pub IsBracketed : Length → Phrase
-IsBracketed n = InTurn (IsInteger n.value n.at) (HasPunctuator punctuators.CloseBracket)
 
 abbrev pub NoneBracketed : Base → ℕ → ℕ → ℕ → List ℕ → List Token → Type 0
 NoneBracketed base pointers at n text ts =

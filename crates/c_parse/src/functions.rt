@@ -23,7 +23,7 @@ use c_parse_stmt::statements::items;
 use c_parse_type::front::after;
 use c_parse_type::specifiers::c_type;
 use c_syntax::declaration::Parameter;
-use c_syntax::limit::{Count, MOST_LOCALS, MOST_PARAMETERS, MOST_STATEMENTS};
+use c_syntax::limit::{Count, MOST_ARRAY_BYTES, MOST_LOCALS, MOST_PARAMETERS, MOST_STATEMENTS};
 use c_syntax::statement::Stmt;
 use std::alloc::Global;
 
@@ -147,6 +147,7 @@ pub fn tail<'a>(
     let inner = expect(text, Punctuator::OpenBrace, following)?;
     let left = Left {
         locals: MOST_LOCALS,
+        bytes: MOST_ARRAY_BYTES,
         funclets,
     };
     let (body, left, rest) = items(alloc, text, MOST_STATEMENTS, left, inner)?;

@@ -1,13 +1,15 @@
 //! Globals, and where they lie.
 
-ghost use Rattle.std.specs.Prelude.{◌≡◌, ◌≤◌, ◌<◌, ◌+◌, ◌*◌, Some, IfOk, IfErr, IfSome, IfNone, map};
+ghost use Rattle.std.specs.Prelude.{◌≡◌, ◌≤◌, Some, IfOk, IfErr, map};
 ghost use Rattle.c_syntax.specs.declared.level.TheConstants.{ASSIGNMENT};
 ghost use Rattle.c_syntax.specs.Follow.{Stops};
 ghost use Rattle.c_syntax.specs.Limits as limits;
 ghost use Rattle.c_syntax.specs.Program as trees;
-ghost use Rattle.c_syntax.specs.Programs.{IsLength, IsGlobal, AreGlobals};
+ghost use Rattle.c_syntax.specs.Programs.{IsGlobal, AreGlobals};
+ghost use Rattle.c_syntax.specs.Statements.{IsLength};
 ghost use Rattle.c_syntax.specs.declared.limit.Count.TheVariants as counts;
 ghost use Rattle.c_parse_expr.specs.declared.refusal.ParseErr.TheVariants.{TooMany};
+ghost use Rattle.c_parse_stmt.specs.Parts.{IsBracketed};
 ghost use Rattle.c_parse.specs.Parts as parts;
 ghost use Rattle.c_parse.specs.Refused.{RefusesScalar, RefusesBracketed, RefusesLength, RefusesGlobal, RefusesGlobals};
 
@@ -17,6 +19,7 @@ use c_lex::token::Token;
 use c_parse_atom::operands::{integer, name};
 use c_parse_expr::refusal::{ParseErr, place, unexpected};
 use c_parse_stmt::parts::expect;
+use c_parse_stmt::sizes::{end_of, size_of};
 use c_parse_type::front::after;
 use c_parse_type::specifiers::stars;
 use c_syntax::declaration::{Global, Length};
@@ -24,42 +27,6 @@ use c_syntax::expression::Base;
 use c_syntax::level::POSTFIX;
 use c_syntax::limit::{Count, MOST_GLOBALS};
 use std::alloc::Global as Allocator;
-
-/// How many bytes a type has: those of its base, or 8 of a pointer. `void` has none.
-fn size_of(base: Base, pointers: u64) -> u64
-    ensures size { result ≡ limits.size base pointers }
-    ensures small { result ≤ 8 }
-{
-    match pointers {
-        0 => match base {
-            Base::Void => 0,
-            Base::Char | Base::UnsignedChar => 1,
-            Base::Short | Base::UnsignedShort => 2,
-            Base::Int | Base::Unsigned => 4,
-            Base::LongLong | Base::UnsignedLongLong => 8,
-        },
-        _ => 8,
-    }
-}
-
-/// Where `count` elements of a size end that are placed after `at` bytes, at a multiple of the
-/// size; none where that is too far.
-fn end_of(size: u64, count: u64, at: u64) -> Option<u64>
-    requires size { size ≤ 8 }
-    requires at { at ≤ MOST_GLOBALS }
-    ensures found { IfSome result (λ end. end ≡ limits.aligned at size + size * count) }
-    ensures low { IfSome result (λ end. end ≤ MOST_GLOBALS) }
-    ensures none { IfNone result (MOST_GLOBALS < limits.aligned at size + size * count) }
-{
-    if size == 0 {
-        return Some(at);
-    }
-    let start = (at + (size - 1)) / size * size;
-    if start > MOST_GLOBALS || count > (MOST_GLOBALS - start) / size {
-        return None;
-    }
-    Some(start + size * count)
-}
 
 /// The refusal at a place from which on the program's globals take too many bytes.
 fn too_many_bytes(at: u64) -> ParseErr
@@ -97,7 +64,7 @@ fn bracketed<'a>(
     tokens: &'a [Token],
 ) -> Result<(Length, u64, &'a [Token]), ParseErr>
     requires { bytes ≤ MOST_GLOBALS }
-    ensures found { IfOk result (λ x. parts.IsBracketed x.0 tokens.now x.2.now) }
+    ensures found { IfOk result (λ x. IsBracketed x.0 tokens.now x.2.now) }
     ensures stops { IfOk result (λ x. Stops POSTFIX x.2.now) }
     ensures end { IfOk result (λ x. x.1 ≡ parts.end_of base pointers (Some x.0) bytes) }
     ensures low { IfOk result (λ x. x.1 ≤ MOST_GLOBALS) }
@@ -105,7 +72,12 @@ fn bracketed<'a>(
         RefusesBracketed e base pointers bytes text.now tokens.now) }
 {
     match integer(tokens) {
-        Some((value, at, following)) => match end_of(size_of(base, pointers), value, bytes) {
+        Some((value, at, following)) => match end_of(
+            size_of(base, pointers),
+            value,
+            bytes,
+            MOST_GLOBALS,
+        ) {
             Some(end) => {
                 let rest = expect(text, Punctuator::CloseBracket, following)?;
                 stop(text, POSTFIX, rest)?;
@@ -140,7 +112,7 @@ fn length<'a>(
         }
         None => {
             stop(text, POSTFIX, tokens)?;
-            match end_of(size_of(base, pointers), 1, bytes) {
+            match end_of(size_of(base, pointers), 1, bytes, MOST_GLOBALS) {
                 Some(end) => Ok((None, end, tokens)),
                 None => Err(no_room(text, tokens)),
             }

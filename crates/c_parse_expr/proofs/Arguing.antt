@@ -58,7 +58,7 @@ deep_there text ts c b =
     deep_at (NoArguments 0) (HasArguments 0) text ts [] ts refl
     (λ text' other a s. no_place text' other (firsts.no_punctuator punctuators.CloseParenthesis ts
     other s c))
-    (λ text' a k. record { more = close ∷ []; has = has_none 0 6 text' })
+    (λ text' a k. record { more = close ∷ []; has = has_none 0 7 text' })
     (λ text' a k.
     let o = b text' k in
     record {
@@ -83,7 +83,7 @@ pub none_there : (text : List ℕ) (ts : List Token)
 none_there text ts c b =
     unexpected_at (NoArguments 0) (HasArguments 0) text ts [] ts refl
     (λ text' other a s. no_argument text' 0 0 ts other s c b)
-    (λ text' a k. record { more = close ∷ []; has = has_none 0 6 text' })
+    (λ text' a k. record { more = close ∷ []; has = has_none 0 7 text' })
 
 -- ---- after others
 

@@ -303,7 +303,7 @@ no_operand_there l room s at text ts rest h x =
     no_operator text' 0 l room s at other g.0 (h.0, g.1) (λ e. x (Parenthesis e))
     (none_of (increment_of s) (λ op e. x (Steps op e)))
     (none_of (unary_of s) (λ op e. x (Operates op e))))
-    (λ text' q k. record { more = one ∷ []; has = has_one l room 6 text' })
+    (λ text' q k. record { more = one ∷ []; has = has_one l room 7 text' })
 
 abbrev pub shortest : (s : Punctuator) → BeginsOperand s → List Token
 shortest s (Parenthesis e) = one ∷ punctuator_token punctuators.CloseParenthesis ∷ []
@@ -343,7 +343,7 @@ no_room_there l s at text ts rest p h o =
     deep_at (NoOperand l 0) (HasExpression l 0) text ts [] ts refl
     (λ text' other q f. let g = subst (λ (z : List Token). SameFirst z other) h.1 f in
     no_room text' l s at other g.0 (h.0, g.1))
-    (λ text' q k. record { more = one ∷ []; has = has_one l 0 6 text' })
+    (λ text' q k. record { more = one ∷ []; has = has_one l 0 7 text' })
     (λ text' q k. record {
       token = token (kinds.Punctuator s) at h.0;
       rest = rest;

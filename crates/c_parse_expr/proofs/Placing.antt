@@ -31,7 +31,7 @@ pub unexpected_at : (No Has : Family) (text : List ℕ) (ts front fault : List T
     → ts ≡ front ++ fault
     → ((text' : List ℕ) (other : List Token) → Alike text text' ts → SameFirst fault other
     → No 0 text' (front ++ other))
-    → ((text' : List ℕ) → Alike text text' ts → Speaks text' → Able Has 6 text' front)
+    → ((text' : List ℕ) → Alike text text' ts → Speaks text' → Able Has 7 text' front)
     → Failed 0 (place text fault) No Has text ts
 unexpected_at No Has text ts front fault p f g = record {
   front = front;
@@ -46,7 +46,7 @@ unexpected_at No Has text ts front fault p f g = record {
 pub deep_at : (No Has : Family) (text : List ℕ) (ts front fault : List Token) → ts ≡ front ++ fault
     → ((text' : List ℕ) (other : List Token) → Alike text text' ts → SameFirst fault other
     → No 1 text' (front ++ other))
-    → ((text' : List ℕ) → Alike text text' ts → Speaks text' → Able Has 6 text' front)
+    → ((text' : List ℕ) → Alike text text' ts → Speaks text' → Able Has 7 text' front)
     → ((text' : List ℕ) → Alike text text' ts → Speaks text' → Onward Has 0 text' front fault)
     → Failed 1 (place text fault) No Has text ts
 deep_at No Has text ts front fault p f g h = record {

@@ -358,7 +358,7 @@ is_alone : (room : ℕ) (e : Expression) (l : ℕ) (text : List ℕ) (ts : List 
     → Failed 0 (place text ts) (NoStep room e) (HasStep room e l) text ts
 is_alone room e l text ts n =
     unexpected_at (NoStep room e) (HasStep room e l) text ts [] ts refl
-    (λ text' other a s. n other s text') (λ text' a k. able_now (HasStep room e l) 6 text' []
+    (λ text' other a s. n other s text') (λ text' a k. able_now (HasStep room e l) 7 text' []
     (inl refl))
 
 pub signless : (room : ℕ) (e : Expression) (l : ℕ) (text : List ℕ) (ts : List Token)
@@ -398,7 +398,7 @@ pub high_there : (room : ℕ) (e : Expression) (punctuator' : Punctuator) (o : O
 high_there room e punctuator' o at text ts rest h p fits high =
     deep_at (NoStep room e) (HasStep room e (follows ts)) text ts [] ts refl
     (λ text' other a s. too_high text' room e other high)
-    (λ text' a k. able_now (HasStep room e (follows ts)) 6 text' [] (inl refl))
+    (λ text' a k. able_now (HasStep room e (follows ts)) 7 text' [] (inl refl))
     (λ text' a k. record {
       token = token (kinds.Punctuator punctuator') at h.0;
       rest = rest;

@@ -82,7 +82,7 @@ atom_lacks text t mid ts y e rest h =
     absurd (omega arith)
 
 pub has_filter : (text : List ℕ) (ts : List Token) (e : Expression) → IsCondition text e ts []
-    → height e ≤ 64 → accepts text e ≡ true → HasFilter 0 6 text ts
+    → height e ≤ 64 → accepts text e ≡ true → HasFilter 0 7 text ts
 has_filter text ts e h low y =
     let m = condition e text ts [] h in
     let p : ts ≡ m.front = m.split ∙ append-nil m.front in
@@ -94,7 +94,7 @@ has_filter text ts e h low y =
       count = λ k. let q = ap numbers_of y in omega arith;
     }
 
-from_condition : (text : List ℕ) (ts : List Token) → HasCondition 1 text ts → HasFilter 0 5 text ts
+from_condition : (text : List ℕ) (ts : List Token) → HasCondition 1 text ts → HasFilter 0 6 text ts
 from_condition text ts c = record {
   tree = c.tree;
   is = c.is;
@@ -102,9 +102,9 @@ from_condition text ts c = record {
   count = λ k. absurd (omega arith);
 }
 
-onward : (text : List ℕ) (before fault rest : List Token) (t : Token) (k : ℕ) → 6 ≡ suc k
+onward : (text : List ℕ) (before fault rest : List Token) (t : Token) (k : ℕ) → 7 ≡ suc k
     → fault ≡ t ∷ rest → Continued text before t → Onward (HasFilter 0) k text before fault
-onward text before fault rest t k e is c = let z : 5 ≡ k = omega arith in
+onward text before fault rest t k e is c = let z : 6 ≡ k = omega arith in
     subst (λ n. Onward (HasFilter 0) n text before fault) z
     (record {
       token = t;
@@ -166,7 +166,7 @@ closing_alone n text ts rest h =
     (m.again text [] (alike_same text ts))
 
 able_inside : (n : ℕ) (text : List ℕ) (before : List Token) → 1 ≤ n → n ≤ 65
-    → AreOpening n before [] → Able (HasFilter 0) 6 text before
+    → AreOpening n before [] → Able (HasFilter 0) 7 text before
 able_inside zero text before l k h = absurd (omega arith)
 able_inside (suc n) text before l k h =
     let x = enclosed n text (Constant 0 (literals.Integer 1 integers.Int))
@@ -194,7 +194,7 @@ refuses_first text text' (u ∷ us) other a same no_one t rest e y =
     ∙ ap (λ (z : Token). accepts_alone text' z) (sym p) ∙ y)
 
 none_accepts : (n : ℕ) (text : List ℕ) (ts rest : List Token) → n ≤ 65 → AreOpening n ts rest
-    → (n < 65 → Lacks punctuators.OpenParenthesis rest) → Refuses text rest → NoFilter 0 6 text ts
+    → (n < 65 → Lacks punctuators.OpenParenthesis rest) → Refuses text rest → NoFilter 0 7 text ts
 none_accepts n text ts rest k h lacks no_one f end c low count =
     let y = accepted (accepts text f) (count (omega arith)) in
     let x = shape text f c.after_opening c.after_inner y c.inner.spells in
@@ -207,7 +207,7 @@ none_accepts n text ts rest k h lacks no_one f end c low count =
 
 pub continues_inside : (n : ℕ) (text : List ℕ) (ts rest : List Token) → 1 ≤ n → n ≤ 65
     → AreOpening n ts rest → (n < 65 → Lacks punctuators.OpenParenthesis rest) → Refuses text rest
-    → ContinuesInside n rest → Failed 6 (place text rest) (NoFilter 0) (HasFilter 0) text ts
+    → ContinuesInside n rest → Failed 7 (place text rest) (NoFilter 0) (HasFilter 0) text ts
 continues_inside n text ts rest l k h lacks no_one g =
     let m = opening_moves n text ts rest h in
     let o = opening_alone n text ts rest h in
@@ -240,7 +240,7 @@ departs_inside n text ts rest l k h g =
 
 able_after : (n c : ℕ) (text : List ℕ) (t : Token) (before middle : List Token) → c < n → n ≤ 65
     → AreOpening n before [] → accepts_alone text t ≡ true → AreClosing c middle []
-    → Able (HasFilter 0) 6 text (before ++ t ∷ middle)
+    → Able (HasFilter 0) 7 text (before ++ t ∷ middle)
 able_after zero c text t before middle l k h y g = absurd (omega arith)
 able_after (suc n) c text t before middle l k h y g =
     let e = atom text t y in
@@ -254,14 +254,14 @@ able_after (suc n) c text t before middle l k h y g =
     let w = e.low in
     record {
       more = more;
-      has = subst (λ (u : List Token). HasFilter 0 6 text u)
+      has = subst (λ (u : List Token). HasFilter 0 7 text u)
           (sym (append_assoc before (t ∷ middle) more))
           (has_filter text (before ++ t ∷ v) x.tree x.is (omega arith) (x.same text ∙ e.yes));
     }
 
 none_closes : (n c : ℕ) (text : List ℕ) (t : Token) (ts mid following rest : List Token) → c < n
     → n ≤ 65 → AreOpening n ts mid → mid ≡ t ∷ following → accepts_alone text t ≡ true
-    → AreClosing c following rest → Lacks punctuators.CloseParenthesis rest → NoFilter 0 6 text ts
+    → AreClosing c following rest → Lacks punctuators.CloseParenthesis rest → NoFilter 0 7 text ts
 none_closes n c text t ts mid following rest l k h is good g lacks f end d low count =
     let y = accepted (accepts text f) (count (omega arith)) in
     let x = shape text f d.after_opening d.after_inner y d.inner.spells in
@@ -304,17 +304,17 @@ parts n c text t ts mid following rest h is good g =
 
 against_after : (n c : ℕ) (text : List ℕ) (t : Token) (before middle other : List Token) → c < n
     → n ≤ 65 → AreOpening n before [] → accepts_alone text t ≡ true → AreClosing c middle []
-    → Lacks punctuators.CloseParenthesis other → NoFilter 0 6 text ((before ++ t ∷ middle) ++ other)
+    → Lacks punctuators.CloseParenthesis other → NoFilter 0 7 text ((before ++ t ∷ middle) ++ other)
 against_after n c text t before middle other l k o good u lacks =
     let v = t ∷ (middle ++ other) in
-    subst (λ (z : List Token). NoFilter 0 6 text z) (sym (append_assoc before (t ∷ middle) other))
+    subst (λ (z : List Token). NoFilter 0 7 text z) (sym (append_assoc before (t ∷ middle) other))
     (none_closes n c text t (before ++ v) v (middle ++ other) other l k
     (opening_again n before v o) refl good (closing_again c middle other u) lacks)
 
 pub failed_after : (n c : ℕ) (text : List ℕ) (t : Token) (ts mid following rest : List Token)
     → c < n → n ≤ 65 → AreOpening n ts mid → mid ≡ t ∷ following → accepts_alone text t ≡ true
     → AreClosing c following rest → Lacks punctuators.CloseParenthesis rest
-    → ContinuesAfter n c t rest → Failed 6 (place text rest) (NoFilter 0) (HasFilter 0) text ts
+    → ContinuesAfter n c t rest → Failed 7 (place text rest) (NoFilter 0) (HasFilter 0) text ts
 failed_after n c text t ts mid following rest l k h is good g lacks f =
     let x = parts n c text t ts mid following rest h is good g in
     record {
@@ -348,7 +348,7 @@ departs_after n c text t ts mid following rest l k h is good g f =
 -- as many closing ones: such a filter is there
 pub whole : (n : ℕ) (text : List ℕ) (t : Token) (ts mid following rest : List Token) → 1 ≤ n
     → n ≤ 65 → AreOpening n ts mid → mid ≡ t ∷ following → accepts_alone text t ≡ true
-    → AreClosing n following rest → NoFilter 0 6 text ts → ⊥
+    → AreClosing n following rest → NoFilter 0 7 text ts → ⊥
 whole zero text t ts mid following rest l k h is good g none = absurd (omega arith)
 whole (suc n) text t ts mid following rest l k h is good g none =
     let e = atom text t good in

@@ -34,7 +34,7 @@ in_filter text funclets ts some = record {
 
 -- the filter that is there has one
 pub no_other : (text : List ℕ) (e : Expression) (ts rest : List Token) → IsCondition text e ts rest
-    → accepts text e ≡ false → NoFilter 0 6 text ts
+    → accepts text e ≡ false → NoFilter 0 7 text ts
 no_other text e ts rest is no_one f end h low n =
     let u = condition text e f ts ts rest end refl is h in
     let a : numbers_of (accepts text f) ≡ 1 = ap (λ (x : Expression). numbers_of (accepts text x))
@@ -44,13 +44,13 @@ no_other text e ts rest is no_one f end h low n =
 
 -- or none does
 failed_none : (kind at : ℕ) (text : List ℕ) (ts : List Token)
-    → Failed kind at NoCondition HasCondition text ts → NoFilter 0 6 text ts
+    → Failed kind at NoCondition HasCondition text ts → NoFilter 0 7 text ts
 failed_none kind at text ts d f end h low count =
     d.against text d.fault (alike_same text ts) (first_same d.fault) f end
     (subst (λ (z : List Token). IsCondition text f z end) d.split h) (λ k. low (omega arith))
 
 pub placed_none : (e : ParseErr) (text : List ℕ) (ts : List Token) → (e ≡ Memory → ⊥)
-    → IsPlacedRefusal e NoCondition HasCondition text ts → NoFilter 0 6 text ts
+    → IsPlacedRefusal e NoCondition HasCondition text ts → NoFilter 0 7 text ts
 placed_none (Unexpected at) text ts m d = failed_none 0 at text ts d
 placed_none (TooDeep at) text ts m d = failed_none 1 at text ts d
 placed_none (TooMany at what) text ts m d = failed_none (order (Number what)) at text ts d
@@ -92,9 +92,9 @@ cut (x ∷ xs) (y ∷ ys) us vs e =
 stay_able : (kind at : ℕ) (text : List ℕ) (ts rest : List Token)
     (f : Failed kind at NoCondition HasCondition text ts) (d : Departs text ts rest)
     (text' : List ℕ) → Alike text text' ts → Speaks text' → Cut f.front d.front f.fault rest
-    → Able (HasFilter 0) 6 text' f.front
+    → Able (HasFilter 0) 7 text' f.front
 stay_able kind at text ts rest f d text' a s (same p) = subst
-    (λ (z : List Token). Able (HasFilter 0) 6 text' z) (sym p) (d.able text' a s)
+    (λ (z : List Token). Able (HasFilter 0) 7 text' z) (sym p) (d.able text' a s)
 stay_able kind at text ts rest f d text' a s (later z zs p q) =
     let x = d.able text' a s in
     let other = z ∷ (zs ++ x.more) in
@@ -118,7 +118,7 @@ stay_able kind at text ts rest f d text' a s (sooner z zs p q) =
     (λ (w : List Token). IsCondition text' x.has.tree w []) e (x.has.is []))
     (λ k. x.has.low (omega arith)))
 
-stays : (kind at : ℕ) (text : List ℕ) (ts rest : List Token) → kind ≤ 6 → Departs text ts rest
+stays : (kind at : ℕ) (text : List ℕ) (ts rest : List Token) → kind ≤ 7 → Departs text ts rest
     → Failed kind at NoCondition HasCondition text ts
     → Failed kind at (NoFilter 0) (HasFilter 0) text ts
 stays kind at text ts rest l d f = record {
@@ -145,7 +145,7 @@ stays kind at text ts rest l d f = record {
       };
 }
 
-number_low : (what : Count) → order (Number what) ≤ 6
+number_low : (what : Count) → order (Number what) ≤ 7
 number_low Locals = omega arith
 number_low what = omega arith
 

@@ -1,6 +1,6 @@
 -- Failures in the parentheses of a `for`, and in expression statements.
 use Rattle.std.proofs.Common.{◌≡◌, ◌≤◌, ◌+◌, ◌++◌, ℕ, List, [], ◌∷◌, Option, None, refl, sym, subst, arith}
-use Rattle.c_parse_stmt.specs.Words.{Keyword, Punctuator, Token, Expression, Wraps, height_of, height_of_for_initialiser, locals_of_for_initialiser, ForInitialiser, Evaluating, Evaluate, For, IsUpTo, IsForInitialiser, token, IsKeyword, HasPunctuator, HasKeyword, Left, NoPunctuator, APunctuator, NoneUpTo, HasUpTo, NoForInitialiser, HasForInitialiser, NoStatement, HasStatement, NoEvaluation, HasEvaluation}
+use Rattle.c_parse_stmt.specs.Words.{Keyword, Punctuator, Token, Expression, Wraps, height_of, height_of_for_initialiser, locals_of_for_initialiser, ForInitialiser, Evaluating, Evaluate, For, IsUpTo, IsForInitialiser, token, IsKeyword, HasPunctuator, HasKeyword, Left, NoPunctuator, APunctuator, NoneUpTo, HasUpTo, NoForInitialiser, HasForInitialiser, NoStatement, HasStatement, NoEvaluation, HasEvaluation, bytes_so_far, end_of_for_initialiser}
 use Rattle.c_lex.specs.declared.keyword.Keyword.TheVariants as keywords
 use Rattle.c_lex.specs.declared.punctuator.Punctuator.TheVariants as punctuators
 use Rattle.c_lex.specs.declared.token.Kind.TheVariants as kinds
@@ -38,6 +38,7 @@ for_open room at left text ts a o k =
           statements = λ i. omega arith;
           expressions = λ i. omega arith;
           locals = λ i. omega arith;
+          bytes = λ i. omega arith;
           funclets = λ i. omega arith;
         };
       };
@@ -79,10 +80,10 @@ for_condition_moves at f c text ts a b d g k o h u = both_moves (ForFirst at f)
 
 pub for_initialiser : (room at : ℕ) (left : Left) (text : List ℕ) (ts a b : List Token) → 1 ≤ room
     → IsKeyword keywords.For at ts a → HasPunctuator punctuators.OpenParenthesis a b
-    → Wraps (NoForInitialiser left.locals) (HasForInitialiser left.locals) (NoStatement room left)
+    → Wraps (NoForInitialiser left) (HasForInitialiser left) (NoStatement room left)
     (HasStatement room left) text b ts
 for_initialiser room at left text ts a b o k s =
-    wraps (ForOpen at) (NoForInitialiser left.locals) (HasForInitialiser left.locals)
+    wraps (ForOpen at) (NoForInitialiser left) (HasForInitialiser left)
     (NoStatement room left) (HasStatement room left) text ts b (for_open_moves at text ts a b k s)
     (λ n text' all other h e r none. no_for_initialiser n text' room at left r.mid other r.second
     none all r.first)
@@ -104,6 +105,7 @@ for_initialiser room at left text ts a b o k s =
           expressions = λ i. let b = has.low i in
               omega arith;
           locals = λ i. let b = has.count i in omega arith;
+          bytes = has.bytes;
           funclets = λ i. omega arith;
         };
       };
@@ -112,23 +114,31 @@ for_initialiser room at left text ts a b o k s =
 started : (at : ℕ) (text : List ℕ) (left mid : Left) (f : ForInitialiser) (ts rest : List Token)
     (r : ForFirst at f text ts rest) → height_of_for_initialiser f ≤ 64
     → mid.locals + locals_of_for_initialiser f ≡ left.locals → mid.funclets ≡ left.funclets
+    → bytes_so_far mid.bytes ≡ end_of_for_initialiser f (bytes_so_far left.bytes)
     → Started text left mid f r.first.mid r.mid rest
-started at text left mid f ts rest r low l m =
-    record { opens = r.first.second; is = r.second; low = low; locals = l; funclets = m }
+started at text left mid f ts rest r low l m ends = record {
+  opens = r.first.second;
+  is = r.second;
+  low = low;
+  locals = l;
+  bytes = ends;
+  funclets = m;
+}
 
 pub for_condition : (room at : ℕ) (left mid : Left) (f : ForInitialiser) (text : List ℕ)
     (ts a b d : List Token) → 1 ≤ room → IsKeyword keywords.For at ts a
     → HasPunctuator punctuators.OpenParenthesis a b → IsForInitialiser text f b d
     → height_of_for_initialiser f ≤ 64 → mid.locals + locals_of_for_initialiser f ≡ left.locals
-    → mid.funclets ≡ left.funclets →
+    → mid.funclets ≡ left.funclets
+    → bytes_so_far mid.bytes ≡ end_of_for_initialiser f (bytes_so_far left.bytes) →
     Wraps (NoneUpTo punctuators.Semicolon 1) (HasUpTo punctuators.Semicolon 1)
     (NoStatement room left) (HasStatement room left) text d ts
-for_condition room at left mid f text ts a b d o k s u low l m =
+for_condition room at left mid f text ts a b d o k s u low l m ends =
     wraps (ForFirst at f) (NoneUpTo punctuators.Semicolon 1) (HasUpTo punctuators.Semicolon 1)
     (NoStatement room left) (HasStatement room left) text ts d
     (for_first_moves at f text ts a b d k s u)
     (λ n text' all other h e r none. no_for_condition n text' room at left mid f r.first.mid r.mid
-    other (started at text' left mid f all other r low l m) none all r.first.first)
+    other (started at text' left mid f all other r low l m ends) none all r.first.first)
     (λ n text' front inner h r has. record {
       more = for3;
       has = record {
@@ -147,6 +157,7 @@ for_condition room at left mid f text ts a b d o k s u low l m =
           expressions = λ i. let b = has.low i in
               omega arith;
           locals = λ i. omega arith;
+          bytes = λ i. omega arith;
           funclets = λ i. omega arith;
         };
       };
@@ -156,16 +167,18 @@ pub for_next : (room at : ℕ) (left mid : Left) (f : ForInitialiser) (c : Optio
     (text : List ℕ) (ts a b d g : List Token) → 1 ≤ room → IsKeyword keywords.For at ts a
     → HasPunctuator punctuators.OpenParenthesis a b → IsForInitialiser text f b d
     → height_of_for_initialiser f ≤ 64 → mid.locals + locals_of_for_initialiser f ≡ left.locals
-    → mid.funclets ≡ left.funclets → IsUpTo text punctuators.Semicolon c d g → height_of c ≤ 64 →
+    → mid.funclets ≡ left.funclets
+    → bytes_so_far mid.bytes ≡ end_of_for_initialiser f (bytes_so_far left.bytes)
+    → IsUpTo text punctuators.Semicolon c d g → height_of c ≤ 64 →
     Wraps (NoneUpTo punctuators.CloseParenthesis 1) (HasUpTo punctuators.CloseParenthesis 1)
     (NoStatement room left) (HasStatement room left) text g ts
-for_next room at left mid f c text ts a b d g o k s u low l m v low' =
+for_next room at left mid f c text ts a b d g o k s u low l m ends v low' =
     wraps (ForCondition at f c) (NoneUpTo punctuators.CloseParenthesis 1)
     (HasUpTo punctuators.CloseParenthesis 1) (NoStatement room left) (HasStatement room left) text
     ts g (for_condition_moves at f c text ts a b d g k s u v)
     (λ n text' all other h e r none. no_for_next n text' room at left mid f c r.first.first.mid
-    r.first.mid r.mid other (started at text' left mid f all r.mid r.first low l m) r.second none
-    all r.first.first.first)
+    r.first.mid r.mid other (started at text' left mid f all r.mid r.first low l m ends) r.second
+    none all r.first.first.first)
     (λ n text' front inner h r has. record {
       more = semicolon;
       has = record {
@@ -185,6 +198,7 @@ for_next room at left mid f c text ts a b d g o k s u low l m v low' =
           expressions = λ i. let b = has.low i in
               omega arith;
           locals = λ i. omega arith;
+          bytes = λ i. omega arith;
           funclets = λ i. omega arith;
         };
       };
@@ -207,6 +221,7 @@ evaluation room left text ts = record {
           statements = has.over;
           expressions = has.low;
           locals = λ i. omega arith;
+          bytes = λ i. omega arith;
           funclets = λ i. omega arith;
         };
       });

@@ -49,6 +49,7 @@ guard_able zero left n text body front h w r = record {
       statements = λ i. let a = w.statements i in omega arith;
       expressions = λ i. let a = w.expressions i in omega arith;
       locals = λ i. let a = w.locals i in omega arith;
+      bytes = w.bytes;
       funclets = λ i. let b = bare text body (w.statements (omega arith)) in
           omega (arith, length-append {A = ℕ});
     };
@@ -66,6 +67,7 @@ guard_able (suc room) left n text body front h w r = record {
       statements = λ i. let a = w.statements i in omega arith;
       expressions = λ i. let a = w.expressions i in omega arith;
       locals = λ i. let a = w.locals i in omega arith;
+      bytes = w.bytes;
       funclets = λ i. let a = w.funclets i in omega (arith, length-append {A = ℕ});
     };
   };
@@ -94,6 +96,7 @@ try_open room at left text ts a o k =
       statements = λ i. omega arith;
       expressions = λ i. omega arith;
       locals = λ i. omega arith;
+      bytes = λ i. omega arith;
       funclets = λ i. omega arith;
     })
     (both_fixed Tries (Items Empty) text' front brace
@@ -132,17 +135,19 @@ taken_moved room whole left body text text' ts rest h g =
       statements = t.statements;
       expressions = t.expressions;
       locals = t.locals;
+      bytes = t.bytes;
       funclets = omega arith;
     }
 
 pub all_within : (n room : ℕ) (whole left : Left) (body : Statements) (text : List ℕ)
     → AllTaken text room whole left body → AllWithin n text room whole body
 all_within n room whole left body text t =
-    let l = t.locals in let f = t.funclets in
+    let l = t.locals in let f = t.funclets in let b = t.bytes in
     record {
       statements = λ i. t.statements;
       expressions = λ i. t.expressions;
       locals = λ i. omega arith;
+      bytes = λ i. omega arith;
       funclets = λ i. omega arith;
     }
 
@@ -168,7 +173,7 @@ unguarded_fails room whole left body text ts rest g x y =
     (λ text' all other h e r. unguarded 0 text' room r.first.1.0 whole body r.first.0 other
     (braced body text' all other r) (no_keyword keywords.Except rest other e x)
     (no_keyword keywords.Finally rest other e y) all r.first.1.1)
-    (λ text' front h r. guard_stays 6 room whole left body text text' ts rest front h g r)
+    (λ text' front h r. guard_stays 7 room whole left body text text' ts rest front h g r)
     (λ text' k front h r e. absurd (omega arith))
 
 pub except_too_deep : (room at : ℕ) (whole left : Left) (body : Statements) (text : List ℕ)
@@ -183,7 +188,7 @@ except_too_deep room at whole left body text ts rest j z g key =
     (λ text' all other h e r. let q = first_kind (kinds.Keyword keywords.Except) at rest other j e
     key in no_except_room 1 text' room r.first.1.0 at whole body r.first.0 other q.0 (omega arith)
     z (braced body text' all other r) q.1 all r.first.1.1)
-    (λ text' front h r. guard_stays 6 room whole left body text text' ts rest front h g r)
+    (λ text' front h r. guard_stays 7 room whole left body text text' ts rest front h g r)
     (λ text' k front h r e. record {
       token = token (kinds.Keyword keywords.Except) at key.0;
       rest = j;
@@ -201,6 +206,7 @@ except_too_deep room at whole left body text ts rest j z g key =
           statements = λ i. omega arith;
           expressions = λ i. omega arith;
           locals = λ i. omega arith;
+          bytes = λ i. omega arith;
           funclets = λ i. omega arith;
         };
       };
@@ -208,18 +214,18 @@ except_too_deep room at whole left body text ts rest j z g key =
 
 pub finally_too_many : (room at : ℕ) (whole left : Left) (body : Statements) (text : List ℕ)
     (ts rest j : List Token) → left.funclets ≡ 0 → Guards text room whole left body ts rest
-    → IsKeyword keywords.Finally at rest j → Failed 6 at (NoStatement room whole)
+    → IsKeyword keywords.Finally at rest j → Failed 7 at (NoStatement room whole)
     (HasStatement room whole) text ts
 finally_too_many room at whole left body text ts rest j z g key =
-    subst (λ (x : ℕ). Failed 6 x (NoStatement room whole) (HasStatement room whole) text ts)
+    subst (λ (x : ℕ). Failed 7 x (NoStatement room whole) (HasStatement room whole) text ts)
     (sym (kind_place (kinds.Keyword keywords.Finally) at text rest j key))
-    (failed (Guard body) 6 (NoStatement room whole) (HasStatement room whole) text ts rest
+    (failed (Guard body) 7 (NoStatement room whole) (HasStatement room whole) text ts rest
     (guard_moves room whole left body text ts rest g)
     (λ text' all other h e r. let q = first_kind (kinds.Keyword keywords.Finally) at rest other j e
-    key in no_finally_left 6 text' room r.first.1.0 at whole left body r.first.0 other q.0
+    key in no_finally_left 7 text' room r.first.1.0 at whole left body r.first.0 other q.0
     (braced body text' all other r) (taken_moved room whole left body text text' ts rest h g) q.1
     (omega arith) z all r.first.1.1)
-    (λ text' front h r. guard_stays 6 room whole left body text text' ts rest front h g r)
+    (λ text' front h r. guard_stays 7 room whole left body text text' ts rest front h g r)
     (λ text' k front h r e. let w = all_within k room whole left body text'
     (taken_moved room whole left body text text' ts rest h g) in
     record {
@@ -239,6 +245,7 @@ finally_too_many room at whole left body text ts rest j z g key =
           statements = λ i. let a = w.statements i in omega arith;
           expressions = λ i. let a = w.expressions i in omega arith;
           locals = λ i. let a = w.locals i in omega arith;
+          bytes = w.bytes;
           funclets = λ i. omega arith;
         };
       };
@@ -324,6 +331,7 @@ filter_fails room at whole left body text ts rest j o g k =
               statements = λ i. let a = w.statements i in omega arith;
               expressions = λ i. let a = w.expressions i in let b = has.low i in omega arith;
               locals = λ i. let a = w.locals i in omega arith;
+              bytes = w.bytes;
               funclets = λ i. let a = t.funclets in let b = has.count i in
                   let c = number_length (accepts text' has.tree) at in
                   omega (arith, length-append {A = ℕ});
@@ -334,10 +342,11 @@ filter_fails room at whole left body text ts rest j o g k =
 pub except_open : (room at : ℕ) (whole left next : Left) (body : Statements) (f : Expression)
     (text : List ℕ) (ts rest j c : List Token) → 1 ≤ room → Guards text room whole left body ts rest
     → IsKeyword keywords.Except at rest j → IsCondition text f j c → height f ≤ 64
-    → next.funclets + numbers_of (accepts text f) ≡ left.funclets → next.locals ≡ left.locals →
+    → next.funclets + numbers_of (accepts text f) ≡ left.funclets → next.locals ≡ left.locals
+    → next.bytes ≡ left.bytes →
     Wraps (NoPunctuator punctuators.OpenBrace) (APunctuator punctuators.OpenBrace)
     (NoStatement room whole) (HasStatement room whole) text c ts
-except_open room at whole left next body f text ts rest j c o g k is low fu lo =
+except_open room at whole left next body f text ts rest j c o g k is low fu lo ends =
     wraps (Filtering body at f) (NoPunctuator punctuators.OpenBrace)
     (APunctuator punctuators.OpenBrace) (NoStatement room whole) (HasStatement room whole) text ts
     c (filtering_moves room at whole left body f text ts rest j c g k is)
@@ -346,7 +355,7 @@ except_open room at whole left next body f text ts rest j c o g k is low fu lo =
     no_handler n text' room x.first.1.0 at whole left next body f x.first.0 r.first.mid r.mid other
     (braced body text' all r.first.mid x) (taken_moved room whole left body text text' ts rest h
     g) r.first.second r.second
-    (filter_moved room at whole left next body f text text' ts rest j c h g k is fu) lo
+    (filter_moved room at whole left next body f text text' ts rest j c h g k is fu) lo ends
     (no_open room next n text' other none) all x.first.1.1)
     (λ n text' front inner h r has. record {
       more = brace;
@@ -368,6 +377,7 @@ except_open room at whole left next body f text ts rest j c o g k is low fu lo =
               statements = λ i. let a = w.statements i in omega arith;
               expressions = λ i. let a = w.expressions i in omega arith;
               locals = λ i. let a = w.locals i in omega arith;
+              bytes = w.bytes;
               funclets = λ i. let a = t.funclets in let d = number_length (accepts text' f) at in
                   omega (arith, length-append {A = ℕ});
             };
@@ -392,10 +402,10 @@ finished_so body at last text ts rest c w end o i = finished body last at text t
 pub finally_open : (room at : ℕ) (whole left next : Left) (body : Statements) (text : List ℕ)
     (ts rest j : List Token) → Guards text room whole left body ts rest
     → IsKeyword keywords.Finally at rest j → next.funclets + 1 ≡ left.funclets
-    → next.locals ≡ left.locals →
+    → next.locals ≡ left.locals → next.bytes ≡ left.bytes →
     Wraps (NoPunctuator punctuators.OpenBrace) (APunctuator punctuators.OpenBrace)
     (NoStatement room whole) (HasStatement room whole) text j ts
-finally_open room at whole left next body text ts rest j g k fu lo =
+finally_open room at whole left next body text ts rest j g k fu lo ends =
     wraps (Finishing body at) (NoPunctuator punctuators.OpenBrace)
     (APunctuator punctuators.OpenBrace) (NoStatement room whole) (HasStatement room whole) text ts
     j (both_moves (Guard body) (Key keywords.Finally at) text ts rest j
@@ -403,7 +413,7 @@ finally_open room at whole left next body text ts rest j g k fu lo =
     (key_moves keywords.Finally at text rest j k))
     (λ n text' all other h e r none. no_last n text' room r.first.first.1.0 at whole left next body
     r.first.first.0 r.mid other (braced body text' all r.mid r.first)
-    (taken_moved room whole left body text text' ts rest h g) r.second fu lo
+    (taken_moved room whole left body text text' ts rest h g) r.second fu lo ends
     (no_open room next n text' other none) all r.first.first.1.1)
     (λ n text' front inner h r has. record {
       more = brace;
@@ -424,6 +434,7 @@ finally_open room at whole left next body text ts rest j g k fu lo =
               statements = λ i. let a = w.statements i in omega arith;
               expressions = λ i. let a = w.expressions i in omega arith;
               locals = λ i. let a = w.locals i in omega arith;
+              bytes = w.bytes;
               funclets = λ i. let a = t.funclets in omega (arith, length-append {A = ℕ});
             };
           };

@@ -1,6 +1,6 @@
 -- Failures in what a statement begins with.
 use Rattle.std.proofs.Common.{◌≡◌, ◌≤◌, IsFalse, ◌+◌, ◌++◌, ℕ, suc, List, [], ◌∷◌, Option, None, refl, arith}
-use Rattle.c_parse_stmt.specs.Words.{Keyword, Punctuator, Token, Expression, Constant, Family, Able, Failed, Wraps, ForInitialiser, Evaluating, Statement, Evaluate, If, While, DoWhile, For, Return, Break, Continue, Leave, TryFinally, Empty, IsUpTo, IsCondition, IsForInitialiser, is_declaration, IsBlockItem, token, IsKeyword, HasPunctuator, Left, NoPunctuator, APunctuator, NoCondition, HasCondition, NoneUpTo, HasUpTo, NoStatement, HasStatement, AfterKeyword}
+use Rattle.c_parse_stmt.specs.Words.{Keyword, Punctuator, Token, Expression, Constant, Family, Able, Failed, Wraps, ForInitialiser, Evaluating, Statement, Evaluate, If, While, DoWhile, For, TryFinally, Empty, IsUpTo, IsCondition, IsForInitialiser, is_declaration, IsBlockItem, token, IsKeyword, HasPunctuator, Left, NoCondition, HasCondition, NoStatement, HasStatement, AfterKeyword}
 use Rattle.c_lex.specs.declared.keyword.Keyword.TheVariants as keywords
 use Rattle.c_lex.specs.declared.punctuator.Punctuator.TheVariants as punctuators
 use Rattle.c_lex.specs.declared.token.IntegerType.TheVariants as types
@@ -8,10 +8,10 @@ use Rattle.c_lex.specs.declared.token.Kind.TheVariants as kinds
 use Rattle.c_syntax.specs.declared.expression.Literal.TheVariants as literals
 use Rattle.c_parse_stmt.proofs.Lemmas.{Moves, kind}
 use Rattle.c_syntax.proofs.MovesStatements.{first}
-use Rattle.c_parse_stmt.proofs.Sequences.{Both, Fixed, both_fixed, able_now, punctuator, word, a_punctuator, a_word, first_kind, kind_place}
+use Rattle.c_parse_stmt.proofs.Sequences.{Both, Fixed, both_fixed, punctuator, word, a_punctuator, a_word, first_kind, kind_place}
 use Rattle.c_parse_stmt.proofs.Tries.{no_try}
 use Rattle.c_parse_stmt.proofs.Loops.{no_while_room, no_while_condition, no_do_room, no_for_room}
-use Rattle.c_parse_stmt.proofs.Wholes.{no_if_room, no_if_condition, no_return, no_break, no_continue, no_leave}
+use Rattle.c_parse_stmt.proofs.Wholes.{no_if_room, no_if_condition}
 
 -- ---- relations
 
@@ -57,6 +57,7 @@ least room left n text = record {
     statements = λ i. omega arith;
     expressions = λ i. omega arith;
     locals = λ i. omega arith;
+    bytes = λ i. omega arith;
     funclets = λ i. omega arith;
   };
 }
@@ -104,7 +105,7 @@ at_keyword k at kind room left text ts a key excludes go = record {
   located = kind_place (kinds.Keyword k) at text ts a key;
   against = λ text' other h s. let q = first_kind (kinds.Keyword k) at ts other a s key in
       excludes text' other q.0 q.1;
-  able = λ text' h s. any_able room left 6 text';
+  able = λ text' h s. any_able room left 7 text';
   further = λ text' n h s e. let m = go text' n key.0 e in
       record {
         token = token (kinds.Keyword k) at key.0;
@@ -137,6 +138,7 @@ if_too_deep room at left text ts a z k =
           statements = λ i. omega arith;
           expressions = λ i. omega arith;
           locals = λ i. omega arith;
+          bytes = λ i. omega arith;
           funclets = λ i. omega arith;
         };
       },
@@ -164,6 +166,7 @@ while_too_deep room at left text ts a z k =
           statements = λ i. omega arith;
           expressions = λ i. omega arith;
           locals = λ i. omega arith;
+          bytes = λ i. omega arith;
           funclets = λ i. omega arith;
         };
       },
@@ -199,6 +202,7 @@ do_too_deep room at left text ts a z k =
           statements = λ i. omega arith;
           expressions = λ i. omega arith;
           locals = λ i. omega arith;
+          bytes = λ i. omega arith;
           funclets = λ i. omega arith;
         };
       },
@@ -287,6 +291,7 @@ for_too_deep room at left text ts a z k =
           statements = λ i. omega arith;
           expressions = λ i. omega arith;
           locals = λ i. omega arith;
+          bytes = λ i. omega arith;
           funclets = λ i. omega arith;
         };
       },
@@ -302,10 +307,10 @@ finally = word keywords.Finally ∷ braces
 
 pub try_too_many : (room at : ℕ) (left : Left) (text : List ℕ) (ts a : List Token) → room ≡ 0
     → left.funclets ≡ 0 → IsKeyword keywords.Try at ts a
-    → Failed 6 at (NoStatement room left) (HasStatement room left) text ts
+    → Failed 7 at (NoStatement room left) (HasStatement room left) text ts
 try_too_many room at left text ts a z y k =
-    at_keyword keywords.Try at 6 room left text ts a k
-    (λ text' all more key. no_try 6 text' room at left more (omega arith) z y all key)
+    at_keyword keywords.Try at 7 room left text ts a k
+    (λ text' all more key. no_try 7 text' room at left more (omega arith) z y all key)
     (λ text' n end e. (
       braces ++ finally,
       record {
@@ -334,6 +339,7 @@ try_too_many room at left text ts a z y k =
           statements = λ i. omega arith;
           expressions = λ i. omega arith;
           locals = λ i. omega arith;
+          bytes = λ i. omega arith;
           funclets = λ i. omega arith;
         };
       },
@@ -382,6 +388,7 @@ while_condition room at left text ts a o k =
           expressions = λ i. let b = has.low i in
               omega arith;
           locals = λ i. omega arith;
+          bytes = λ i. omega arith;
           funclets = λ i. omega arith;
         };
       };
@@ -413,88 +420,8 @@ if_condition room at left text ts a o k =
           expressions = λ i. let b = has.low i in
               omega arith;
           locals = λ i. omega arith;
+          bytes = λ i. omega arith;
           funclets = λ i. omega arith;
         };
       };
     })
-
-pub return_value : (room at : ℕ) (left : Left) (text : List ℕ) (ts a : List Token)
-    → IsKeyword keywords.Return at ts a → Wraps (NoneUpTo punctuators.Semicolon room)
-    (HasUpTo punctuators.Semicolon room) (NoStatement room left) (HasStatement room left) text a
-    ts
-return_value room at left text ts a k =
-    key_wraps keywords.Return at room left (NoneUpTo punctuators.Semicolon room)
-    (HasUpTo punctuators.Semicolon room) text ts a k
-    (λ n text' other none. no_return n text' room at left other none)
-    (λ n text' inner end has. able_now (HasStatement room left) n text'
-    (token (kinds.Keyword keywords.Return) at end ∷ inner) (record {
-      tree = Return at has.tree;
-      is = λ other. (inner ++ other, (end, refl), has.is other);
-      statement = refl;
-      within = record {
-        statements = has.over;
-        expressions = has.low;
-        locals = λ i. omega arith;
-        funclets = λ i. omega arith;
-      };
-    }))
-
-pub break_end : (room at : ℕ) (left : Left) (text : List ℕ) (ts a : List Token)
-    → IsKeyword keywords.Break at ts a → Wraps (NoPunctuator punctuators.Semicolon)
-    (APunctuator punctuators.Semicolon) (NoStatement room left) (HasStatement room left) text a ts
-break_end room at left text ts a k =
-    key_wraps keywords.Break at room left (NoPunctuator punctuators.Semicolon)
-    (APunctuator punctuators.Semicolon) text ts a k
-    (λ n text' other none all key. no_break n text' room at left all other key none)
-    (λ n text' inner end has. able_now (HasStatement room left) n text'
-    (token (kinds.Keyword keywords.Break) at end ∷ inner) (record {
-      tree = Break at;
-      is = λ other. (inner ++ other, (end, refl), has other);
-      statement = refl;
-      within = record {
-        statements = λ i. omega arith;
-        expressions = λ i. omega arith;
-        locals = λ i. omega arith;
-        funclets = λ i. omega arith;
-      };
-    }))
-
-pub continue_end : (room at : ℕ) (left : Left) (text : List ℕ) (ts a : List Token)
-    → IsKeyword keywords.Continue at ts a → Wraps (NoPunctuator punctuators.Semicolon)
-    (APunctuator punctuators.Semicolon) (NoStatement room left) (HasStatement room left) text a ts
-continue_end room at left text ts a k =
-    key_wraps keywords.Continue at room left (NoPunctuator punctuators.Semicolon)
-    (APunctuator punctuators.Semicolon) text ts a k
-    (λ n text' other none all key. no_continue n text' room at left all other key none)
-    (λ n text' inner end has. able_now (HasStatement room left) n text'
-    (token (kinds.Keyword keywords.Continue) at end ∷ inner) (record {
-      tree = Continue at;
-      is = λ other. (inner ++ other, (end, refl), has other);
-      statement = refl;
-      within = record {
-        statements = λ i. omega arith;
-        expressions = λ i. omega arith;
-        locals = λ i. omega arith;
-        funclets = λ i. omega arith;
-      };
-    }))
-
-pub leave_end : (room at : ℕ) (left : Left) (text : List ℕ) (ts a : List Token)
-    → IsKeyword keywords.Leave at ts a → Wraps (NoPunctuator punctuators.Semicolon)
-    (APunctuator punctuators.Semicolon) (NoStatement room left) (HasStatement room left) text a ts
-leave_end room at left text ts a k =
-    key_wraps keywords.Leave at room left (NoPunctuator punctuators.Semicolon)
-    (APunctuator punctuators.Semicolon) text ts a k
-    (λ n text' other none all key. no_leave n text' room at left all other key none)
-    (λ n text' inner end has. able_now (HasStatement room left) n text'
-    (token (kinds.Keyword keywords.Leave) at end ∷ inner) (record {
-      tree = Leave at;
-      is = λ other. (inner ++ other, (end, refl), has other);
-      statement = refl;
-      within = record {
-        statements = λ i. omega arith;
-        expressions = λ i. omega arith;
-        locals = λ i. omega arith;
-        funclets = λ i. omega arith;
-      };
-    }))

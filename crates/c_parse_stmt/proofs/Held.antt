@@ -2,10 +2,11 @@
 use Rattle.std.proofs.Common.{◌≡◌, ◌≤◌, ◌+◌, ℕ, List, [], ◌∷◌, ◌++◌, length, length-append, map, IsFalse, true, false, Bool, refl, sym, ap, ◌∙◌, subst, arith, inl, inr}
 use Rattle.std.specs.Prelude.{Option, None, IfNone}
 use Rattle.c_lex.specs.declared.punctuator.Punctuator.TheVariants as punctuators
-use Rattle.c_parse_stmt.specs.Words.{Token, Base, Stmt, Alike, Able, Wraps, Closed, statements_over, over_block_item, locals, numbered, Local, Statement, Declare, Block, For, Statements, Empty, Then, statement, statements, is_declaration, IsDeclaration, IsBlockItem, AreBlockItems, HasPunctuator, IsBase, NoBase, Left, Opening, Opens, NoDeclaration, HasDeclaration, AllTaken, NoBlockItems, HasBlockItems, Within, IsStatementWithin, NoStatement, HasStatement, ReadsBlockItem, NoBlockItem, AnItem, HasBlockItem}
+use Rattle.c_parse_stmt.specs.Words.{Token, Base, Stmt, Alike, Able, Wraps, Closed, statements_over, over_block_item, locals, numbered, Local, Statement, Declare, Block, For, Statements, Empty, Then, statement, statements, is_declaration, IsDeclaration, IsBlockItem, AreBlockItems, HasPunctuator, IsBase, NoBase, Left, Opening, Opens, NoDeclaration, HasDeclaration, AllTaken, NoBlockItems, HasBlockItems, Within, IsStatementWithin, NoStatement, HasStatement, ReadsBlockItem, NoBlockItem, AnItem, HasBlockItem, bytes_so_far, end_of_arrays, end_of_all_arrays}
 use Rattle.c_parse_stmt.proofs.Lemmas.{base_front, begins, item_class, item_begins, class_low, brace_begins, items_else, typed_begins, one_statement, same_begins, no_base, no_punctuator, closed, has_punctuator}
 use Rattle.c_syntax.proofs.MovesStatements.{item as item_moves, numbered as same_funclets}
 use Rattle.c_parse_stmt.specs.declared.openings.Opening.TheVariants as openings
+use Rattle.c_parse_stmt.proofs.ArrayEnds.{all_grow}
 use Rattle.c_parse_stmt.proofs.Clauses.{Items, brace, is_brace}
 use Rattle.c_parse_stmt.proofs.Heading.{Sig}
 use Rattle.c_parse_stmt.proofs.Inside.{Item}
@@ -40,6 +41,7 @@ no_counted limits text room less left ts n b none s end h c w = by (kind s)
           statements = λ i. let a = w.statements i in omega arith;
           expressions = w.expressions;
           locals = w.locals;
+          bytes = w.bytes;
           funclets = w.funclets;
         })
 
@@ -73,6 +75,7 @@ statement_item room less left text ts m b = record {
             has.within.statements;
         expressions = has.within.expressions;
         locals = has.within.locals;
+        bytes = has.within.bytes;
         funclets = has.within.funclets;
       };
     }
@@ -82,7 +85,7 @@ class_one (Declare b ls) h = (b, ls, refl)
 class_one s h = absurd (omega arith)
 
 no_declared : (limits : ℕ) (text : List ℕ) (room : ℕ) (left : Left) (ts : List Token)
-    → begins ts ≡ 1 → NoDeclaration room left.locals limits text ts
+    → begins ts ≡ 1 → NoDeclaration room left limits text ts
     → NoBlockItem room left limits text ts
 no_declared limits text room left ts typed none s end h c w =
     let q = class_one s (sym (item_begins text s ts end h) ∙ typed) in
@@ -96,10 +99,11 @@ no_declared limits text room left ts typed none s end h c w =
       expressions = v.expressions;
       statements = v.statements;
       count = v.locals;
+      bytes = v.bytes;
     })
 
 declared_item : (room : ℕ) (left : Left) (n : ℕ) (text : List ℕ) (ts : List Token)
-    → HasDeclaration room left.locals n text ts → HasBlockItem room left n text ts
+    → HasDeclaration room left n text ts → HasBlockItem room left n text ts
 declared_item room left n text ts (inl e) = inl e
 declared_item room left n text ts (inr d) = inr
     (record {
@@ -109,6 +113,7 @@ declared_item room left n text ts (inr d) = inr
         statements = d.within.statements;
         expressions = d.within.expressions;
         locals = d.within.count;
+        bytes = d.within.bytes;
         funclets = λ i. omega arith;
       };
     })
@@ -116,7 +121,7 @@ declared_item room left n text ts (inr d) = inr
 -- a declaration is as an item
 pub declaration_item : (room : ℕ) (left : Left) (d : Base) (text : List ℕ)
     (ts following : List Token) → IsBase d ts following
-    → Wraps (NoDeclaration room left.locals) (HasDeclaration room left.locals)
+    → Wraps (NoDeclaration room left) (HasDeclaration room left)
     (NoBlockItem room left) (HasBlockItem room left) text ts ts
 declaration_item room left d text ts following is = record {
   before = [];
@@ -175,6 +180,7 @@ one_more text room left less after s rest following ss r t =
       statements = omega arith;
       expressions = omega arith;
       locals = omega arith;
+      bytes = t.bytes ∙ ap (end_of_all_arrays ss) k.bytes;
       funclets = omega (arith, length-append {A = ℕ});
     }
 
@@ -197,6 +203,9 @@ one_back limits text room left less s rest following r none (Then z zs) end h w 
       expressions = λ i. let a = w.expressions i in omega arith;
       locals = λ i. let a = w.locals i in
           omega arith;
+      bytes = λ i. subst (λ x. end_of_all_arrays zs x ≤ 65536)
+          (sym (k.bytes ∙ ap (λ (x : Statement). end_of_arrays x (bytes_so_far left.bytes)) u.0))
+          (w.bytes i);
       funclets = λ i. let a = w.funclets i in omega (arith, length-append {A = ℕ});
     })
 
@@ -214,6 +223,7 @@ item_moved text text' room left less s ts rest all other h r i c =
         statements = t.statements;
         expressions = t.expressions;
         locals = t.locals;
+        bytes = t.bytes;
         funclets = omega arith;
       };
     }
@@ -241,6 +251,8 @@ more_items room left less s text rest following r =
         statements = λ i. let a = has.within.statements i in omega arith;
         expressions = λ i. let a = has.within.expressions i in omega arith;
         locals = λ i. let a = has.within.locals i in omega arith;
+        bytes = λ i. subst (λ x. end_of_all_arrays has.trees x ≤ 65536) t.bytes
+            (has.within.bytes i);
         funclets = λ i. let a = has.within.funclets i in omega (arith, length-append {A = ℕ});
       };
     }))
@@ -263,6 +275,7 @@ nothing text room left = record {
   statements = omega arith;
   expressions = omega arith;
   locals = omega arith;
+  bytes = refl;
   funclets = omega arith;
 }
 
@@ -285,6 +298,9 @@ stuck limits text room left rest l none (Then s ss) end h w =
       expressions = λ i. let a = w.expressions i in omega arith;
       locals = λ i. let a = w.locals i in
           omega arith;
+      bytes = λ i. let a = w.bytes i in
+          let g = all_grow ss (end_of_arrays s (bytes_so_far left.bytes)) in
+          omega arith;
       funclets = λ i. let a = w.funclets i in omega (arith, length-append {A = ℕ});
     })
 
@@ -302,6 +318,7 @@ one_item room left n text ts (inl e) = record {
       statements = λ i. omega arith;
       expressions = λ i. omega arith;
       locals = λ i. omega arith;
+      bytes = λ i. omega arith;
       funclets = λ i. omega arith;
     };
   };
@@ -316,6 +333,7 @@ one_item room left n text ts (inr has) = record {
       statements = λ i. let a = has.within.statements i in omega arith;
       expressions = λ i. let a = has.within.expressions i in omega arith;
       locals = λ i. let a = has.within.locals i in omega arith;
+      bytes = has.within.bytes;
       funclets = λ i. let a = has.within.funclets i in omega (arith, length-append {A = ℕ});
     };
   };
@@ -364,6 +382,7 @@ block_items room left text ts a o =
         statements = has.within.statements;
         expressions = has.within.expressions;
         locals = has.within.locals;
+        bytes = has.within.bytes;
         funclets = has.within.funclets;
       };
     }))
@@ -397,6 +416,7 @@ block_found text room left between after o ss ts a rest i e are t =
         statements = k.statements;
         expressions = k.expressions;
         locals = k.locals;
+        bytes = k.bytes;
         funclets = k.funclets;
       };
     }

@@ -2,7 +2,7 @@
 use Rattle.std.proofs.Common.{◌≡◌, ◌≤◌, ◌+◌, ◌++◌, ◌∙◌, ℕ, List, length, length-append, Option, option_map, refl, sym, ap, subst, arith}
 use Rattle.c_lex.specs.declared.keyword.Keyword.TheVariants as keywords
 use Rattle.c_lex.specs.declared.punctuator.Punctuator.TheVariants as punctuators
-use Rattle.c_parse_stmt.specs.Words.{Token, Stmt, expression, Alike, Able, Wraps, NoElse, Closed, Statement, If, IfElse, While, DoWhile, For, first, statement, IsCondition, dangles, IsBlockItem, IsKeyword, HasPunctuator, HasKeyword, Left, Opening, Ends, IsStatementHead, expressions_over, Heads, Opens, Holds, IsStatementWithin, NoStatement, HasStatement}
+use Rattle.c_parse_stmt.specs.Words.{Token, Stmt, expression, Alike, Able, Wraps, NoElse, Closed, Statement, If, IfElse, While, DoWhile, For, first, statement, IsCondition, dangles, IsBlockItem, IsKeyword, HasPunctuator, HasKeyword, Left, Opening, Ends, IsStatementHead, expressions_over, Heads, Opens, Holds, IsStatementWithin, NoStatement, HasStatement, bytes_so_far, end_of_arrays}
 use Rattle.c_syntax.specs.declared.expression.Expr.{Expr}
 use Rattle.c_syntax.specs.declared.statement.ForInitialiser.{ForInitialiser}
 use Rattle.c_parse_stmt.proofs.Lemmas.{absent, alike_inner, closed, Moves, has_keyword, condition, item}
@@ -13,11 +13,11 @@ use Rattle.c_parse_stmt.specs.declared.endings.Ending.TheVariants as endings
 use Rattle.c_parse_stmt.specs.declared.openings.Head.{Head}
 use Rattle.c_parse_stmt.specs.declared.openings.Head.TheVariants as heads
 use Rattle.c_parse_stmt.specs.declared.openings.Opening.TheVariants as openings
-use Rattle.c_parse_stmt.specs.Openings.{locals}
+use Rattle.c_parse_stmt.specs.Openings.{locals, end_of_arrays as end_of_head}
 use Rattle.c_parse_stmt.proofs.Heading.{Key, Condition, key_moves, for_item, semicolon, in_parentheses, is_unit, unit, while_end}
 use Rattle.c_parse_stmt.proofs.Sequences.{Both, Fixed, both_fixed, both_moves, moves_so, able_now, wraps, a_punctuator, a_word}
 use Rattle.c_parse_stmt.proofs.Loops.{no_while_body, while_found, no_do_body, no_for_body, for_found}
-use Rattle.c_parse_stmt.proofs.Wholes.{left_of, no_then, no_otherwise, if_found, if_else_found, not_dangling}
+use Rattle.c_parse_stmt.proofs.Wholes.{no_then, no_otherwise, if_found, if_else_found, not_dangling}
 
 -- ---- relations
 
@@ -46,18 +46,42 @@ head_moves (heads.For at f c n) text ts rest h =
 
 -- ---- the same counts
 
-pub same_left : (a b : Left) → a.locals ≡ b.locals → a.funclets ≡ b.funclets → a ≡ b
-same_left a b p q = ap (λ (x : ℕ). left_of x a.funclets) p ∙ ap (λ (x : ℕ). left_of b.locals x) q
+pub record SameLeft (a b : Left) : Type 0 where
+  pub locals : a.locals ≡ b.locals
+  pub bytes : bytes_so_far a.bytes ≡ bytes_so_far b.bytes
+  pub funclets : a.funclets ≡ b.funclets
+
+abbrev pub same_left : (a b : Left) → a.locals ≡ b.locals
+    → bytes_so_far a.bytes ≡ bytes_so_far b.bytes → a.funclets ≡ b.funclets → SameLeft a b
+same_left a b p q r = record { locals = p; bytes = q; funclets = r }
 
 pub reads_from : (text : List ℕ) (room : ℕ) (left mid after : Left) (s : Statement)
-    (ts rest : List Token) → left ≡ mid → IsStatementWithin text room left after s ts rest
+    (ts rest : List Token) → SameLeft left mid → IsStatementWithin text room left after s ts rest
     → IsStatementWithin text room mid after s ts rest
-reads_from text room left mid after s ts rest e r = subst
-    (λ (x : Left). IsStatementWithin text room x after s ts rest) e r
+reads_from text room left mid after s ts rest e r =
+    let t = r.taken in
+    record {
+      is = r.is;
+      statement = r.statement;
+      closed = r.closed;
+      taken = record {
+        statements = t.statements;
+        expressions = t.expressions;
+        locals = t.locals ∙ e.locals;
+        bytes = t.bytes ∙ ap (end_of_arrays s) e.bytes;
+        funclets = t.funclets ∙ e.funclets;
+      };
+    }
 
-none_from : (n : ℕ) (text : List ℕ) (room : ℕ) (left mid : Left) (ts : List Token) → left ≡ mid
-    → NoStatement room left n text ts → NoStatement room mid n text ts
-none_from n text room left mid ts e none = subst (λ (x : Left). NoStatement room x n text ts) e none
+none_from : (n : ℕ) (text : List ℕ) (room : ℕ) (left mid : Left) (ts : List Token)
+    → SameLeft left mid → NoStatement room left n text ts → NoStatement room mid n text ts
+none_from n text room left mid ts e none s end h d c w = none s end h d c (record {
+  statements = w.statements;
+  expressions = w.expressions;
+  locals = λ i. let a = w.locals i in let b = e.locals in omega arith;
+  bytes = λ i. subst (λ x. end_of_arrays s x ≤ 65536) (sym e.bytes) (w.bytes i);
+  funclets = λ i. let a = w.funclets i in let b = e.funclets in omega arith;
+})
 
 -- a statement that was read, in a text that spells it alike and before what begins alike
 pub reads_moved : (text text' : List ℕ) (room : ℕ) (left after : Left) (s : Statement)
@@ -75,6 +99,7 @@ reads_moved text text' room left after s ts rest all other h r i c =
         statements = t.statements;
         expressions = t.expressions;
         locals = t.locals;
+        bytes = t.bytes;
         funclets = omega arith;
       };
     }
@@ -102,18 +127,19 @@ is_while_end text other = record {
 no_inner : (h : Head) (n : ℕ) (text : List ℕ) (room less : ℕ) (whole left : Left)
     (all other : List Token) → less + 1 ≡ room → IsStatementHead text h all other
     → expressions_over h ≤ 64 → left.locals + locals h ≡ whole.locals
+    → bytes_so_far left.bytes ≡ end_of_head h (bytes_so_far whole.bytes)
     → left.funclets ≡ whole.funclets → NoStatement less left n text other
     → NoStatement room whole n text all
-no_inner (heads.If at c) n text room less whole left all other m h w l f none =
+no_inner (heads.If at c) n text room less whole left all other m h w l b f none =
     no_then n text room less at whole (expression c) h.0 other m h.2
-    (none_from n text less left whole other (same_left left whole (omega arith) f) none) all h.1
-no_inner (heads.While at c) n text room less whole left all other m h w l f none =
+    (none_from n text less left whole other (same_left left whole (omega arith) b f) none) all h.1
+no_inner (heads.While at c) n text room less whole left all other m h w l b f none =
     no_while_body n text room less at whole (expression c) h.0 other m h.2
-    (none_from n text less left whole other (same_left left whole (omega arith) f) none) all h.1
-no_inner heads.Do n text room less whole left all other m h w l f none =
+    (none_from n text less left whole other (same_left left whole (omega arith) b f) none) all h.1
+no_inner heads.Do n text room less whole left all other m h w l b f none =
     no_do_body n text room less h.0 whole other m
-    (none_from n text less left whole other (same_left left whole (omega arith) f) none) all h.1
-no_inner (heads.For at g c e) n text room less whole left all other m h w l f none =
+    (none_from n text less left whole other (same_left left whole (omega arith) b f) none) all h.1
+no_inner (heads.For at g c e) n text room less whole left all other m h w l b f none =
     no_for_body n text room less at whole left (first g) (option_map expression c)
     (option_map expression e) h.after_keyword h.after_opening h.after_first h.after_condition other
     m (record {
@@ -121,15 +147,18 @@ no_inner (heads.For at g c e) n text room less whole left all other m h w l f no
       is = h.first;
       low = omega arith;
       locals = l;
+      bytes = b;
       funclets = f;
     }) h.condition h.next none all h.keyword
 
 has_inner : (h : Head) (n : ℕ) (text : List ℕ) (room less : ℕ) (whole left : Left)
     (front inner : List Token) → less + 1 ≡ room → expressions_over h ≤ 64
-    → left.locals + locals h ≡ whole.locals → left.funclets ≡ whole.funclets
-    → Fixed (Headed h) text front → HasStatement less left n text inner
+    → left.locals + locals h ≡ whole.locals
+    → bytes_so_far left.bytes ≡ end_of_head h (bytes_so_far whole.bytes)
+    → left.funclets ≡ whole.funclets → Fixed (Headed h) text front
+    → HasStatement less left n text inner
     → Able (HasStatement room whole) n text (front ++ inner)
-has_inner (heads.If at c) n text room less whole left front inner m w l f r has = able_now
+has_inner (heads.If at c) n text room less whole left front inner m w l b f r has = able_now
     (HasStatement room whole) n text (front ++ inner) (record {
       tree = If at (expression c) has.tree;
       is = λ other.
@@ -147,10 +176,11 @@ has_inner (heads.If at c) n text room less whole left front inner m w l f r has 
         statements = λ i. let a = has.within.statements i in omega arith;
         expressions = λ i. let a = has.within.expressions i in omega arith;
         locals = λ i. let a = has.within.locals i in omega arith;
+        bytes = λ i. subst (λ x. end_of_arrays has.tree x ≤ 65536) b (has.within.bytes i);
         funclets = λ i. let a = has.within.funclets i in omega arith;
       };
     })
-has_inner (heads.While at c) n text room less whole left front inner m w l f r has = able_now
+has_inner (heads.While at c) n text room less whole left front inner m w l b f r has = able_now
     (HasStatement room whole) n text (front ++ inner) (record {
       tree = While at (expression c) has.tree;
       is = λ other.
@@ -168,10 +198,11 @@ has_inner (heads.While at c) n text room less whole left front inner m w l f r h
         statements = λ i. let a = has.within.statements i in omega arith;
         expressions = λ i. let a = has.within.expressions i in omega arith;
         locals = λ i. let a = has.within.locals i in omega arith;
+        bytes = λ i. subst (λ x. end_of_arrays has.tree x ≤ 65536) b (has.within.bytes i);
         funclets = λ i. let a = has.within.funclets i in omega arith;
       };
     })
-has_inner heads.Do n text room less whole left front inner m w l f r has = record {
+has_inner heads.Do n text room less whole left front inner m w l b f r has = record {
   more = while_end;
   has = record {
     tree = DoWhile has.tree 0 unit;
@@ -195,11 +226,12 @@ has_inner heads.Do n text room less whole left front inner m w l f r has = recor
       statements = λ i. let a = has.within.statements i in omega arith;
       expressions = λ i. let a = has.within.expressions i in omega arith;
       locals = λ i. let a = has.within.locals i in omega arith;
+      bytes = λ i. subst (λ x. end_of_arrays has.tree x ≤ 65536) b (has.within.bytes i);
       funclets = λ i. let a = has.within.funclets i in omega arith;
     };
   };
 }
-has_inner (heads.For at g c e) n text room less whole left front inner m w l f r has = able_now
+has_inner (heads.For at g c e) n text room less whole left front inner m w l b f r has = able_now
     (HasStatement room whole) n text (front ++ inner) (record {
       tree = For at (first g) (option_map expression c) (option_map expression e) has.tree;
       is = λ other.
@@ -214,6 +246,7 @@ has_inner (heads.For at g c e) n text room less whole left front inner m w l f r
         statements = λ i. let a = has.within.statements i in omega arith;
         expressions = λ i. let a = has.within.expressions i in omega arith;
         locals = λ i. let a = has.within.locals i in omega arith;
+        bytes = λ i. subst (λ x. end_of_arrays has.tree x ≤ 65536) b (has.within.bytes i);
         funclets = λ i. let a = has.within.funclets i in omega arith;
       };
     })
@@ -226,9 +259,9 @@ inner_fails h room less whole left text ts rest m g =
     wraps (Headed h) (NoStatement less left) (HasStatement less left) (NoStatement room whole)
     (HasStatement room whole) text ts rest (head_moves h text ts rest g.is)
     (λ n text' all other k e r none. no_inner h n text' room less whole left all other m r g.low
-    g.locals g.funclets none)
+    g.locals g.bytes g.funclets none)
     (λ n text' front inner k r has. has_inner h n text' room less whole left front inner m g.low
-    g.locals g.funclets r has)
+    g.locals g.bytes g.funclets r has)
 
 -- ---- after the first statement
 
@@ -261,7 +294,7 @@ pub else_fails : (at room : ℕ) (whole left : Left) (c : Expr) (s : Statement) 
     (NoStatement room whole) (HasStatement room whole) text j ts
 else_fails at room whole left c s text ts rest j g els =
     let l = g.head.locals in
-    let p = same_left g.between whole (omega arith) g.head.funclets in
+    let p = same_left g.between whole (omega arith) g.head.bytes g.head.funclets in
     wraps (Else at c s) (NoStatement g.less left) (HasStatement g.less left)
     (NoStatement room whole) (HasStatement room whole) text ts j
     (both_moves (Inner (heads.If at c) s) (λ t. HasKeyword keywords.Else) text ts rest j
@@ -303,6 +336,8 @@ else_fails at room whole left c s text ts rest j g els =
         statements = λ i. let a = has.within.statements i in omega arith;
         expressions = λ i. let a = has.within.expressions i in omega arith;
         locals = λ i. let a = has.within.locals i in omega arith;
+        bytes = λ i. subst (λ x. end_of_arrays has.tree x ≤ 65536)
+            (t.bytes ∙ ap (end_of_arrays s) g.head.bytes) (has.within.bytes i);
         funclets = λ i. let a = has.within.funclets i in omega (arith, length-append {A = ℕ});
       };
     }))
@@ -314,7 +349,7 @@ pub else_found : (at room : ℕ) (whole left after : Left) (c : Expr) (s z : Sta
     → IsStatementWithin text room whole after (IfElse at (expression c) s z) ts end
 else_found at room whole left after c s z text ts rest j end g els r =
     let l = g.head.locals in
-    let p = same_left g.between whole (omega arith) g.head.funclets in
+    let p = same_left g.between whole (omega arith) g.head.bytes g.head.funclets in
     let i = g.head.is in
     if_else_found text room g.less at whole left after (expression c) s z i.0 g.mid rest j end
     g.more i.2 g.head.low (reads_from text g.less g.between whole left s g.mid rest p g.inner) els
@@ -327,7 +362,7 @@ pub if_ends : (at room : ℕ) (whole left : Left) (c : Expr) (s : Statement) (te
     → IsStatementWithin text room whole left (If at (expression c) s) ts rest
 if_ends at room whole left c s text ts rest g els =
     let l = g.head.locals in
-    let p = same_left g.between whole (omega arith) g.head.funclets in
+    let p = same_left g.between whole (omega arith) g.head.bytes g.head.funclets in
     let i = g.head.is in
     if_found text room g.less at whole left (expression c) s i.0 g.mid rest g.more i.2 g.head.low
     (reads_from text g.less g.between whole left s g.mid rest p g.inner) els ts i.1
@@ -337,7 +372,7 @@ pub while_ends : (at room : ℕ) (whole left : Left) (c : Expr) (s : Statement) 
     → IsStatementWithin text room whole left (While at (expression c) s) ts rest
 while_ends at room whole left c s text ts rest g =
     let l = g.head.locals in
-    let p = same_left g.between whole (omega arith) g.head.funclets in
+    let p = same_left g.between whole (omega arith) g.head.bytes g.head.funclets in
     let i = g.head.is in
     while_found text room g.less at whole left (expression c) s i.0 g.mid rest g.more i.2 g.head.low
     (reads_from text g.less g.between whole left s g.mid rest p g.inner) ts i.1
@@ -356,6 +391,7 @@ for_ends at room whole left f c n s text ts rest g =
       is = i.first;
       low = omega arith;
       locals = g.head.locals;
+      bytes = g.head.bytes;
       funclets = g.head.funclets;
     }) i.condition (omega arith) i.next (omega arith) g.inner ts i.keyword
 

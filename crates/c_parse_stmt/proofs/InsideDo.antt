@@ -1,8 +1,8 @@
 -- Failures in a `do`, from its statement on.
-use Rattle.std.proofs.Common.{◌≤◌, ◌+◌, ◌++◌, ℕ, IsFalse, List, length, refl, ap, arith}
+use Rattle.std.proofs.Common.{◌≤◌, ◌+◌, ◌++◌, ℕ, IsFalse, List, length, refl, ap, ◌∙◌, arith}
 use Rattle.c_lex.specs.declared.keyword.Keyword.TheVariants as keywords
 use Rattle.c_lex.specs.declared.punctuator.Punctuator.TheVariants as punctuators
-use Rattle.c_parse_stmt.specs.Words.{Token, Expression, height, Alike, place, Failed, Wraps, Closed, statements_over, Statement, While, DoWhile, first, statement, IsCondition, is_declaration, IsBlockItem, IsKeyword, HasPunctuator, HasKeyword, Left, Holds, NoPunctuator, APunctuator, NoCondition, HasCondition, Within, IsStatementWithin, NoStatement, HasStatement}
+use Rattle.c_parse_stmt.specs.Words.{Token, Expression, height, Alike, place, Failed, Wraps, Closed, statements_over, Statement, While, DoWhile, first, statement, IsCondition, is_declaration, IsBlockItem, IsKeyword, HasPunctuator, HasKeyword, Left, Holds, NoPunctuator, APunctuator, NoCondition, HasCondition, Within, IsStatementWithin, NoStatement, HasStatement, end_of_arrays}
 use Rattle.c_parse_stmt.proofs.Lemmas.{while_else, alike_inner, closed, no_keyword, Moves, condition, item}
 use Rattle.c_syntax.proofs.MovesStatements.{numbered as same_funclets}
 use Rattle.c_parse_stmt.specs.declared.openings.Head.TheVariants as heads
@@ -21,7 +21,7 @@ pub do_ends : (room p : ℕ) (whole left : Left) (s : Statement) (c : Expression
     → IsStatementWithin text room whole left (DoWhile s p c) ts end
 do_ends room p whole left s c text ts rest d e end g k is low semi =
     let l = g.head.locals in
-    let q = same_left g.between whole (omega arith) g.head.funclets in
+    let q = same_left g.between whole (omega arith) g.head.bytes g.head.funclets in
     let i = g.head.is in
     do_found text room g.less i.0 p whole left s c g.mid rest d e end g.more
     (reads_from text g.less g.between whole left s g.mid rest q g.inner) k is low semi ts i.1
@@ -32,7 +32,7 @@ do_reads : (room : ℕ) (whole left : Left) (s : Statement) (text text' : List �
     → IsStatementWithin text' g.less whole left s r.mid other
 do_reads room whole left s text text' ts rest all other g k r c =
     let l = g.head.locals in
-    let q = same_left g.between whole (omega arith) g.head.funclets in
+    let q = same_left g.between whole (omega arith) g.head.bytes g.head.funclets in
     reads_from text' g.less g.between whole left s r.mid other q
     (inner_reads room whole left heads.Do s text text' ts rest all r.mid other g k r.second c)
 
@@ -47,10 +47,12 @@ do_within n room whole left s c at text text' ts rest g k low =
     let t = g.inner.taken in let t0 = t.statements in let t1 = t.expressions in let t2 = t.locals in
     let t3 = t.funclets in
     let h0 = g.head.locals in let h1 = g.head.funclets in let h2 = g.more in
+    let b = t.bytes ∙ ap (end_of_arrays s) g.head.bytes in
     record {
       statements = λ i. omega arith;
       expressions = λ i. let a = low i in omega arith;
       locals = λ i. omega arith;
+      bytes = λ i. omega arith;
       funclets = λ i. omega arith;
     }
 
@@ -89,7 +91,7 @@ do_unended room whole left s text ts rest g none =
               semicolon = y.semicolon;
             };
         statement = refl;
-        within = do_within 6 room whole left s unit 0 text text' ts rest g k (λ i. omega arith);
+        within = do_within 7 room whole left s unit 0 text text' ts rest g k (λ i. omega arith);
       };
     })
     (λ text' k front h r e. absurd (omega arith))

@@ -2,8 +2,10 @@ mod Lemmas
 pub mod Begins
 pub mod Stating
 pub mod Placing
+pub mod ArrayEnds
 pub mod Room
 pub mod Ends
+pub mod Lengths
 pub mod Declarators
 pub mod Declarations
 pub mod Specified
@@ -19,6 +21,7 @@ pub mod Wholes
 pub mod Loops
 pub mod Tries
 pub mod Heading
+pub mod JumpEnds
 pub mod ForHeads
 pub mod Clauses
 pub mod Guarding

@@ -1,11 +1,12 @@
 -- Loops from their parts: what is read, and that nothing is at the front where a part is missing.
-use Rattle.std.proofs.Common.{◌≡◌, ◌≤◌, ◌+◌, ℕ, List, length-append, Option, Some, None, refl, sym, ap, subst, arith}
+use Rattle.std.proofs.Common.{◌≡◌, ◌≤◌, ◌+◌, ℕ, List, length-append, Option, Some, None, refl, sym, ap, ◌∙◌, subst, arith}
 use Rattle.c_lex.specs.declared.keyword.Keyword.TheVariants as keywords
 use Rattle.c_lex.specs.declared.punctuator.Punctuator.TheVariants as punctuators
-use Rattle.c_parse_stmt.specs.Words.{Token, Expression, height, height_of, one_over, height_of_for_initialiser, locals, locals_of_for_initialiser, ForInitialiser, Statement, While, DoWhile, For, IsUpTo, IsCondition, IsForInitialiser, IsBlockItem, IsKeyword, HasPunctuator, HasKeyword, Left, NoCondition, NoneUpTo, NoForInitialiser, IsStatementWithin, NoStatement, AfterKeyword}
+use Rattle.c_parse_stmt.specs.Words.{Token, Expression, height, height_of, one_over, height_of_for_initialiser, locals, locals_of_for_initialiser, ForInitialiser, Statement, While, DoWhile, For, IsUpTo, IsCondition, IsForInitialiser, IsBlockItem, IsKeyword, HasPunctuator, HasKeyword, Left, NoCondition, NoneUpTo, NoForInitialiser, IsStatementWithin, NoStatement, AfterKeyword, bytes_so_far, end_of_arrays, end_of_for_initialiser}
 use Rattle.c_parse_stmt.proofs.Lemmas.{has_same, while_else, one_statement}
 use Rattle.c_syntax.proofs.Declarations.{condition, first}
 use Rattle.c_syntax.proofs.Blocks.{place}
+use Rattle.c_parse_stmt.proofs.ArrayEnds.{grows}
 use Rattle.c_parse_stmt.proofs.Tails.{after_while, after_do, after_for}
 use Rattle.c_parse_stmt.proofs.Wholes.{Lacks, fits, closed_as, after_condition, up_to}
 
@@ -32,6 +33,7 @@ while_found text room less at left after c z a b rest n is low r ts k =
         statements = omega arith;
         expressions = omega arith;
         locals = t.locals;
+        bytes = t.bytes;
         funclets = t.funclets;
       };
     }
@@ -67,6 +69,7 @@ no_while_body limits text room less at left e a b n is none ts k s end h d c w =
       statements = λ lim. let o = v.statements lim in omega arith;
       expressions = λ lim. let o = v.expressions lim in omega arith;
       locals = v.locals;
+      bytes = v.bytes;
       funclets = v.funclets;
     })
 
@@ -91,6 +94,7 @@ no_do_body limits text room less at left a n none ts k s end h d c w =
       statements = λ lim. let o = v.statements lim in omega arith;
       expressions = λ lim. let o = v.expressions lim in omega arith;
       locals = v.locals;
+      bytes = v.bytes;
       funclets = v.funclets;
     })
 
@@ -159,6 +163,7 @@ do_found text room less at p left after z c a b d e rest n r kw is low semi ts k
         statements = omega arith;
         expressions = omega arith;
         locals = t.locals;
+        bytes = t.bytes;
         funclets = t.funclets;
       };
     }
@@ -181,7 +186,7 @@ no_for_open limits text room at left a none ts k s end h d c w =
     none t.after_opening t.opening
 
 pub no_for_initialiser : (limits : ℕ) (text : List ℕ) (room at : ℕ) (left : Left) (a b : List Token)
-    → HasPunctuator punctuators.OpenParenthesis a b → NoForInitialiser left.locals limits text b
+    → HasPunctuator punctuators.OpenParenthesis a b → NoForInitialiser left limits text b
     → AfterKeyword keywords.For at a (NoStatement room left limits text)
 no_for_initialiser limits text room at left a b o none ts k s end h d c w =
     let t = after_for text at s ts a end k h in
@@ -190,6 +195,8 @@ no_for_initialiser limits text room at left a b o none ts k s end h d c w =
     none t.first t.after_first (subst (λ (y : List Token). IsForInitialiser text t.first y
     t.after_first) (sym p) t.is_first) (λ lim. let o = v.expressions lim in omega arith)
     (λ lim. let o = v.locals lim in omega arith)
+    (λ lim. let o = v.bytes lim in
+    let g = grows t.body (end_of_for_initialiser t.first (bytes_so_far left.bytes)) in omega arith)
 
 -- what was read after `for`
 pub record Started (text : List ℕ) (left mid : Left) (f : ForInitialiser)
@@ -198,6 +205,7 @@ pub record Started (text : List ℕ) (left mid : Left) (f : ForInitialiser)
   pub is : IsForInitialiser text f b e
   pub low : height_of_for_initialiser f ≤ 64
   pub locals : mid.locals + locals_of_for_initialiser f ≡ left.locals
+  pub bytes : bytes_so_far mid.bytes ≡ end_of_for_initialiser f (bytes_so_far left.bytes)
   pub funclets : mid.funclets ≡ left.funclets
 
 after_first : (text : List ℕ) (left mid : Left) (f g : ForInitialiser) (a b e d r : List Token)
@@ -262,6 +270,9 @@ no_for_body limits text room less at left mid f m n a b e g j i st is is' none t
       statements = λ lim. let o = v.statements lim in omega arith;
       expressions = λ lim. let o = v.expressions lim in omega arith;
       locals = λ lim. let o = v.locals lim in omega arith;
+      bytes = λ lim. subst (λ x. end_of_arrays t.body x ≤ 65536)
+          (sym (st.bytes ∙ ap (λ (i : ForInitialiser). end_of_for_initialiser i
+          (bytes_so_far left.bytes)) p.0)) (v.bytes lim);
       funclets = λ lim. let o = v.funclets lim in omega (arith, length-append {A = ℕ});
     })
 
@@ -298,6 +309,7 @@ for_found text room less at left mid after f m n z a b e g j rest i st is low is
         statements = omega arith;
         expressions = omega arith;
         locals = omega arith;
+        bytes = t.bytes ∙ ap (end_of_arrays z) st.bytes;
         funclets = omega arith;
       };
     }

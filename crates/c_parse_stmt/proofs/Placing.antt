@@ -43,7 +43,7 @@ front_first ts other same = first_keeps (λ z. front ts ≡ front z) (λ t xs ys
 pub missing : (No Has : Family) (text : List ℕ) (ts before fault : List Token)
     → ts ≡ before ++ fault → ((text' : List ℕ) (other : List Token) → Alike text text' ts
     → SameFirst fault other → No 0 text' (before ++ other))
-    → ((text' : List ℕ) → Alike text text' ts → Speaks text' → Able Has 6 text' before)
+    → ((text' : List ℕ) → Alike text text' ts → Speaks text' → Able Has 7 text' before)
     → Failed 0 (place text fault) No Has text ts
 missing No Has text ts before fault split against
     able = record {

@@ -20,7 +20,7 @@ nothing s n text = record {
 pub no_expression : (s : Punctuator) (text : List ℕ) (ts : List Token) → Lacks s ts
     → BeginsNoExpression ts → Failed 0 (place text ts) (NoneUpTo s 0) (HasUpTo s 0) text ts
 no_expression s text ts lacks free = missing (NoneUpTo s 0) (HasUpTo s 0) text ts [] ts refl
-    (against text) (λ text' a k. nothing s 6 text')
+    (against text) (λ text' a k. nothing s 7 text')
   where
     against : (text text' : List ℕ) (other : List Token) → Alike text text' ts → SameFirst ts other
         → NoneUpTo s 0 0 text' other
@@ -53,7 +53,7 @@ deep_expression s text ts lacks b = record {
   split = refl;
   located = refl;
   against = against;
-  able = λ text' a k. nothing s 6 text';
+  able = λ text' a k. nothing s 7 text';
   further = λ text' k a speaks e. let x = evaluated s text' b.first (b.holds text' speaks) in
       let z : 0 ≡ k = omega arith in subst (λ n. Onward (HasUpTo s 0) n text' [] ts) z
       (record { token = b.first; rest = b.rest; more = x.0; is = b.split; has = x.1 });
@@ -97,6 +97,7 @@ stated left text t x = (
       statements = λ k. absurd (omega arith);
       expressions = λ k. absurd (omega arith);
       locals = λ k. absurd (omega arith);
+      bytes = λ k. absurd (omega arith);
       funclets = λ k. absurd (omega arith);
     };
   }),

@@ -1,8 +1,8 @@
 -- Failures in the second block of a `__try` statement.
-use Rattle.std.proofs.Common.{◌≤◌, ◌+◌, ◌++◌, ℕ, List, length-append, refl, arith}
+use Rattle.std.proofs.Common.{◌≤◌, ◌+◌, ◌++◌, ℕ, List, length-append, refl, ap, ◌∙◌, subst, arith}
 use Rattle.c_lex.specs.declared.keyword.Keyword.TheVariants as keywords
 use Rattle.c_lex.specs.declared.punctuator.Punctuator.TheVariants as punctuators
-use Rattle.c_parse_stmt.specs.Words.{Token, expression, Wraps, accepts, TryExcept, TryFinally, Statements, AreBlockItems, Left, IsClause, ClauseIsTaken, with_clause, IsTry, Guards, AllTaken, NoBlockItems, HasBlockItems, IsStatementWithin, NoStatement, HasStatement}
+use Rattle.c_parse_stmt.specs.Words.{Token, expression, Wraps, accepts, TryExcept, TryFinally, Statements, AreBlockItems, Left, IsClause, ClauseIsTaken, with_clause, IsTry, Guards, AllTaken, NoBlockItems, HasBlockItems, IsStatementWithin, NoStatement, HasStatement, bytes_so_far, end_of_all_arrays}
 use Rattle.c_parse_stmt.proofs.Lemmas.{Moves, has_punctuator, condition, items, filter}
 use Rattle.c_parse_stmt.specs.declared.endings.Clause.{Clause}
 use Rattle.c_parse_stmt.specs.declared.endings.Clause.TheVariants as clauses
@@ -67,7 +67,7 @@ last_block room whole left next body (clauses.Except at f) text ts rest j g c =
     (taken_moved room whole left body text text' ts rest h g) r.second.keyword r.second.filter
     (filter_moved room at whole left next body
     (expression f) text text' ts rest c.is.after_keyword c.is.after_filter h g c.is.keyword
-    c.is.filter c.funclets) c.locals
+    c.is.filter c.funclets) c.locals c.bytes
     (no_braced n text' room next r.second.after_filter other r.second.brace none) all x.first.1.1)
     (λ n text' front inner h r has. able_now (HasStatement room whole) n text' (front ++ inner) (
     let t = taken_moved room whole left body text text' ts rest h g in
@@ -97,6 +97,8 @@ last_block room whole left next body (clauses.Except at f) text ts rest j g c =
         statements = λ i. let a = t.statements in let b = has.within.statements i in omega arith;
         expressions = λ i. let a = t.expressions in let b = has.within.expressions i in omega arith;
         locals = λ i. let a = t.locals in let b = has.within.locals i in omega arith;
+        bytes = λ i. subst (λ x. end_of_all_arrays has.trees x ≤ 65536)
+            (ap bytes_so_far c.bytes ∙ t.bytes) (has.within.bytes i);
         funclets = λ i. let a = t.funclets in let b = has.within.funclets i in
             let d = number_length (accepts text' (expression f)) at in
             omega (arith, length-append {A = ℕ});
@@ -110,8 +112,8 @@ last_block room whole left next body (clauses.Finally at) text ts rest j g c =
     let x = r.first in
     no_last n text' room x.first.1.0 at whole left next body x.first.0 r.mid r.second.0
     (braced body text' all r.mid x) (taken_moved room whole left body text text' ts rest h g)
-    r.second.1 c.funclets c.locals (no_braced n text' room next r.second.0 other r.second.2 none)
-    all x.first.1.1)
+    r.second.1 c.funclets c.locals c.bytes
+    (no_braced n text' room next r.second.0 other r.second.2 none) all x.first.1.1)
     (λ n text' front inner h r has. able_now (HasStatement room whole) n text' (front ++ inner) (
     let t = taken_moved room whole left body text text' ts rest h g in
     let l = c.locals in let q = c.funclets in
@@ -130,6 +132,8 @@ last_block room whole left next body (clauses.Finally at) text ts rest j g c =
         statements = λ i. let a = t.statements in let b = has.within.statements i in omega arith;
         expressions = λ i. let a = t.expressions in let b = has.within.expressions i in omega arith;
         locals = λ i. let a = t.locals in let b = has.within.locals i in omega arith;
+        bytes = λ i. subst (λ x. end_of_all_arrays has.trees x ≤ 65536)
+            (ap bytes_so_far c.bytes ∙ t.bytes) (has.within.bytes i);
         funclets = λ i. let a = t.funclets in let b = has.within.funclets i in
             omega (arith, length-append {A = ℕ});
       };
@@ -148,7 +152,7 @@ guarded_found room whole left next after body last (clauses.Except at f) text ts
       after_brace = g.mid;
       brace = g.is.2;
       items = g.are;
-    }) g.taken c.is.keyword c.is.filter c.low c.funclets c.locals
+    }) g.taken c.is.keyword c.is.filter c.low c.funclets c.locals c.bytes
     (record { after_brace = j; brace = c.is.brace; items = are }) t ts g.is.1.1
 guarded_found room whole left next after body last (clauses.Finally at) text ts rest j end g c are
     t =
@@ -157,7 +161,7 @@ guarded_found room whole left next after body last (clauses.Finally at) text ts 
       after_brace = g.mid;
       brace = g.is.2;
       items = g.are;
-    }) g.taken c.is.1 c.funclets c.locals
+    }) g.taken c.is.1 c.funclets c.locals c.bytes
     (record { after_brace = j; brace = c.is.2; items = are }) t ts g.is.1.1
 
 abbrev pub guards : (text : List ℕ) (room : ℕ) (left after : Left) (body : Statements)

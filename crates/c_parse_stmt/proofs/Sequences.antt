@@ -156,7 +156,7 @@ pub failed : (R : Relation) (kind : ℕ) (No Has : Family) (text : List ℕ) (ts
     ((text' : List ℕ) (all other : List Token) → Alike text text' ts → SameFirst rest other
     → R text' all other → No kind text' all) →
     ((text' : List ℕ) (front : List Token) → Alike text text' ts → Fixed R text' front
-    → Able Has 6 text' front) →
+    → Able Has 7 text' front) →
     ((text' : List ℕ) (k : ℕ) (front : List Token) → Alike text text' ts → Fixed R text' front
     → kind ≡ suc k → Onward Has k text' front rest) →
     Failed kind (place text rest) No Has text ts

@@ -1,13 +1,14 @@
 -- `__try` statements from their parts: what is read, and that nothing is at the front where a part
 -- is missing.
-use Rattle.std.proofs.Common.{◌≡◌, ◌≤◌, ◌+◌, ℕ, Bool, true, false, cond, List, [], ◌∷◌, length, length-append, refl, sym, ap, subst, arith, inl, inr}
+use Rattle.std.proofs.Common.{◌≡◌, ◌≤◌, ◌+◌, ℕ, Bool, true, false, cond, List, [], ◌∷◌, length, length-append, refl, sym, ap, ◌∙◌, subst, arith, inl, inr}
 use Rattle.std.specs.Prelude.{◌⊎◌}
 use Rattle.c_lex.specs.declared.keyword.Keyword.TheVariants as keywords
 use Rattle.c_lex.specs.declared.punctuator.Punctuator.TheVariants as punctuators
-use Rattle.c_parse_stmt.specs.Words.{Token, Expression, height, locals, locals_of_all, accepts, funclets_of_all, Statement, TryExcept, TryFinally, Statements, IsCondition, AreBlockItems, IsKeyword, HasPunctuator, HasKeyword, Left, numbers_of, NoFilter, AllWithin, AllTaken, NoBlockItems, IsStatementWithin, NoStatement, AfterKeyword}
+use Rattle.c_parse_stmt.specs.Words.{Token, Expression, height, locals, locals_of_all, accepts, funclets_of_all, Statement, TryExcept, TryFinally, Statements, IsCondition, AreBlockItems, IsKeyword, HasPunctuator, HasKeyword, Left, numbers_of, NoFilter, AllWithin, AllTaken, NoBlockItems, IsStatementWithin, NoStatement, AfterKeyword, bytes_so_far, end_of_all_arrays}
 use Rattle.c_parse_stmt.proofs.Lemmas.{keyword_same, has_same, same_items}
 use Rattle.c_syntax.proofs.Declarations.{condition}
 use Rattle.c_syntax.proofs.Blocks.{place}
+use Rattle.c_parse_stmt.proofs.ArrayEnds.{all_grow}
 use Rattle.c_parse_stmt.proofs.Tails.{IsBraced, AfterExcept, AfterFinally, after_try}
 use Rattle.c_parse_stmt.proofs.Wholes.{fits}
 
@@ -26,7 +27,7 @@ pub number_length : (b : Bool) (at : ℕ) → length (cond b [] (at ∷ [])) ≡
 number_length true at = refl
 number_length false at = refl
 
-pub no_try : (limits : ℕ) (text : List ℕ) (room at : ℕ) (left : Left) (a : List Token) → 6 ≤ limits
+pub no_try : (limits : ℕ) (text : List ℕ) (room at : ℕ) (left : Left) (a : List Token) → 7 ≤ limits
     → room ≡ 0 → left.funclets ≡ 0 → AfterKeyword keywords.Try at a
     (NoStatement room left limits text)
 no_try limits text room at left a i n m ts k s end h d c w = by (after_try text at s ts a end k h)
@@ -54,6 +55,9 @@ no_try_body limits text room at left a none ts k s end h d c w = by
           statements = λ lim. let o = v.statements lim in omega arith;
           expressions = λ lim. let o = v.expressions lim in omega arith;
           locals = λ lim. let o = v.locals lim in omega arith;
+          bytes = λ lim. let o = v.bytes lim in
+              let g = all_grow t.handler (end_of_all_arrays t.body (bytes_so_far left.bytes)) in
+              omega arith;
           funclets = λ lim. let o = v.funclets lim in omega (arith, length-append {A = ℕ});
         })
     by (inr t) =
@@ -62,6 +66,9 @@ no_try_body limits text room at left a none ts k s end h d c w = by
           statements = λ lim. let o = v.statements lim in omega arith;
           expressions = λ lim. let o = v.expressions lim in omega arith;
           locals = λ lim. let o = v.locals lim in omega arith;
+          bytes = λ lim. let o = v.bytes lim in
+              let g = all_grow t.last (end_of_all_arrays t.body (bytes_so_far left.bytes)) in
+              omega arith;
           funclets = λ lim. let o = v.funclets lim in omega (arith, length-append {A = ℕ});
         })
 
@@ -119,10 +126,11 @@ pub no_handler : (limits : ℕ) (text : List ℕ) (room at p : ℕ) (left mid ne
     (body : Statements) (f : Expression) (a b j g : List Token) → IsBraced text body a b
     → AllTaken text room left mid body → IsKeyword keywords.Except p b j → IsCondition text f j g
     → next.funclets + numbers_of (accepts text f) ≡ mid.funclets → next.locals ≡ mid.locals
+    → next.bytes ≡ mid.bytes
     → NoneBraced room next limits text g → AfterKeyword keywords.Try at a
     (NoStatement room left limits text)
-no_handler limits text room at p left mid next body f a b j g is tk kw cn nx ny none ts k s end h d
-    c w =
+no_handler limits text room at p left mid next body f a b j g is tk kw cn nx ny nz none ts k s end h
+    d c w =
     by (after_try text at s ts a end k h)
   where
     by : (AfterExcept text s a end ⊎ AfterFinally text s a end) → ⊥
@@ -141,6 +149,10 @@ no_handler limits text room at p left mid next body f a b j g is tk kw cn nx ny 
           statements = λ lim. let o = v.statements lim in omega arith;
           expressions = λ lim. let o = v.expressions lim in omega arith;
           locals = λ lim. let o = v.locals lim in omega arith;
+          bytes = λ lim. subst (λ x. end_of_all_arrays t.handler x ≤ 65536)
+              (sym (ap bytes_so_far nz ∙ tk.bytes
+              ∙ ap (λ (i : Statements). end_of_all_arrays i (bytes_so_far left.bytes)) u.0))
+              (v.bytes lim);
           funclets = λ lim. let o = v.funclets lim in omega (arith, length-append {A = ℕ});
         })
     by (inr t) = not_finally text body p s a b j end is kw t
@@ -149,11 +161,12 @@ pub except_found : (text : List ℕ) (room at p : ℕ) (left mid next after : Le
     (body handler : Statements) (f : Expression) (a b j g rest : List Token) → 1 ≤ room
     → IsBraced text body a b → AllTaken text room left mid body → IsKeyword keywords.Except p b j
     → IsCondition text f j g → height f ≤ 64 → next.funclets + numbers_of (accepts text f)
-    ≡ mid.funclets → next.locals ≡ mid.locals → IsBraced text handler g rest
+    ≡ mid.funclets → next.locals ≡ mid.locals → next.bytes ≡ mid.bytes
+    → IsBraced text handler g rest
     → AllTaken text room next after handler → AfterKeyword keywords.Try at a
     (λ ts. IsStatementWithin text room left after (TryExcept body p f handler) ts rest)
 except_found text room at p left mid next after body handler f a b j g rest n is tk kw cn low nx ny
-    is' tk' ts k =
+    nz is' tk' ts k =
     let o = tk.statements in let x = tk.expressions in let l = tk.locals in let m = tk.funclets in
     let o' = tk'.statements in let x' = tk'.expressions in let l' = tk'.locals in
     let m' = tk'.funclets in
@@ -176,6 +189,7 @@ except_found text room at p left mid next after body handler f a b j g rest n is
         statements = omega arith;
         expressions = omega arith;
         locals = omega arith;
+        bytes = tk'.bytes ∙ ap (end_of_all_arrays handler) (ap bytes_so_far nz ∙ tk.bytes);
         funclets = omega (arith, length-append {A = ℕ});
       };
     }
@@ -200,7 +214,7 @@ unguarded limits text room at left body a b is x y ts k s end h d c w = by
 
 pub no_finally_left : (limits : ℕ) (text : List ℕ) (room at p : ℕ) (left mid : Left)
     (body : Statements) (a b j : List Token) → IsBraced text body a b
-    → AllTaken text room left mid body → IsKeyword keywords.Finally p b j → 6 ≤ limits
+    → AllTaken text room left mid body → IsKeyword keywords.Finally p b j → 7 ≤ limits
     → mid.funclets ≡ 0 → AfterKeyword keywords.Try at a (NoStatement room left limits text)
 no_finally_left limits text room at p left mid body a b j is tk kw i n ts k s end h d c w = by
     (after_try text at s ts a end k h)
@@ -217,11 +231,11 @@ no_finally_left limits text room at p left mid body a b j is tk kw i n ts k s en
 pub no_last : (limits : ℕ) (text : List ℕ) (room at p : ℕ) (left mid next : Left)
     (body : Statements) (a b j : List Token) → IsBraced text body a b
     → AllTaken text room left mid body → IsKeyword keywords.Finally p b j
-    → next.funclets + 1 ≡ mid.funclets → next.locals ≡ mid.locals
+    → next.funclets + 1 ≡ mid.funclets → next.locals ≡ mid.locals → next.bytes ≡ mid.bytes
     → NoneBraced room next limits text j → AfterKeyword keywords.Try at a
     (NoStatement room left limits text)
-no_last limits text room at p left mid next body a b j is tk kw nx ny none ts k s end h d c w = by
-    (after_try text at s ts a end k h)
+no_last limits text room at p left mid next body a b j is tk kw nx ny nz none ts k s end h d c w =
+    by (after_try text at s ts a end k h)
   where
     by : (AfterExcept text s a end ⊎ AfterFinally text s a end) → ⊥
     by (inl t) = not_except text body p s a b j end is kw t
@@ -237,16 +251,22 @@ no_last limits text room at p left mid next body a b j is tk kw nx ny none ts k 
           statements = λ lim. let o = v.statements lim in omega arith;
           expressions = λ lim. let o = v.expressions lim in omega arith;
           locals = λ lim. let o = v.locals lim in omega arith;
+          bytes = λ lim. subst (λ x. end_of_all_arrays t.last x ≤ 65536)
+              (sym (ap bytes_so_far nz ∙ tk.bytes
+              ∙ ap (λ (i : Statements). end_of_all_arrays i (bytes_so_far left.bytes)) u.0))
+              (v.bytes lim);
           funclets = λ lim. let o = v.funclets lim in omega (arith, length-append {A = ℕ});
         })
 
 pub finally_found : (text : List ℕ) (room at p : ℕ) (left mid next after : Left)
     (body last : Statements) (a b j rest : List Token) → IsBraced text body a b
     → AllTaken text room left mid body → IsKeyword keywords.Finally p b j
-    → next.funclets + 1 ≡ mid.funclets → next.locals ≡ mid.locals → IsBraced text last j rest
+    → next.funclets + 1 ≡ mid.funclets → next.locals ≡ mid.locals → next.bytes ≡ mid.bytes
+    → IsBraced text last j rest
     → AllTaken text room next after last → AfterKeyword keywords.Try at a
     (λ ts. IsStatementWithin text room left after (TryFinally body p last) ts rest)
-finally_found text room at p left mid next after body last a b j rest is tk kw nx ny is' tk' ts k =
+finally_found text room at p left mid next after body last a b j rest is tk kw nx ny nz is' tk' ts
+    k =
     let o = tk.statements in let x = tk.expressions in let l = tk.locals in let m = tk.funclets in
     let o' = tk'.statements in let x' = tk'.expressions in let l' = tk'.locals in
     let m' = tk'.funclets in
@@ -266,6 +286,7 @@ finally_found text room at p left mid next after body last a b j rest is tk kw n
         statements = omega arith;
         expressions = omega arith;
         locals = omega arith;
+        bytes = tk'.bytes ∙ ap (end_of_all_arrays last) (ap bytes_so_far nz ∙ tk.bytes);
         funclets = omega (arith, length-append {A = ℕ});
       };
     }

@@ -1,12 +1,13 @@
 -- Statements from their parts: what is read, and that nothing is at the front where a part is
 -- missing.
-use Rattle.std.proofs.Common.{◌≡◌, ◌≤◌, ◌<◌, ◌+◌, ℕ, Bool, true, false, IsTrue, IsFalse, List, length, length-append, Option, refl, sym, ap, subst, arith, inl, inr}
+use Rattle.std.proofs.Common.{◌≡◌, ◌≤◌, ◌<◌, ◌+◌, ℕ, Bool, true, false, IsTrue, IsFalse, List, length, length-append, Option, refl, sym, ap, ◌∙◌, subst, arith, inl, inr}
 use Rattle.std.specs.Prelude.{◌⊎◌}
-use Rattle.c_parse_stmt.specs.Words.{Keyword, Punctuator, Token, Expression, height, punctuator_follows, NoElse, Closed, statements_over, locals, numbered, comma, Statement, Declare, Block, Evaluate, If, IfElse, While, DoWhile, For, Return, Break, Continue, Leave, TryExcept, TryFinally, IsUpTo, IsCondition, dangles, IsBlockItem, IsKeyword, HasPunctuator, HasKeyword, Left, NoCondition, NoneUpTo, NoBlockItems, Within, IsStatementWithin, NoStatement, NoEvaluation, AfterKeyword}
+use Rattle.c_parse_stmt.specs.Words.{Keyword, Punctuator, Token, Expression, height, punctuator_follows, NoElse, Closed, statements_over, locals, numbered, comma, Statement, Declare, Block, Evaluate, If, IfElse, While, DoWhile, For, Return, Break, Continue, Leave, TryExcept, TryFinally, IsUpTo, IsCondition, dangles, IsBlockItem, IsKeyword, HasPunctuator, HasKeyword, Left, NoCondition, NoneUpTo, NoBlockItems, Within, IsStatementWithin, NoStatement, NoEvaluation, AfterKeyword, bytes_so_far, end_of_arrays}
 use Rattle.c_lex.specs.declared.keyword.Keyword.TheVariants as keywords
 use Rattle.c_lex.specs.declared.punctuator.Punctuator.TheVariants as punctuators
 use Rattle.c_parse_stmt.proofs.Lemmas.{punctuator_class, optional, word, absent, one_statement}
 use Rattle.c_syntax.proofs.Declarations.{condition}
+use Rattle.c_parse_stmt.proofs.ArrayEnds.{grows}
 use Rattle.c_parse_stmt.proofs.Tails.{AfterIf, AfterIfElse, after_if, after_return, after_break, after_continue, after_leave, after_brace}
 
 abbrev pub Fits : ℕ → List ℕ → ℕ → Left → Statement → Type 0
@@ -76,6 +77,7 @@ no_then limits text room less at left e a b n is none ts k s end h d c w = by
           statements = λ lim. let o = v.statements lim in omega arith;
           expressions = λ lim. let o = v.expressions lim in omega arith;
           locals = v.locals;
+          bytes = v.bytes;
           funclets = v.funclets;
         })
     by (inr t) =
@@ -87,6 +89,9 @@ no_then limits text room less at left e a b n is none ts k s end h d c w = by
           statements = λ lim. let o = v.statements lim in omega arith;
           expressions = λ lim. let o = v.expressions lim in omega arith;
           locals = λ lim. let o = v.locals lim in omega arith;
+          bytes = λ lim. let o = v.bytes lim in
+              let g = grows t.else_body (end_of_arrays t.body (bytes_so_far left.bytes)) in
+              omega arith;
           funclets = λ lim. let o = v.funclets lim in omega (arith, length-append {A = ℕ});
         })
 
@@ -122,6 +127,9 @@ no_otherwise limits text room less at left mid e z a b j g n is r els none ts k 
           statements = λ lim. let o = v.statements lim in omega arith;
           expressions = λ lim. let o = v.expressions lim in omega arith;
           locals = λ lim. let o = v.locals lim in omega arith;
+          bytes = λ lim. subst (λ x. end_of_arrays t.else_body x ≤ 65536)
+              (sym (i.bytes ∙ ap (λ (y : Statement). end_of_arrays y (bytes_so_far left.bytes))
+              u.0)) (v.bytes lim);
           funclets = λ lim. let o = v.funclets lim in omega (arith, length-append {A = ℕ});
         })
 
@@ -146,6 +154,7 @@ if_found text room less at left after c z a b rest n is low r f ts k =
         statements = omega arith;
         expressions = omega arith;
         locals = t.locals;
+        bytes = t.bytes;
         funclets = t.funclets;
       };
     }
@@ -184,6 +193,7 @@ if_else_found text room less at left mid after c z y a b d e rest n is low r els
         statements = omega arith;
         expressions = omega arith;
         locals = omega arith;
+        bytes = u.bytes ∙ ap (end_of_arrays y) t.bytes;
         funclets = omega (arith, length-append {A = ℕ});
       };
     }
@@ -238,6 +248,7 @@ no_block limits text room left ts a o none s end h d c w =
       statements = v.statements;
       expressions = v.expressions;
       locals = v.locals;
+      bytes = v.bytes;
       funclets = v.funclets;
     })
 
@@ -300,5 +311,5 @@ plain_by keywords.Try i w d f t r b c l = t refl
 plain_by keywords.Leave i w d f t r b c l = l refl
 plain_by k i w d f t r b c l = tt
 
-abbrev pub left_of : ℕ → ℕ → Left
-left_of locals funclets = record { locals = locals; funclets = funclets }
+abbrev pub left_of : ℕ → ℕ → ℕ → Left
+left_of locals bytes funclets = record { locals = locals; bytes = bytes; funclets = funclets }

@@ -66,6 +66,7 @@ pub record ClauseIsTaken (text : List ℕ) (room : ℕ) (left after : Left) (c :
   pub statements : statements_over c ≤ room
   pub low : height c ≤ MOST_EXPRESSIONS
   pub locals : after.locals ≡ left.locals
+  pub bytes : after.bytes ≡ left.bytes
   pub funclets : after.funclets + numbers text c ≡ left.funclets
 
 -- after the keyword of the clause, which is at a place

@@ -1,3 +1,4 @@
+pub mod ArrayBytes
 pub mod Filters
 pub mod Parts
 pub mod Within

@@ -7,11 +7,12 @@ use Rattle.c_lex.specs.declared.punctuator.Punctuator.TheVariants as punctuators
 use Rattle.c_lex.specs.declared.token.Token.{Token}
 use Rattle.c_syntax.specs.declared.limit.TheConstants.{MOST_EXPRESSIONS}
 use Rattle.c_syntax.specs.Expression.{expression, height}
-use Rattle.c_syntax.specs.Limits.{height_of, height_of_for_initialiser, locals_of_for_initialiser}
+use Rattle.c_syntax.specs.Limits.{height_of, height_of_for_initialiser, locals_of_for_initialiser, end_of_for_initialiser}
 use Rattle.c_syntax.specs.Phrases.{InTurn}
 use Rattle.c_syntax.specs.Statement.{Statement, Statements, first, statement}
 use Rattle.c_syntax.specs.Statements.{IsUpTo, IsCondition, IsForInitialiser, IsForHead, AreBlockItems}
 use Rattle.c_syntax.specs.Tokens.{Phrase, IsKeyword, HasPunctuator, HasKeyword}
+use Rattle.c_parse_stmt.specs.ArrayBytes.{bytes_so_far}
 use Rattle.c_parse_stmt.specs.declared.left.Left.{Left}
 use Rattle.c_parse_stmt.specs.declared.openings.Head.{Head}
 use Rattle.c_parse_stmt.specs.declared.openings.Head.TheVariants as heads
@@ -46,6 +47,13 @@ locals (heads.While at c) = 0
 locals heads.Do = 0
 locals (heads.For at f c n) = locals_of_for_initialiser (first f)
 
+-- where the arrays end that begin at a place
+abbrev pub end_of_arrays : Head → ℕ → ℕ
+end_of_arrays (heads.If at c) from = from
+end_of_arrays (heads.While at c) from = from
+end_of_arrays heads.Do from = from
+end_of_arrays (heads.For at f c n) from = end_of_for_initialiser (first f) from
+
 -- within the limits, with room for the statement, and of the counts so much is left after it
 pub record Heads (text : List ℕ) (room : ℕ) (left after : Left) (h : Head)
     (ts rest : List Token) : Type 0 where
@@ -53,6 +61,7 @@ pub record Heads (text : List ℕ) (room : ℕ) (left after : Left) (h : Head)
   pub some : 1 ≤ room
   pub low : expressions_over h ≤ MOST_EXPRESSIONS
   pub locals : after.locals + locals h ≡ left.locals
+  pub bytes : bytes_so_far after.bytes ≡ end_of_arrays h (bytes_so_far left.bytes)
   pub funclets : after.funclets ≡ left.funclets
 
 abbrev pub IsTry : Phrase

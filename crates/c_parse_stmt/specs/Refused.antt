@@ -3,6 +3,7 @@ use Rattle.std.specs.Prelude.{ℕ, List}
 use Rattle.c_lex.specs.declared.keyword.Keyword.{Keyword}
 use Rattle.c_lex.specs.declared.punctuator.Punctuator.{Punctuator}
 use Rattle.c_lex.specs.declared.token.Token.{Token}
+use Rattle.c_syntax.specs.declared.expression.Base.{Base}
 use Rattle.c_syntax.specs.Statement.{Statement, Statements}
 use Rattle.c_parse_expr.specs.declared.refusal.ParseErr.{ParseErr}
 use Rattle.c_parse_expr.specs.Refusals.{IsPlacedRefusal}
@@ -10,7 +11,7 @@ use Rattle.c_parse_stmt.specs.declared.left.Left.{Left}
 use Rattle.c_parse_stmt.specs.declared.openings.Head.{Head}
 use Rattle.c_parse_stmt.specs.Filters.{NoFilter, HasFilter}
 use Rattle.c_parse_stmt.specs.Openings.{Heads, Holds, Guards, IsTry}
-use Rattle.c_parse_stmt.specs.Parts.{NoPunctuator, APunctuator, NoCondition, HasCondition, NoneUpTo, HasUpTo, NoInitialiser, HasInitialiser, NoLocal, HasLocal, NoLocals, HasLocals, NoDeclaration, HasDeclaration, NoForInitialiser, HasForInitialiser}
+use Rattle.c_parse_stmt.specs.Parts.{NoPunctuator, APunctuator, NoCondition, HasCondition, NoneUpTo, HasUpTo, NoInitialiser, HasInitialiser, NoneBracketed, HasBracketed, NoLength, HasLength, NoLocal, HasLocal, NoLocals, HasLocals, NoDeclaration, HasDeclaration, NoForInitialiser, HasForInitialiser}
 use Rattle.c_parse_stmt.specs.Within.{NoStatement, HasStatement, NoEvaluation, HasEvaluation, NoBlockItem, HasBlockItem, NoBlockItems, HasBlockItems, AfterKeyword}
 
 -- ---- parts
@@ -35,18 +36,27 @@ abbrev pub RefusesInitialiser : ParseErr → ℕ → List ℕ → List Token →
 RefusesInitialiser e room text ts = IsPlacedRefusal e (NoInitialiser room)
     (HasInitialiser room) text ts
 
-abbrev pub RefusesLocal : ParseErr → ℕ → List ℕ → List Token → Type 0
-RefusesLocal e room text ts = IsPlacedRefusal e (NoLocal room) (HasLocal room) text ts
+abbrev pub RefusesBracketed : ParseErr → Base → ℕ → ℕ → List ℕ → List Token → Type 0
+RefusesBracketed e base pointers at text ts =
+    IsPlacedRefusal e (NoneBracketed base pointers at) (HasBracketed base pointers at) text ts
 
-abbrev pub RefusesLocals : ParseErr → ℕ → ℕ → List ℕ → List Token → Type 0
-RefusesLocals e room left text ts = IsPlacedRefusal e (NoLocals room left)
-    (HasLocals room left) text ts
+abbrev pub RefusesLength : ParseErr → Base → ℕ → ℕ → List ℕ → List Token → Type 0
+RefusesLength e base pointers at text ts =
+    IsPlacedRefusal e (NoLength base pointers at) (HasLength base pointers at) text ts
 
-abbrev pub RefusesDeclaration : ParseErr → ℕ → ℕ → List ℕ → List Token → Type 0
+abbrev pub RefusesLocal : ParseErr → Base → ℕ → ℕ → List ℕ → List Token → Type 0
+RefusesLocal e base at room text ts =
+    IsPlacedRefusal e (NoLocal base at room) (HasLocal base at room) text ts
+
+abbrev pub RefusesLocals : ParseErr → Base → ℕ → Left → List ℕ → List Token → Type 0
+RefusesLocals e base room left text ts =
+    IsPlacedRefusal e (NoLocals base room left) (HasLocals base room left) text ts
+
+abbrev pub RefusesDeclaration : ParseErr → ℕ → Left → List ℕ → List Token → Type 0
 RefusesDeclaration e room left text ts =
     IsPlacedRefusal e (NoDeclaration room left) (HasDeclaration room left) text ts
 
-abbrev pub RefusesForInitialiser : ParseErr → ℕ → List ℕ → List Token → Type 0
+abbrev pub RefusesForInitialiser : ParseErr → Left → List ℕ → List Token → Type 0
 RefusesForInitialiser e left text ts =
     IsPlacedRefusal e (NoForInitialiser left) (HasForInitialiser left) text ts
 

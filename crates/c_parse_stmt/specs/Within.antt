@@ -3,14 +3,15 @@
 use Rattle.std.specs.Prelude.{◌≡◌, ◌≤◌, ◌⊎◌, ℕ, ◌+◌, List, [], ◌++◌, length, Option, IsFalse}
 use Rattle.c_lex.specs.declared.keyword.Keyword.{Keyword}
 use Rattle.c_lex.specs.declared.token.Token.{Token}
-use Rattle.c_syntax.specs.declared.limit.Count.TheVariants.{Locals, Funclets}
-use Rattle.c_syntax.specs.declared.limit.TheConstants.{MOST_EXPRESSIONS}
+use Rattle.c_syntax.specs.declared.limit.Count.TheVariants.{Locals, ArrayBytes, Funclets}
+use Rattle.c_syntax.specs.declared.limit.TheConstants.{MOST_EXPRESSIONS, MOST_ARRAY_BYTES}
 use Rattle.c_syntax.specs.Expression.{Expression}
 use Rattle.c_syntax.specs.Follow.{Closed}
-use Rattle.c_syntax.specs.Limits.{Nesting, Number, IsInForce, one_over, expressions_over, expressions_over_all, statements_over, statements_over_all, over_block_item, locals, locals_of_all, numbered, funclets_of_all}
+use Rattle.c_syntax.specs.Limits.{Nesting, Number, IsInForce, one_over, expressions_over, expressions_over_all, statements_over, statements_over_all, over_block_item, locals, locals_of_all, end_of_arrays, end_of_all_arrays, numbered, funclets_of_all}
 use Rattle.c_syntax.specs.Statement.{Statement, Statements, Evaluate}
 use Rattle.c_syntax.specs.Statements.{is_declaration, IsBlockItem, AreBlockItems}
 use Rattle.c_syntax.specs.Tokens.{IsKeyword}
+use Rattle.c_parse_stmt.specs.ArrayBytes.{bytes_so_far}
 use Rattle.c_parse_stmt.specs.declared.left.Left.{Left}
 
 -- ---- what a block holds
@@ -22,6 +23,8 @@ pub record AllWithin (n : ℕ) (text : List ℕ) (room : ℕ) (left : Left)
   pub statements : IsInForce Nesting n → statements_over_all ss ≤ room
   pub expressions : IsInForce Nesting n → expressions_over_all ss ≤ MOST_EXPRESSIONS
   pub locals : IsInForce (Number Locals) n → locals_of_all ss ≤ left.locals
+  pub bytes : IsInForce (Number ArrayBytes) n
+      → end_of_all_arrays ss (bytes_so_far left.bytes) ≤ MOST_ARRAY_BYTES
   pub funclets : IsInForce (Number Funclets) n → length (funclets_of_all text ss) ≤ left.funclets
 
 -- within the limits, and of the counts so much is left after it
@@ -29,6 +32,7 @@ pub record AllTaken (text : List ℕ) (room : ℕ) (left after : Left) (ss : Sta
   pub statements : statements_over_all ss ≤ room
   pub expressions : expressions_over_all ss ≤ MOST_EXPRESSIONS
   pub locals : after.locals + locals_of_all ss ≡ left.locals
+  pub bytes : bytes_so_far after.bytes ≡ end_of_all_arrays ss (bytes_so_far left.bytes)
   pub funclets : after.funclets + length (funclets_of_all text ss) ≡ left.funclets
 
 -- nothing that a block holds is at the front with the brace that ends it, within the limits
@@ -50,12 +54,15 @@ pub record Within (n : ℕ) (text : List ℕ) (over room : ℕ) (left : Left)
   pub statements : IsInForce Nesting n → over ≤ room
   pub expressions : IsInForce Nesting n → expressions_over s ≤ MOST_EXPRESSIONS
   pub locals : IsInForce (Number Locals) n → locals s ≤ left.locals
+  pub bytes : IsInForce (Number ArrayBytes) n
+      → end_of_arrays s (bytes_so_far left.bytes) ≤ MOST_ARRAY_BYTES
   pub funclets : IsInForce (Number Funclets) n → length (numbered text s) ≤ left.funclets
 
 pub record Taken (text : List ℕ) (over room : ℕ) (left after : Left) (s : Statement) : Type 0 where
   pub statements : over ≤ room
   pub expressions : expressions_over s ≤ MOST_EXPRESSIONS
   pub locals : after.locals + locals s ≡ left.locals
+  pub bytes : bytes_so_far after.bytes ≡ end_of_arrays s (bytes_so_far left.bytes)
   pub funclets : after.funclets + length (numbered text s) ≡ left.funclets
 
 -- a statement that isn't a declaration, as far as it continues

@@ -144,12 +144,12 @@ fn except_clause<'a>(
     let (filter, funclets, following) = filter(alloc, text, left.funclets, tokens)?;
     match expect(text, Punctuator::OpenBrace, following) {
         Ok(rest) => {
-            let locals = left.locals;
-            Ok((
-                Clause::Except { at, filter },
-                Left { locals, funclets },
-                rest,
-            ))
+            let after = Left {
+                locals: left.locals,
+                bytes: left.bytes,
+                funclets,
+            };
+            Ok((Clause::Except { at, filter }, after, rest))
         }
         Err(refusal) => {
             drop(filter);
@@ -178,6 +178,7 @@ fn finally_clause<'a>(
     let rest = expect(text, Punctuator::OpenBrace, tokens)?;
     let after = Left {
         locals: left.locals,
+        bytes: left.bytes,
         funclets: left.funclets - 1,
     };
     Ok((Clause::Finally { at }, after, rest))

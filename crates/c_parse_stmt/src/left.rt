@@ -5,6 +5,8 @@
 pub struct Left {
     /// How many locals the function may still declare.
     pub locals: u64,
+    /// How many bytes the function's local arrays may still take.
+    pub bytes: u64,
     /// How many numbered filters and `__finally` blocks the program may still have.
     pub funclets: u64,
 }

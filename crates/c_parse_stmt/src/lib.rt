@@ -19,4 +19,5 @@ pub mod left;
 pub mod locals;
 pub mod openings;
 pub mod parts;
+pub mod sizes;
 pub mod statements;

@@ -217,7 +217,7 @@ fn for_head<'a>(
         return Err(ParseErr::TooDeep { at });
     }
     let following = expect(text, Punctuator::OpenParenthesis, tokens)?;
-    let (first, locals, following) = for_initialiser(alloc, text, left.locals, following)?;
+    let (first, left, following) = for_initialiser(alloc, text, left, following)?;
     match optional(alloc, text, 1, Punctuator::Semicolon, following) {
         Err(refusal) => {
             drop(first);
@@ -231,14 +231,13 @@ fn for_head<'a>(
                     Err(refusal)
                 }
                 Ok((next, rest)) => {
-                    let funclets = left.funclets;
                     let head = Head::For {
                         at,
                         first,
                         condition,
                         next,
                     };
-                    Ok((Opening::Head(head), Left { locals, funclets }, rest))
+                    Ok((Opening::Head(head), left, rest))
                 }
             }
         }

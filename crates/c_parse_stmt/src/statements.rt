@@ -43,9 +43,8 @@ fn declared<'a>(
 {
     match base(tokens) {
         Some(_) => {
-            let (found, locals, rest) = declaration(alloc, text, room, left.locals, tokens)?;
-            let funclets = left.funclets;
-            Ok(Some((declare(found), Left { locals, funclets }, rest)))
+            let (found, left, rest) = declaration(alloc, text, room, left, tokens)?;
+            Ok(Some((declare(found), left, rest)))
         }
         None => {
             if room == 0 {

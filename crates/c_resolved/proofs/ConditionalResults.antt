@@ -3,7 +3,8 @@ use Rattle.std.proofs.Common.{◌≡◌, refl, ap, sym, ◌∙◌}
 use Rattle.std.proofs.lemmas.Bool.{eqb-true}
 use Rattle.std.specs.Prelude.{Bool, true, false, not, ◌&&◌, ◌||◌, nat_eq, nat_lt, if◌then◌else◌, Option, Some, None}
 use Rattle.c_checked.specs.Expression as nodes
-use Rattle.c_resolved.specs.Words.{TypingContext, same_sizes, expression_size, CType, is_pointer, is_void, is_integer, is_scalar, is_void_pointer, same_base, same_type, size_of, common, TypedNode, typed, void_pointer, as_is, as_type, branch_type, as_branch, chosen, conditional_of, comma_of}
+use Rattle.c_resolved.specs.Words.{same_sizes, CType, is_pointer, is_void, is_integer, is_scalar, is_void_pointer, same_base, same_type, size_of, common, TypedNode, typed, void_pointer, as_is, as_type, branch_type, as_branch, chosen, conditional_of, comma_of}
+use Rattle.c_resolved.proofs.Settings.{expression_size, Setting}
 use Rattle.c_resolved.proofs.Conversions.{and_left, and_right}
 use Rattle.c_resolved.proofs.TypeFacts.{void_size, void_not_scalar, pointer_scalar, integer_scalar, common_scalar}
 use Rattle.c_resolved.proofs.Operands.{IsGood, GoodIf, HasSize, and_true, if_good, typed_good, as_is_has, as_type_has, as_is_sound, has_number, alike_sizes}
@@ -41,7 +42,7 @@ same_type_pointer a b h p = ap (nat_lt 0) (sym
     (same_base a.base b.base) h))) ∙ p
 
 -- the other is of the pointer's type, or a literal 0
-other_scalar : (S : TypingContext) (a b : TypedNode) → IsGood S b → is_pointer a.type ≡ true
+other_scalar : (S : Setting) (a b : TypedNode) → IsGood S b → is_pointer a.type ≡ true
     → (same_type a.type b.type || b.zero) ≡ true → is_scalar b.type ≡ true
 other_scalar S a b h p e = by_same (same_type a.type b.type) refl b.zero refl e
   where
@@ -51,7 +52,7 @@ other_scalar S a b h p e = by_same (same_type a.type b.type) refl b.zero refl e
     by_same false s true y e = h.zero y
     by_same false s false y e = absurd (cc)
 
-branches : (S : TypingContext) (a b : TypedNode) → IsGood S a → IsGood S b
+branches : (S : Setting) (a b : TypedNode) → IsGood S a → IsGood S b
     → BranchesIf (branch_type a b) a b
 branches S a b g h =
     let u = a.type in
@@ -86,11 +87,11 @@ branches S a b g h =
     (pointer_scalar v (and_right (is_pointer u) (is_pointer v) p)))
     (λ n. tt)))))
 
-void_branch : (S : TypingContext) (a : TypedNode) → IsGood S a → is_void a.type ≡ true
+void_branch : (S : Setting) (a : TypedNode) → IsGood S a → is_void a.type ≡ true
     → expression_size S (as_is a) ≡ None
 void_branch S a g h = g.sized ∙ void_size a.type h
 
-chosen_good : (S : TypingContext) (c a b : TypedNode) (t : CType) → IsGood S c → IsGood S a
+chosen_good : (S : Setting) (c a b : TypedNode) (t : CType) → IsGood S c → IsGood S a
     → IsGood S b → is_scalar c.type ≡ true → AreBranches t a b
     → IsGood S (typed t (nodes.Conditional (as_is c) (as_branch t a) (as_branch t b)))
 chosen_good S c a b t f g h s r = by_void (is_void t) refl
@@ -123,17 +124,17 @@ chosen_good S c a b t f g h s r = by_void (is_void t) refl
         p.size q.size))
         p.size
 
-chosen_if : (S : TypingContext) (c a b : TypedNode) (o : Option CType) → IsGood S c → IsGood S a
+chosen_if : (S : Setting) (c a b : TypedNode) (o : Option CType) → IsGood S c → IsGood S a
     → IsGood S b → is_scalar c.type ≡ true → BranchesIf o a b → GoodIf S (chosen c a b o)
 chosen_if S c a b None f g h s r = tt
 chosen_if S c a b (Some t) f g h s r = chosen_good S c a b t f g h s r
 
-pub conditional_good : (S : TypingContext) (c a b : TypedNode) → IsGood S c → IsGood S a
+pub conditional_good : (S : Setting) (c a b : TypedNode) → IsGood S c → IsGood S a
     → IsGood S b → GoodIf S (conditional_of c a b)
 conditional_good S c a b f g h = if_good S (is_scalar c.type) _ _
     (λ s. chosen_if S c a b (branch_type a b) f g h s (branches S a b g h)) (λ s. tt)
 
-pub comma_good : (S : TypingContext) (a b : TypedNode) → IsGood S a → IsGood S b
+pub comma_good : (S : Setting) (a b : TypedNode) → IsGood S a → IsGood S b
     → GoodIf S (comma_of a b)
 comma_good S a b g h = record {
   sound = and_true (as_is_sound S a g) (as_is_sound S b h);

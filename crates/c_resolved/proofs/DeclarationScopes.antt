@@ -2,11 +2,11 @@
 use Rattle.std.proofs.Common.{◌≡◌, ℕ, refl, sym, subst}
 use Rattle.std.specs.Prelude.{Bool, true, false, if◌then◌else◌, List, [], ◌∷◌, ◌++◌, length, Option, Some, None}
 use Rattle.c_checked.specs.Statement as checked
-use Rattle.c_resolved.specs.Words.{Base, CType, Expression, start, Local, ForInitialiser, Declaring, Evaluating, is_void, TypedNode, LocalVariable, Names, FaultAt, resolve_expression, Scope, spelled, Environment, Numbering, ResolvedStatements, names_at, filter_names, any, condition, to_type, to_answer, Value, Optional, optional, with_name, declare, declare_all, follow, only, returned, always, ResolvedFilter, resolve_filter, names_only, ResolvedForInitialiser, resolve_for_initialiser, SeenNames, with_local, IsPart, expression_within, optional_within, after_declared, after_all_declared, declared_within, all_declared_within, after_statement, filter_within, statement_within, statements_within}
+use Rattle.c_resolved.specs.Words.{Length, local_entity, local_value, without_initialiser, Base, CType, Expression, start, Local, ForInitialiser, Declaring, Evaluating, is_void, TypedNode, LocalVariable, Names, FaultAt, resolve_expression, Scope, spelled, Environment, Numbering, ResolvedStatements, names_at, filter_names, any, condition, to_type, to_answer, Value, Optional, optional, with_name, declare, declare_all, follow, only, returned, always, ResolvedFilter, resolve_filter, names_only, ResolvedForInitialiser, resolve_for_initialiser, SeenNames, with_local, IsPart, expression_within, optional_within, after_declared, after_all_declared, declared_within, all_declared_within, after_statement, filter_within, statement_within, statements_within}
 use Rattle.c_resolved.proofs.Operands.{and_true}
-use Rattle.c_checked.proofs.ScopeTests.{both_left, both_right, sees_own, sees_before, itself, within}
+use Rattle.c_checked.proofs.ScopeTests.{both_left, both_right, sees_own, sees_before, after_before, itself, within}
 use Rattle.c_resolved.proofs.OperatorScopes.{WithinIf}
-use Rattle.c_resolved.proofs.NameScopes.{ScopeSeen, NamesSeen, scope_wider, with_name_seen, names_seen, filter_names_seen}
+use Rattle.c_resolved.proofs.NameScopes.{EntitySeen, ScopeSeen, NamesSeen, scope_wider, with_name_seen, names_seen, filter_names_seen}
 use Rattle.c_resolved.proofs.ExpressionScopes.{resolved_within}
 
 -- ---- values: what is at fault is a constant
@@ -94,7 +94,7 @@ after_all seen (s ∷ ss) = after_all (after_statement seen s) ss
 
 pub statement_grows : (seen : SeenNames) (s : checked.Statement)
     → IsPart seen (after_statement seen s)
-statement_grows seen (checked.Declare d) = sees_before seen d.local
+statement_grows seen (checked.Declare d) = after_before seen d
 statement_grows seen other = itself seen
 
 pub all_grow : (seen : SeenNames) (ss : List checked.Statement) → IsPart seen (after_all seen ss)
@@ -143,6 +143,24 @@ only_within seen (s ∷ ss) h = both_left (statement_within seen s)
 
 -- ---- declarations
 
+local_seen : (seen : SeenNames) (n : ℕ) (t : CType) (l : Option Length) → seen n ≡ true
+    → EntitySeen seen (local_entity n t l)
+local_seen seen n t None h = h
+local_seen seen n t (Some l) h = h
+
+refused_within : (seen : SeenNames) (s : Names) (e : Option Expression)
+    → optional_within seen (without_initialiser s e).value ≡ true
+refused_within seen s None = refl
+refused_within seen s (Some e) = refl
+
+local_value_within : (seen : SeenNames) (s : Names) → NamesSeen seen s
+    → (t : CType) (l : Option Length) (e : Option Expression)
+    → optional_within seen (local_value s t l e).value ≡ true
+local_value_within seen s known t None e = value_within seen
+    (λ x. to_type t (start x) (resolve_expression s x))
+    (λ x. typed_within seen s known t (start x) x) e
+local_value_within seen s known t (Some l) e = refused_within seen s e
+
 declare_within : (seen : SeenNames) (a : Environment) (base : Base) (l : Local) (block : Scope)
     (n : Numbering) → ScopeSeen seen block → ScopeSeen seen a.outer
     → ResolvesWithin seen (declare a base l block n)
@@ -152,13 +170,13 @@ declare_within seen a base l block n h k =
     let number = length n.sizes in
     let inner = with_local number seen in
     let part = sees_before seen number in
-    let after = with_name block name (LocalVariable number type) in
-    let here : ScopeSeen inner after = with_name_seen inner block name (LocalVariable number type)
-    (scope_wider seen inner part block h) (sees_own seen number) in
+    let meaning = local_entity number type l.length in
+    let after = with_name block name meaning in
+    let here : ScopeSeen inner after = with_name_seen inner block name meaning
+    (scope_wider seen inner part block h)
+    (local_seen inner number type l.length (sees_own seen number)) in
     let known = names_seen inner a after here (scope_wider seen inner part a.outer k) in
-    let value = value_within inner (λ e. to_type type (start e)
-    (resolve_expression (names_at a after) e))
-    (λ e. typed_within inner (names_at a after) known type (start e) e) l.initialiser in
+    let value = local_value_within inner (names_at a after) known type l.length l.initialiser in
     record { within = and_true value refl; block = here }
 
 pub declare_all_within : (seen : SeenNames) (a : Environment) (base : Base) (ls : List Local)
@@ -196,7 +214,7 @@ pub declared_grow : (seen : SeenNames) (ds : List checked.Declared)
     → IsPart seen (after_all_declared seen ds)
 declared_grow seen [] = itself seen
 declared_grow seen (d ∷ ds) = within seen (after_declared seen d)
-    (after_all_declared (after_declared seen d) ds) (sees_before seen d.local)
+    (after_all_declared (after_declared seen d) ds) (after_before seen d)
     (declared_grow (after_declared seen d) ds)
 
 -- what a `for` declares is seen by what it evaluates first, and by its other parts

@@ -2,7 +2,7 @@
 use Rattle.std.proofs.Common.{◌≡◌, ℕ, refl, sym, subst}
 use Rattle.std.specs.Prelude.{Bool, true, false, nat_le, nat_eq, if◌then◌else◌, List, [], ◌∷◌, length, map, Option, Some, None}
 use Rattle.c_checked.specs.Expression as nodes
-use Rattle.c_resolved.specs.Words.{Node, CType, Field, Literal, Arithmetic, Expression, start, Fault, TypeClash, TypedNode, compound_assigned, assigned, comma_of, Entity, LocalVariable, GlobalVariable, GlobalArray, UserFunction, BuiltInFunction, CodeFunction, AbnormalFunction, BuiltInConstant, Names, FaultAt, ResolvedExpression, ruled, rule_1, rule_2, rule_3, given_that, literal, name, field, Wanted, built_in_wants, fits, passed, Argument, Passed, before, spoiled, pass, pass_all, called, call_with, call, changed, resolve_expression, resolve_arguments, OfType, ZeroLiteral, SeenNames, expression_within, node_within, arguments_within}
+use Rattle.c_resolved.specs.Words.{Node, CType, Field, Literal, Arithmetic, Expression, start, Fault, TypeClash, TypedNode, compound_assigned, assigned, comma_of, Entity, LocalVariable, LocalArray, GlobalVariable, GlobalArray, UserFunction, BuiltInFunction, CodeFunction, AbnormalFunction, BuiltInConstant, Names, FaultAt, ResolvedExpression, ruled, rule_1, rule_2, rule_3, given_that, literal, name, field, Wanted, built_in_wants, fits, passed, Argument, Passed, before, spoiled, pass, pass_all, called, call_with, call, changed, resolve_expression, resolve_arguments, OfType, ZeroLiteral, SeenNames, expression_within, node_within, arguments_within}
 use Rattle.c_syntax.specs.declared.expression.Field.TheVariants as record_fields
 use Rattle.c_syntax.specs.declared.expression.Literal.TheVariants as literals
 use Rattle.c_syntax.specs.Expression as trees
@@ -55,6 +55,7 @@ literal_within seen (literals.CharacterConstant c) = refl
 name_within : (seen : SeenNames) (at : ℕ) (e : Option Entity) → MeaningSeen seen e
     → WithinIf seen (name at e).found
 name_within seen at (Some (LocalVariable x t)) h = h
+name_within seen at (Some (LocalArray x t)) h = h
 name_within seen at (Some (GlobalVariable a t)) h = refl
 name_within seen at (Some (GlobalArray a t)) h = refl
 name_within seen at (Some (BuiltInConstant n)) h = refl

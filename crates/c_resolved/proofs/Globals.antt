@@ -4,7 +4,7 @@ use Rattle.std.proofs.Common.{◌≡◌, ◌≤◌, ℕ, ◌+◌, ◌-◌, ◌*�
 use Rattle.std.proofs.lemmas.Bool.{lt-ltb}
 use Rattle.std.proofs.lemmas.List.{length-append, length-replicate, length-take-le}
 use Rattle.std.specs.Prelude.{zero, suc, true, not, nat_lt, if◌then◌else◌, List, [], ◌∷◌, ◌++◌, length, replicate, Option, Some, None}
-use Rattle.c_resolved.specs.Words.{W64, bytes_of, Size, Length, Base, Void, Char, UnsignedChar, Short, UnsignedShort, Int, Unsigned, LongLong, UnsignedLongLong, CType, size_of_base, size, elements, aligned, end_of_globals, bytes_from, Initialiser, Single, Several, Global, ExternalDeclaration, Globals, Function, Duplicate, TypeClash, is_scalar, base_width, bytes_in, stored_bytes, UserFunction, spelled, unless_holds, is_taken, first_data, constant_value, bytes_of_number, bytes_of_all, filled, initial_value, length_faults, global_entity, File, padded, with_global, with_globals, parameter_types, with_external_declaration, file_of}
+use Rattle.c_resolved.specs.Words.{W64, bytes_of, Size, Length, Base, Void, Char, UnsignedChar, Short, UnsignedShort, Int, Unsigned, LongLong, UnsignedLongLong, CType, size_of_base, size, elements, aligned, end_of_globals, bytes_from, Initialiser, Single, Several, Global, ExternalDeclaration, Globals, Function, Duplicate, TypeClash, is_scalar, base_width, bytes_in, stored_bytes, UserFunction, spelled, unless_holds, is_taken, first_data, constant_value, bytes_of_number, bytes_of_all, filled, initial_value, length_faults, global_entity, File, padded, with_global, with_globals, parameter_types, with_external_declaration, file_of, Layout}
 use Rattle.c_checked.specs.Program as checked_program
 use Rattle.c_resolved.proofs.ResolvedExpressions.{EntityFits, FunctionFits}
 use Rattle.c_resolved.proofs.SoundDeclarations.{none_in_both, holds, ScopeFits, with_name_fits}
@@ -55,7 +55,7 @@ same_size b zero h = base_bytes b h
 same_size b (suc p) h = ap (λ c. bytes_of (if c then W64 else base_width b)) (positive p)
 
 -- what a variable takes
-stored : (b : Base) (p : ℕ) → is_scalar (record { base = b; pointers = p }) ≡ true
+pub stored : (b : Base) (p : ℕ) → is_scalar (record { base = b; pointers = p }) ≡ true
     → stored_bytes (record { base = b; pointers = p }) ≡ size b p
 stored b p h = ap (λ k. if k then bytes_in (record { base = b; pointers = p }) else 0) h
     ∙ same_size b p h
@@ -172,23 +172,23 @@ global_fits_after text base g file =
 below_top : (n : ℕ) → n ≤ 1048576 → nat_lt (first_data + n) (2 ^ 64) ≡ true
 below_top n h = lt-ltb (first_data + n) (2 ^ 64) (omega arith)
 
-global_entity_fits : (fs : List checked_program.Function) (zs : List Size) (t : CType) (n : ℕ)
+global_entity_fits : (fs : List checked_program.Function) (zs : List Size) (layout : Layout) (t : CType) (n : ℕ)
     (l : Option Length) → n ≤ 1048576 → is_scalar t ≡ true
-    → EntityFits fs zs (global_entity t (first_data + n) l)
-global_entity_fits fs zs t n None h s = (below_top n h, s)
-global_entity_fits fs zs t n (Some l) h s = tt
+    → EntityFits fs zs layout (global_entity t (first_data + n) l)
+global_entity_fits fs zs layout t n None h s = (below_top n h, s)
+global_entity_fits fs zs layout t n (Some l) h s = tt
 
-global_fits : (fs : List checked_program.Function) (zs : List Size) (text : List ℕ) (base : Base)
+global_fits : (fs : List checked_program.Function) (zs : List Size) (layout : Layout) (text : List ℕ) (base : Base)
     (g : Global) (file : File) → is_scalar (type_of_global base g) ≡ true
     → length (with_global text base g file).bytes ≤ 1048576
-    → ScopeFits fs zs file.scope → ScopeFits fs zs (with_global text base g file).scope
-global_fits fs zs text base g file s h fit =
+    → ScopeFits fs zs layout file.scope → ScopeFits fs zs layout (with_global text base g file).scope
+global_fits fs zs layout text base g file s h fit =
     let t = type_of_global base g in
     let n = length (padded (bytes_in t) file.bytes) in
     let e = global_fits_after text base g file in
-    with_name_fits fs zs file.scope (spelled text g.name)
+    with_name_fits fs zs layout file.scope (spelled text g.name)
     (global_entity t (first_data + n) g.length) fit
-    (global_entity_fits fs zs t n g.length (omega arith) s)
+    (global_entity_fits fs zs layout t n g.length (omega arith) s)
 
 -- ---- globals of one declaration
 
@@ -218,17 +218,17 @@ globals_grow text base (g ∷ gs) file =
     let c = globals_grow text base gs (with_global text base g file) in
     omega arith
 
-globals_fit : (fs : List checked_program.Function) (zs : List Size) (text : List ℕ) (base : Base)
+globals_fit : (fs : List checked_program.Function) (zs : List Size) (layout : Layout) (text : List ℕ) (base : Base)
     (gs : List Global) (file : File) → (with_globals text base gs file).faults ≡ []
     → length (with_globals text base gs file).bytes ≤ 1048576
-    → ScopeFits fs zs file.scope → ScopeFits fs zs (with_globals text base gs file).scope
-globals_fit fs zs text base [] file none h fit = fit
-globals_fit fs zs text base (g ∷ gs) file none h fit =
+    → ScopeFits fs zs layout file.scope → ScopeFits fs zs layout (with_globals text base gs file).scope
+globals_fit fs zs layout text base [] file none h fit = fit
+globals_fit fs zs layout text base (g ∷ gs) file none h fit =
     let next = with_global text base g file in
     let holds = global_holds text base g file (globals_before text base gs next none) in
     let grown = globals_grow text base gs next in
-    globals_fit fs zs text base gs next none h
-    (global_fits fs zs text base g file holds.scalar (omega arith) fit)
+    globals_fit fs zs layout text base gs next none h
+    (global_fits fs zs layout text base g file holds.scalar (omega arith) fit)
 
 -- ---- the file
 
@@ -278,20 +278,20 @@ FunctionsFrom fs k (Globals base gs ∷ xs) = FunctionsFrom fs k xs
 FunctionsFrom fs k (Function t n ps body ∷ xs) = FunctionFits fs k t (parameter_types ps)
     × FunctionsFrom fs (k + 1) xs
 
-pub file_fits : (fs : List checked_program.Function) (zs : List Size) (text : List ℕ)
+pub file_fits : (fs : List checked_program.Function) (zs : List Size) (layout : Layout) (text : List ℕ)
     (xs : List ExternalDeclaration) (file : File) → (file_of text xs file).faults ≡ []
     → length (file_of text xs file).bytes ≤ 1048576
-    → FunctionsFrom fs file.functions xs → ScopeFits fs zs file.scope
-    → ScopeFits fs zs (file_of text xs file).scope
-file_fits fs zs text [] file none h from fit = fit
-file_fits fs zs text (Globals base gs ∷ xs) file none h from fit =
+    → FunctionsFrom fs file.functions xs → ScopeFits fs zs layout file.scope
+    → ScopeFits fs zs layout (file_of text xs file).scope
+file_fits fs zs layout text [] file none h from fit = fit
+file_fits fs zs layout text (Globals base gs ∷ xs) file none h from fit =
     let next = with_globals text base gs file in
     let grown = file_grows text xs next in
-    file_fits fs zs text xs next none h (subst (λ k. FunctionsFrom fs k xs)
+    file_fits fs zs layout text xs next none h (subst (λ k. FunctionsFrom fs k xs)
     (sym (same_functions text base gs file)) from)
-    (globals_fit fs zs text base gs file (file_before text xs next none) (omega arith) fit)
-file_fits fs zs text (Function t n ps body ∷ xs) file none h from fit =
-    file_fits fs zs text xs (with_external_declaration text (Function t n ps body) file) none h
+    (globals_fit fs zs layout text base gs file (file_before text xs next none) (omega arith) fit)
+file_fits fs zs layout text (Function t n ps body ∷ xs) file none h from fit =
+    file_fits fs zs layout text xs (with_external_declaration text (Function t n ps body) file) none h
     from.1
-    (with_name_fits fs zs file.scope (spelled text n)
+    (with_name_fits fs zs layout file.scope (spelled text n)
     (UserFunction file.functions t (parameter_types ps)) fit from.0)

@@ -1,6 +1,7 @@
 pub mod Rows
 pub mod Conversions
 pub mod TypeFacts
+pub mod Settings
 pub mod Operands
 pub mod Results
 pub mod ConditionalResults
@@ -9,6 +10,8 @@ pub mod Numbers
 pub mod SoundDeclarations
 pub mod SoundStatements
 pub mod Globals
+pub mod ArrayBytes
+pub mod PlacedFunclets
 pub mod SoundPrograms
 pub mod LeastFault
 pub mod OperatorScopes
@@ -16,4 +19,6 @@ pub mod NameScopes
 pub mod ExpressionScopes
 pub mod DeclarationScopes
 pub mod StatementScopes
+pub mod Places
+pub mod PlacedScopes
 pub mod ProgramScopes

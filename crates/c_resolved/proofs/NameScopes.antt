@@ -1,14 +1,15 @@
 -- Names that mean no locals but those that are seen.
 use Rattle.std.proofs.Common.{◌≡◌, ℕ, ◌+◌, ◌≤◌, arith}
-use Rattle.std.proofs.lemmas.Bool.{lt-ltb}
-use Rattle.std.specs.Prelude.{Bool, true, false, if◌then◌else◌, List, [], ◌∷◌, ◌++◌, length, Option, Some, None}
-use Rattle.c_resolved.specs.Words.{Length, Parameter, Base, CType, Identifier, Global, ExternalDeclaration, Globals, Function, Entity, LocalVariable, Names, global_entity, File, with_global, with_globals, with_external_declaration, file_of, empty_file, with_parameters, Scope, same_bytes, spelled, meaning_in, built_ins, Environment, is_taken, with_name, names_at, filter_names, SeenNames, IsPart, first_seen}
+use Rattle.std.proofs.lemmas.Bool.{lt-ltb, or_left}
+use Rattle.std.specs.Prelude.{Bool, true, false, nat_lt, if◌then◌else◌, List, [], ◌∷◌, ◌++◌, length, Option, Some, None}
+use Rattle.c_resolved.specs.Words.{Length, Parameter, Base, CType, Identifier, Global, ExternalDeclaration, Globals, Function, Entity, LocalVariable, LocalArray, Names, global_entity, File, with_global, with_globals, with_external_declaration, file_of, empty_file, with_parameters, Scope, same_bytes, spelled, meaning_in, built_ins, Environment, is_taken, with_name, names_at, filter_names, SeenNames, IsPart, first_seen}
 
 -- ---- what names mean
 
 -- a local that is seen, or no local
 abbrev pub EntitySeen : SeenNames → Entity → Type 0
 EntitySeen seen (LocalVariable x t) = seen x ≡ true
+EntitySeen seen (LocalArray x t) = seen x ≡ true
 EntitySeen seen other = Unit {0}
 
 abbrev pub MeaningSeen : SeenNames → Option Entity → Type 0
@@ -24,6 +25,7 @@ NamesSeen seen s = (n : Identifier) → MeaningSeen seen (s.entity n)
 
 entity_wider : (a b : SeenNames) → IsPart a b → (e : Entity) → EntitySeen a e → EntitySeen b e
 entity_wider a b part (LocalVariable x t) h = part x h
+entity_wider a b part (LocalArray x t) h = part x h
 entity_wider a b part other h = tt
 
 -- where more is seen, names that meant what is seen do so
@@ -103,11 +105,11 @@ file_seen seen text xs = file_seen_from seen text xs empty_file tt
 -- ---- parameters are the first locals
 
 pub parameters_seen : (text : List ℕ) (total : ℕ) (ps : List Parameter) (block : Scope) (n : ℕ)
-    → n + length ps ≤ total → ScopeSeen (first_seen total) block
-    → ScopeSeen (first_seen total) (with_parameters text ps block n)
+    → n + length ps ≤ total → ScopeSeen (first_seen total None) block
+    → ScopeSeen (first_seen total None) (with_parameters text ps block n)
 parameters_seen text total [] block n few h = h
 parameters_seen text total (p ∷ ps) block n few h =
     parameters_seen text total ps (with_name block (spelled text p.name) (LocalVariable n p.of))
     (n + 1) (omega arith)
-    (with_name_seen (first_seen total) block (spelled text p.name) (LocalVariable n p.of) h
-    (lt-ltb n total (omega arith)))
+    (with_name_seen (first_seen total None) block (spelled text p.name) (LocalVariable n p.of) h
+    (or_left (nat_lt n total) false (lt-ltb n total (omega arith))))

@@ -3,8 +3,8 @@ use Rattle.std.proofs.Common.{◌≡◌, ◌≤◌, ℕ, ◌+◌, refl, ap, sym,
 use Rattle.std.proofs.lemmas.Bool.{eq-eqb, and_parts, and_from, both_ways}
 use Rattle.std.proofs.lemmas.Slice.Eq.{bytes_eq-Decides}
 use Rattle.std.proofs.lemmas.List.{append-nil, append_assoc, length-append}
-use Rattle.std.specs.Prelude.{suc, Bool, true, false, ◌&&◌, cond, nat_eq, if◌then◌else◌, List, [], ◌∷◌, ◌++◌, length, slice_get, Some, codes}
-use Rattle.c_resolved.specs.Words.{Size, filter_funclet, funclets_in, funclets, count_up, Base, Expression, accepts, numbered, funclets_of_all, locals_of_for_initialiser, Statement, Statements, Local, ForInitialiser, Declaring, Evaluating, Scope, built_ins, spelled, meaning_in, size_of, Environment, Numbering, ResolvedStatements, Near, Beyond, past_finally, inside, is_accepting, always, only, declare, declare_all, ResolvedFilter, resolve_filter, with_number, resolve_for_initialiser, resolve_statement, resolve_statements}
+use Rattle.std.specs.Prelude.{suc, Bool, true, false, ◌&&◌, cond, nat_eq, if◌then◌else◌, List, [], ◌∷◌, ◌++◌, length, slice_get, Some, codes, zero}
+use Rattle.c_resolved.specs.Words.{Size, filter_funclet, funclets_in, funclets, count_up, Base, Expression, accepts, numbered, funclets_of_all, locals_of_for_initialiser, Statement, Statements, Local, ForInitialiser, Declaring, Evaluating, Scope, built_ins, spelled, meaning_in, size_of, Environment, Numbering, ResolvedStatements, Near, Beyond, past_finally, inside, is_accepting, always, only, declare, declare_all, ResolvedFilter, resolve_filter, with_number, resolve_for_initialiser, resolve_statement, resolve_statements, variable_of, elements_of, CType}
 use Rattle.c_checked.specs.Statement as checked
 use Rattle.c_syntax.specs.declared.expression.Literal.TheVariants as literals
 use Rattle.c_syntax.specs.Expression as trees
@@ -14,30 +14,57 @@ use Rattle.c_syntax.specs.Statement as statements
 -- ---- fronts of lists
 
 -- a list begins with another
-abbrev pub IsFront : List Size → List Size → Type 0
-IsFront xs zs = (more : List Size) × (zs ≡ xs ++ more)
+abbrev pub IsFront : {A : Type 0} → List A → List A → Type 0
+IsFront {A} xs zs = (more : List A) × (zs ≡ xs ++ more)
 
-pub front_itself : (xs : List Size) → IsFront xs xs
+pub front_itself : {A : Type 0} (xs : List A) → IsFront xs xs
 front_itself xs = ([], sym (append-nil xs))
 
-pub front_through : (xs ys zs : List Size) → IsFront xs ys → IsFront ys zs → IsFront xs zs
+pub front_through : {A : Type 0} (xs ys zs : List A) → IsFront xs ys → IsFront ys zs
+    → IsFront xs zs
 front_through xs ys zs p q = (p.0 ++ q.0, q.1 ∙ ap (λ w. w ++ q.0) p.1 ∙ append_assoc xs p.0 q.0)
 
-get_after : (xs : List Size) (x : Size) (more : List Size)
+get_after : {A : Type 0} (xs : List A) (x : A) (more : List A)
     → slice_get ((xs ++ x ∷ []) ++ more) (length xs) ≡ Some x
 get_after [] x more = refl
 get_after (y ∷ ys) x more = get_after ys x more
 
 -- the element after a front
-pub front_get : (xs : List Size) (x : Size) (zs : List Size) → IsFront (xs ++ x ∷ []) zs
+pub front_get : {A : Type 0} (xs : List A) (x : A) (zs : List A) → IsFront (xs ++ x ∷ []) zs
     → slice_get zs (length xs) ≡ Some x
 front_get xs x zs h = ap (λ w. slice_get w (length xs)) h.1 ∙ get_after xs x h.0
+
+-- what a front has at a place
+get_front : {A : Type 0} (xs more : List A) (i : ℕ) (x : A) → slice_get xs i ≡ Some x
+    → slice_get (xs ++ more) i ≡ Some x
+get_front [] more i x h = absurd (cc)
+get_front (y ∷ xs) more zero x h = h
+get_front (y ∷ xs) more (suc i) x h = get_front xs more i x h
+
+pub front_has : {A : Type 0} (xs zs : List A) (i : ℕ) (x : A) → IsFront xs zs
+    → slice_get xs i ≡ Some x → slice_get zs i ≡ Some x
+front_has xs zs i x front h = ap (λ w. slice_get w i) front.1 ∙ get_front xs front.0 i x h
+
+-- the one numbering goes on from the other, as many sizes as variables
+abbrev pub Grows : Numbering → Numbering → Type 0
+Grows n p = IsFront n.sizes p.sizes × IsFront n.variables p.variables
+    × (length p.sizes + length n.variables ≡ length p.variables + length n.sizes)
+
+grows_itself : (n : Numbering) → Grows n n
+grows_itself n = (front_itself n.sizes, front_itself n.variables, omega arith)
+
+grows_through : (n m p : Numbering) → Grows n m → Grows m p → Grows n p
+grows_through n m p g h = (
+  front_through n.sizes m.sizes p.sizes g.0 h.0,
+  front_through n.variables m.variables p.variables g.1 h.1,
+  omega (arith, g.2, h.2),
+)
 
 -- ---- counting
 
 -- between two states so many locals are declared, and these funclets are given, at most k
 pub record Counted (n after : Numbering) (ns : List ℕ) (l k : ℕ) : Type 0 where
-  pub front : IsFront n.sizes after.sizes
+  pub grows : Grows n after
   pub sizes : length after.sizes ≡ length n.sizes + l
   pub up : count_up n.number ns ≡ true
   pub number : after.number ≡ n.number + length ns
@@ -48,7 +75,7 @@ pub counted_as : (n p : Numbering) (ns ms : List ℕ) (l r k j : ℕ) → Counte
 counted_as n p ns ms l r k j c e f g =
     let same : length ns ≡ length ms = ap length e in
     record {
-      front = c.front;
+      grows = c.grows;
       sizes = omega (arith, c.sizes);
       up = subst (λ x. count_up n.number x ≡ true) e c.up;
       number = omega (arith, c.number);
@@ -57,7 +84,7 @@ counted_as n p ns ms l r k j c e f g =
 
 pub none_counted : (n : Numbering) (k : ℕ) → Counted n n [] 0 k
 none_counted n k = record {
-  front = front_itself n.sizes;
+  grows = grows_itself n;
   sizes = omega arith;
   up = refl;
   number = omega arith;
@@ -66,7 +93,7 @@ none_counted n k = record {
 
 one_counted : (n : Numbering) → Counted n (with_number n (n.number + 1)) (n.number ∷ []) 0 1
 one_counted n = record {
-  front = front_itself n.sizes;
+  grows = grows_itself n;
   sizes = omega arith;
   up = ap (λ b. b && true) (eq-eqb n.number n.number refl);
   number = refl;
@@ -89,7 +116,7 @@ pub then_counted : (n m p : Numbering) (xs ys : List ℕ) (l r k j : ℕ) → Co
 then_counted n m p xs ys l r k j c d =
     let e = length-append xs ys in
     record {
-      front = front_through n.sizes m.sizes p.sizes c.front d.front;
+      grows = grows_through n m p c.grows d.grows;
       sizes = omega (arith, c.sizes, d.sizes);
       up = count_up_append n.number xs ys c.up (subst (λ x. count_up x ys ≡ true) c.number d.up);
       number = omega (arith, c.number, d.number, e);
@@ -101,8 +128,15 @@ then_counted n m p xs ys l r k j c d =
 declare_counted : (a : Environment) (base : Base) (l : Local) (block : Scope) (n : Numbering)
     → Counted n (declare a base l block n).counts [] 1 0
 declare_counted a base l block n =
+    let type : CType = record { base = base; pointers = l.pointers } in
+    let sizes = length-append n.sizes (size_of type ∷ []) in
+    let variables = length-append n.variables (variable_of type (elements_of l.length) ∷ []) in
     record {
-      front = (size_of (record { base = base; pointers = l.pointers }) ∷ [], refl);
+      grows = (
+        (size_of type ∷ [], refl),
+        (variable_of type (elements_of l.length) ∷ [], refl),
+        omega (arith, sizes, variables),
+      );
       sizes = length-append n.sizes _;
       up = refl;
       number = omega arith;

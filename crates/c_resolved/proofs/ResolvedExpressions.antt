@@ -1,9 +1,10 @@
 -- What an expression is resolved to is good, or the expression holds a fault.
-use Rattle.std.proofs.Common.{◌≡◌, ℕ, ◌%◌, ◌^◌, refl, ap, sym, subst, ◌∙◌, arith}
+use Rattle.std.proofs.Common.{◌≡◌, ℕ, ◌%◌, ◌^◌, refl, ap, sym, subst, ◌∙◌, arith, ◌+◌, ◌*◌, ◌<◌}
 use Rattle.std.proofs.lemmas.Bool.{eqb-true, lt-ltb}
 use Rattle.std.proofs.lemmas.Option.{slice_get_within}
 use Rattle.std.specs.Prelude.{Bool, true, false, ◌&&◌, nat_eq, nat_lt, nat_le, if◌then◌else◌, List, [], ◌∷◌, ◌++◌, length, map, slice_get, Option, Some, None}
-use Rattle.c_resolved.specs.Words.{W32, low, wrapped, Size, Fixity, Arguments, TypingContext, are_sizes, constant_fits, argument_sizes, arguments_sound, call_fits, UnsignedLongLong, CType, Field, Identifier, Literal, Arithmetic, Increment, UnaryOperator, Expression, start, Fault, NotLvalue, TypeClash, ArgCount, CodeOutsideFilter, InfoOutsideFilter, AbnormalOutsideFinally, plain, pointer_to, pointed, is_integer, is_scalar, is_sized_pointer, access_of, width_of, size_of, TypedNode, typed, only_if, int, as_is, as_index, unary_of, binary_of, cast_of, element_of, assigned, compound_assigned, incremented, conditional_of, comma_of, lvalue_of, Entity, LocalVariable, GlobalVariable, GlobalArray, UserFunction, BuiltInFunction, CodeFunction, AbnormalFunction, BuiltInConstant, Names, FaultAt, fault_at, ResolvedExpression, ruled, rule_1, rule_2, rule_3, given_that, integer_base, constant, literal, name, is_lvalue, is_global, is_addressable, operand_is_lvalue, unsigned, field, Wanted, OfType, ZeroLiteral, built_in_wants, built_in_result, fits, passed, Argument, Passed, before, spoiled, pass, pass_all, faults_of, called, call_with, only_where, call, changed, resolve_expression, resolve_arguments, result_size}
+use Rattle.c_resolved.specs.Words.{W32, low, wrapped, Size, Fixity, Arguments, are_sizes, constant_fits, call_fits, UnsignedLongLong, CType, Field, Identifier, Literal, Arithmetic, Increment, UnaryOperator, Expression, start, Fault, NotLvalue, TypeClash, ArgCount, CodeOutsideFilter, InfoOutsideFilter, AbnormalOutsideFinally, plain, pointer_to, pointed, is_integer, is_scalar, is_sized_pointer, access_of, width_of, size_of, TypedNode, typed, only_if, int, as_is, as_index, unary_of, binary_of, cast_of, element_of, assigned, compound_assigned, incremented, conditional_of, comma_of, lvalue_of, Entity, LocalVariable, GlobalVariable, GlobalArray, UserFunction, BuiltInFunction, CodeFunction, AbnormalFunction, BuiltInConstant, Names, FaultAt, fault_at, ResolvedExpression, ruled, rule_1, rule_2, rule_3, given_that, integer_base, constant, literal, name, is_lvalue, operand_is_lvalue, unsigned, field, Wanted, OfType, ZeroLiteral, built_in_wants, built_in_result, fits, passed, Argument, Passed, before, spoiled, pass, pass_all, faults_of, called, call_with, only_where, call, changed, resolve_expression, resolve_arguments, result_size, LocalArray, Layout, Place, place_of, variable_at, array_at, stored_bytes, element_count, is_size}
+use Rattle.c_resolved.proofs.Settings.{argument_sizes, arguments_sound, Setting}
 use Rattle.c_operations.specs.Numbers.{width}
 use Rattle.c_operations.specs.declared.operation.Size.TheVariants as sizes
 use Rattle.c_operations.specs.declared.field.Field.TheVariants as fields
@@ -20,9 +21,9 @@ use Rattle.c_syntax.specs.declared.expression.Literal.TheVariants as literals
 use Rattle.c_syntax.specs.declared.operator.UnaryOperator.TheVariants as unary
 use Rattle.c_syntax.specs.Expression as trees
 use Rattle.c_resolved.proofs.TypeFacts.{pointer_scalar, size_in_memory_is, pointer_to_pointer, can_become_scalar}
-use Rattle.c_resolved.proofs.Operands.{IsGood, GoodIf, HasSize, and_true, typed_good, as_type_has, has_size}
+use Rattle.c_resolved.proofs.Operands.{IsGood, GoodIf, HasSize, and_true, typed_good, as_type_has, has_size, pointer_good}
 use Rattle.c_resolved.proofs.ConditionalResults.{conditional_good, comma_good}
-use Rattle.c_resolved.proofs.Results.{IsInMemory, IsAddressable, unary_good, binary_good, cast_good, element_good, assigned_good, compound_assigned_good, incremented_good}
+use Rattle.c_resolved.proofs.Results.{unary_good, binary_good, cast_good, element_good, assigned_good, compound_assigned_good, incremented_good}
 
 -- ---- faults
 
@@ -44,35 +45,35 @@ no_fault fs e h = subst HasFault e h
 
 -- ---- what is found is good; where nothing is found, there is a fault
 
-abbrev pub FoundOr : TypingContext → Option TypedNode → List FaultAt → Type 0
+abbrev pub FoundOr : Setting → Option TypedNode → List FaultAt → Type 0
 FoundOr S None fs = HasFault fs
 FoundOr S (Some t) fs = IsGood S t
 
-abbrev pub IsSettled : TypingContext → ResolvedExpression → Type 0
+abbrev pub IsSettled : Setting → ResolvedExpression → Type 0
 IsSettled S j = FoundOr S j.found j.faults
 
-found_before : (S : TypingContext) (o : Option TypedNode) (fs gs : List FaultAt) → FoundOr S o fs
+found_before : (S : Setting) (o : Option TypedNode) (fs gs : List FaultAt) → FoundOr S o fs
     → FoundOr S o (fs ++ gs)
 found_before S None fs gs h = fault_before fs gs h
 found_before S (Some t) fs gs h = h
 
-found_after : (S : TypingContext) (o : Option TypedNode) (fs gs : List FaultAt) → FoundOr S o gs
+found_after : (S : Setting) (o : Option TypedNode) (fs gs : List FaultAt) → FoundOr S o gs
     → FoundOr S o (fs ++ gs)
 found_after S None fs gs h = fault_after fs gs h
 found_after S (Some t) fs gs h = h
 
-ruled_settled : (S : TypingContext) (at : ℕ) (f : Fault) (fs : List FaultAt) (o : Option TypedNode)
+ruled_settled : (S : Setting) (at : ℕ) (f : Fault) (fs : List FaultAt) (o : Option TypedNode)
     → GoodIf S o → IsSettled S (ruled at f fs o)
 ruled_settled S at f fs None g = fault_after fs (fault_at at f) tt
 ruled_settled S at f fs (Some t) g = g
 
-rule_1_settled : (S : TypingContext) (at : ℕ) (rule : TypedNode → Option TypedNode)
+rule_1_settled : (S : Setting) (at : ℕ) (rule : TypedNode → Option TypedNode)
     (fs : List FaultAt) (o : Option TypedNode) → FoundOr S o fs
     → ((a : TypedNode) → IsGood S a → GoodIf S (rule a)) → IsSettled S (rule_1 at rule fs o)
 rule_1_settled S at rule fs None h r = h
 rule_1_settled S at rule fs (Some a) h r = ruled_settled S at TypeClash fs (rule a) (r a h)
 
-rule_2_settled : (S : TypingContext) (at : ℕ) (rule : TypedNode → TypedNode → Option TypedNode)
+rule_2_settled : (S : Setting) (at : ℕ) (rule : TypedNode → TypedNode → Option TypedNode)
     (fs : List FaultAt) (o p : Option TypedNode) → FoundOr S o fs → FoundOr S p fs
     → ((a b : TypedNode) → IsGood S a → IsGood S b → GoodIf S (rule a b))
     → IsSettled S (rule_2 at rule fs o p)
@@ -80,7 +81,7 @@ rule_2_settled S at rule fs None p h k r = h
 rule_2_settled S at rule fs (Some a) p h k r = rule_1_settled S at (rule a) fs p k
     (λ b g. r a b h g)
 
-rule_3_settled : (S : TypingContext) (at : ℕ)
+rule_3_settled : (S : Setting) (at : ℕ)
     (rule : TypedNode → TypedNode → TypedNode → Option TypedNode) (fs : List FaultAt)
     (o p q : Option TypedNode) → FoundOr S o fs → FoundOr S p fs → FoundOr S q fs
     → ((a b c : TypedNode) → IsGood S a → IsGood S b → IsGood S c → GoodIf S (rule a b c))
@@ -89,13 +90,13 @@ rule_3_settled S at rule fs None p q h k l r = h
 rule_3_settled S at rule fs (Some a) p q h k l r = rule_2_settled S at (rule a) fs p q k l
     (λ b c g i. r a b c h g i)
 
-given_that_settled : (S : TypingContext) (b : Bool) (at : ℕ) (f : Fault) (fs : List FaultAt)
+given_that_settled : (S : Setting) (b : Bool) (at : ℕ) (f : Fault) (fs : List FaultAt)
     (j : ResolvedExpression) → (b ≡ true → IsSettled S j) → IsSettled S (given_that b at f fs j)
 given_that_settled S true at f fs j h = h refl
 given_that_settled S false at f fs j h = fault_after fs (fault_at at f) tt
 
 -- two expressions, under one rule
-rule_of_two : (S : TypingContext) (at : ℕ) (rule : TypedNode → TypedNode → Option TypedNode)
+rule_of_two : (S : Setting) (at : ℕ) (rule : TypedNode → TypedNode → Option TypedNode)
     (a b : ResolvedExpression) → IsSettled S a → IsSettled S b
     → ((x y : TypedNode) → IsGood S x → IsGood S y → GoodIf S (rule x y))
     → IsSettled S (rule_2 at rule (a.faults ++ b.faults) a.found b.found)
@@ -113,22 +114,31 @@ pub record FunctionFits (functions : List Function) (k : ℕ) (t : CType) (ps : 
     pub takes : function.parameters ≡ map size_of ps
     pub gives : function.returns ≡ result_size t
 
-abbrev pub EntityFits : List Function → List Size → Entity → Type 0
-EntityFits fs zs (LocalVariable x t) = (slice_get zs x ≡ Some (size_of t)) × (is_scalar t ≡ true)
-EntityFits fs zs (GlobalVariable a t) = (nat_lt a (2 ^ 64) ≡ true) × (is_scalar t ≡ true)
-EntityFits fs zs (UserFunction k t ps) = FunctionFits fs k t ps
-EntityFits fs zs other = Unit {0}
+-- a place of a variable of this type, above a base
+abbrev pub PlaceFits : List Size → ℕ → CType → Option ℕ → Option Place → Type 0
+PlaceFits zs base t elements None = Unit {0}
+PlaceFits zs base t elements (Some p) = (is_size sizes.Long (slice_get zs base) ≡ true)
+    × (p.access ≡ access_of t) × (p.elements ≡ elements)
+    × (p.offset + stored_bytes t * element_count elements < 2 ^ 32)
 
-abbrev pub MeaningFits : List Function → List Size → Option Entity → Type 0
-MeaningFits fs zs None = Unit {0}
-MeaningFits fs zs (Some e) = EntityFits fs zs e
+abbrev pub EntityFits : List Function → List Size → Layout → Entity → Type 0
+EntityFits fs zs l (LocalVariable x t) = (slice_get zs x ≡ Some (size_of t))
+    × PlaceFits zs l.base t None (place_of l x) × (is_scalar t ≡ true)
+EntityFits fs zs l (LocalArray x t) = (n : ℕ) × PlaceFits zs l.base t (Some n) (place_of l x)
+EntityFits fs zs l (GlobalVariable a t) = (nat_lt a (2 ^ 64) ≡ true) × (is_scalar t ≡ true)
+EntityFits fs zs l (UserFunction k t ps) = FunctionFits fs k t ps
+EntityFits fs zs l other = Unit {0}
+
+abbrev pub MeaningFits : List Function → List Size → Layout → Option Entity → Type 0
+MeaningFits fs zs l None = Unit {0}
+MeaningFits fs zs l (Some e) = EntityFits fs zs l e
 
 -- what names mean fits the scope of the checked program
-pub record NamesFit (S : TypingContext) (s : Names) : Type 0 where
-  pub entities : (n : Identifier) → MeaningFits S.functions S.sizes (s.entity n)
-  pub code : s.code ≡ true → S.code ≡ true
-  pub information : s.information ≡ true → S.information ≡ true
-  pub abnormal : s.abnormal ≡ true → S.abnormal ≡ true
+pub record NamesFit (S : Setting) (s : Names) : Type 0 where
+  pub entities : (n : Identifier) → MeaningFits S.around.functions S.around.sizes S.layout (s.entity n)
+  pub code : s.code ≡ true → S.around.code ≡ true
+  pub information : s.information ≡ true → S.around.information ≡ true
+  pub abnormal : s.abnormal ≡ true → S.around.abnormal ≡ true
 
 -- ---- literals and names
 
@@ -136,7 +146,7 @@ low_fits : (z : Size) (n : ℕ) → constant_fits z (low (width z) n) ≡ true
 low_fits sizes.Int n = lt-ltb (n % 2 ^ 32) (2 ^ 32) (omega arith)
 low_fits sizes.Long n = lt-ltb (n % 2 ^ 64) (2 ^ 64) (omega arith)
 
-constant_good : (S : TypingContext) (t : CType) (n : ℕ) → is_scalar t ≡ true
+constant_good : (S : Setting) (t : CType) (n : ℕ) → is_scalar t ≡ true
     → IsGood S (constant t n)
 constant_good S t n h = typed_good S t (nodes.Constant (size_of t) (low (width (size_of t)) n)) h
     (low_fits (size_of t) n) refl
@@ -145,7 +155,7 @@ integer_scalar_type : (of : IntegerType) → is_scalar (plain (integer_base of))
 integer_scalar_type integers.Int = refl
 integer_scalar_type of = refl
 
-literal_good : (S : TypingContext) (l : Literal) → IsGood S (literal l)
+literal_good : (S : Setting) (l : Literal) → IsGood S (literal l)
 literal_good S (literals.Integer n of) =
     let h = integer_scalar_type of in
     let g = constant_good S (plain (integer_base of)) n h in
@@ -155,10 +165,34 @@ literal_good S (literals.CharacterConstant c) = constant_good S int (wrapped W32
 within : (zs : List Size) (x : ℕ) (z : Size) → slice_get zs x ≡ Some z → nat_lt x (length zs) ≡ true
 within zs x z h = lt-ltb x (length zs) (slice_get_within zs x z h)
 
-name_settled : (S : TypingContext) (at : ℕ) (e : Option Entity) → MeaningFits S.functions S.sizes e
+variable_placed : (S : Setting) (x : ℕ) (t : CType) (p : Option Place)
+    → slice_get S.around.sizes x ≡ Some (size_of t)
+    → PlaceFits S.around.sizes S.layout.base t None p
+    → (sound.lvalue_sound S.around (variable_at S.layout.base x p) ≡ true)
+    × (sound.lvalue_size S.around (variable_at S.layout.base x p) ≡ Some (size_of t))
+variable_placed S x t None h g = (within S.around.sizes x (size_of t) h, h)
+variable_placed S x t (Some p) h g = (
+  and_true g.0 (lt-ltb p.offset (2 ^ 32) (omega (arith, g.3))),
+  ap (λ a. Some (sound.size_in_memory a.width)) g.1
+      ∙ ap (λ z. Some z) (size_in_memory_is (width_of t)),
+)
+
+array_placed : (S : Setting) (t : CType) (n : ℕ) (p : Option Place)
+    → PlaceFits S.around.sizes S.layout.base t (Some n) p
+    → (sound.node_sound S.around (array_at S.layout.base p) ≡ true)
+    × (sound.node_size S.around (array_at S.layout.base p) ≡ Some sizes.Long)
+array_placed S t n None g = (refl, refl)
+array_placed S t n (Some p) g =
+    (and_true g.0 (lt-ltb p.offset (2 ^ 32) (omega (arith, g.3))), refl)
+
+name_settled : (S : Setting) (at : ℕ) (e : Option Entity) → MeaningFits S.around.functions S.around.sizes S.layout e
     → IsSettled S (name at e)
-name_settled S at (Some (LocalVariable x t)) h = typed_good S t (nodes.Read (nodes.Local x)) h.1
-    (within S.sizes x (size_of t) h.0) h.0
+name_settled S at (Some (LocalVariable x t)) h =
+    let v = variable_placed S x t (place_of S.layout x) h.0 h.1 in
+    typed_good S t (nodes.Read (nodes.Local x)) h.2 v.0 v.1
+name_settled S at (Some (LocalArray x t)) h =
+    let a = array_placed S t h.0 (place_of S.layout x) h.1 in
+    pointer_good S (pointer_to t) (nodes.StackedArray x 0) (pointer_to_pointer t) a.0 a.1
 name_settled S at (Some (GlobalVariable a t)) h = typed_good S t
     (nodes.Read (nodes.Global (access_of t) a)) h.1 h.0
     (ap (λ z. Some z) (size_in_memory_is (width_of t)))
@@ -167,7 +201,7 @@ name_settled S at (Some (GlobalArray a t)) h = constant_good S (pointer_to t) a
 name_settled S at (Some (BuiltInConstant n)) h = constant_good S int n refl
 name_settled S at other h = tt
 
-field_settled : (S : TypingContext) (f : Field) → S.information ≡ true → IsSettled S (field f)
+field_settled : (S : Setting) (f : Field) → S.around.information ≡ true → IsSettled S (field f)
 field_settled S record_fields.Code h = typed_good S unsigned
     (nodes.Information fields.ExceptionCode) refl h refl
 field_settled S record_fields.Flags h = typed_good S unsigned
@@ -179,76 +213,13 @@ field_settled S (record_fields.Information k at) h =
     (λ e. typed_good S (plain UnsignedLongLong)
     (nodes.Information (fields.ExceptionInformation k)) refl h refl)
 
--- ---- what `&` is applied to
+-- ---- one operand
 
-abbrev pub FoundInMemory : Option TypedNode → Type 0
-FoundInMemory None = Unit {0}
-FoundInMemory (Some a) = IsInMemory (lvalue_of a.node)
-
-name_in_memory : (at : ℕ) (e : Option Entity) → is_global e ≡ true → FoundInMemory (name at e).found
-name_in_memory at None h = tt
-name_in_memory at (Some (GlobalVariable a t)) h = refl
-name_in_memory at other h = absurd (cc)
-
-only_if_in_memory : (c : Bool) (t : TypedNode) → IsInMemory (lvalue_of t.node)
-    → FoundInMemory (only_if c t)
-only_if_in_memory true t h = h
-only_if_in_memory false t h = tt
-
-ruled_in_memory : (at : ℕ) (f : Fault) (fs : List FaultAt) (o : Option TypedNode) → FoundInMemory o
-    → FoundInMemory (ruled at f fs o).found
-ruled_in_memory at f fs None h = tt
-ruled_in_memory at f fs (Some t) h = h
-
-element_in_memory : (at : ℕ) (fs : List FaultAt) (o p : Option TypedNode)
-    → FoundInMemory (rule_2 at element_of fs o p).found
-element_in_memory at fs None p = tt
-element_in_memory at fs (Some a) None = tt
-element_in_memory at fs (Some a) (Some i) = ruled_in_memory at TypeClash fs (element_of a i)
-    (only_if_in_memory (is_sized_pointer a.type && is_integer i.type)
-    (typed (pointed a.type) (nodes.Read (nodes.Element (access_of (pointed a.type)) (as_is a)
-    (as_index a.type i)))) refl)
-
-indirection_in_memory : (at : ℕ) (fs : List FaultAt) (o : Option TypedNode)
-    → FoundInMemory (rule_1 at (unary_of unary.Indirection) fs o).found
-indirection_in_memory at fs None = tt
-indirection_in_memory at fs (Some a) = ruled_in_memory at TypeClash fs
-    (unary_of unary.Indirection a)
-    (only_if_in_memory (is_sized_pointer a.type)
-    (typed (pointed a.type) (nodes.Read (nodes.Indirection (access_of (pointed a.type))
-    (as_is a)))) refl)
-
-in_memory : (s : Names) (e : Expression) → is_addressable s e ≡ true
-    → FoundInMemory (resolve_expression s e).found
-in_memory s (trees.Variable n) h = name_in_memory n.start (s.entity n) h
-in_memory s (trees.Parentheses at e) h = in_memory s e h
-in_memory s (trees.Index a at i) h = element_in_memory at
-    ((resolve_expression s a).faults ++ (resolve_expression s i).faults)
-    (resolve_expression s a).found (resolve_expression s i).found
-in_memory s (trees.Unary at unary.Indirection e) h = indirection_in_memory at
-    (resolve_expression s e).faults (resolve_expression s e).found
-in_memory s (trees.Unary at o e) h = absurd (cc)
-in_memory s other h = absurd (cc)
-
-abbrev Addressable : UnaryOperator → Option TypedNode → Type 0
-Addressable unary.AddressOf x = FoundInMemory x
-Addressable other x = Unit {0}
-
-addressable : (s : Names) (o : UnaryOperator) (e : Expression) → operand_is_lvalue o s e ≡ true
-    → Addressable o (resolve_expression s e).found
-addressable s unary.AddressOf e h = in_memory s e h
-addressable s other e h = tt
-
-addressable_node : (o : UnaryOperator) (a : TypedNode) → Addressable o (Some a) → IsAddressable o a
-addressable_node unary.AddressOf a h = h
-addressable_node other a h = tt
-
-unary_settled : (S : TypingContext) (at : ℕ) (o : UnaryOperator) (fs : List FaultAt)
-    (x : Option TypedNode) → FoundOr S x fs → Addressable o x
-    → IsSettled S (rule_1 at (unary_of o) fs x)
-unary_settled S at o fs None g h = g
-unary_settled S at o fs (Some a) g h = ruled_settled S at TypeClash fs (unary_of o a)
-    (unary_good S o a g (addressable_node o a h))
+unary_settled : (S : Setting) (at : ℕ) (o : UnaryOperator) (fs : List FaultAt)
+    (x : Option TypedNode) → FoundOr S x fs → IsSettled S (rule_1 at (unary_of o) fs x)
+unary_settled S at o fs None g = g
+unary_settled S at o fs (Some a) g = ruled_settled S at TypeClash fs (unary_of o a)
+    (unary_good S o a g)
 
 -- ---- calls
 
@@ -256,13 +227,13 @@ abbrev wanted_size : Wanted → Size
 wanted_size (OfType t) = size_of t
 wanted_size ZeroLiteral = sizes.Int
 
-passed_has : (S : TypingContext) (w : Wanted) (a : TypedNode) → IsGood S a → fits w a ≡ true
+passed_has : (S : Setting) (w : Wanted) (a : TypedNode) → IsGood S a → fits w a ≡ true
     → HasSize S (passed w a) (wanted_size w)
 passed_has S (OfType t) a g h = as_type_has S a t g (can_become_scalar t a g.zero h).0
 passed_has S ZeroLiteral a g h = as_type_has S a int g (g.zero h)
 
 -- arguments of these sizes are passed, or there is a fault
-abbrev PassedOr : TypingContext → List Size → Option Arguments → List FaultAt → Type 0
+abbrev PassedOr : Setting → List Size → Option Arguments → List FaultAt → Type 0
 PassedOr S zs None fs = HasFault fs
 PassedOr S zs (Some es) fs = (arguments_sound S es ≡ true)
     × (are_sizes zs (argument_sizes S es) ≡ true)
@@ -270,7 +241,7 @@ PassedOr S zs (Some es) fs = (arguments_sound S es ≡ true)
 abbrev rest_of : Option Arguments → List FaultAt → Passed
 rest_of o fs = record { found = o; faults = fs }
 
-before_settled : (S : TypingContext) (e : nodes.Expression) (z : Size) (zs : List Size)
+before_settled : (S : Setting) (e : nodes.Expression) (z : Size) (zs : List Size)
     (fs : List FaultAt) (o : Option Arguments) (gs : List FaultAt) → HasSize S e z
     → PassedOr S zs o gs
     → PassedOr S (z ∷ zs) (before fs e (rest_of o gs)).found (fs ++ gs)
@@ -278,7 +249,7 @@ before_settled S e z zs fs None gs h p = fault_after fs gs p
 before_settled S e z zs fs (Some es) gs h p =
     (and_true h.sound p.0, and_true (has_size S e z h) p.1)
 
-pass_settled : (S : TypingContext) (w : Wanted) (at : ℕ) (fs : List FaultAt) (o : Option TypedNode)
+pass_settled : (S : Setting) (w : Wanted) (at : ℕ) (fs : List FaultAt) (o : Option TypedNode)
     (rest : Passed) (zs : List Size) → FoundOr S o fs → PassedOr S zs rest.found rest.faults
     → PassedOr S (wanted_size w ∷ zs) (pass w at fs o rest).found (pass w at fs o rest).faults
 pass_settled S w at fs None rest zs g p = fault_before fs rest.faults g
@@ -294,11 +265,11 @@ pass_settled S w at fs (Some a) rest zs g p = by_fit (fits w a) refl
     by_fit false e = fault_before (fs ++ fault_at at TypeClash) rest.faults
         (fault_after fs (fault_at at TypeClash) tt)
 
-abbrev pub AllSettled : TypingContext → List Argument → Type 0
+abbrev pub AllSettled : Setting → List Argument → Type 0
 AllSettled S [] = Unit {0}
 AllSettled S (a ∷ more) = IsSettled S a.resolved × AllSettled S more
 
-pass_all_settled : (S : TypingContext) (ws : List Wanted) (args : List Argument)
+pass_all_settled : (S : Setting) (ws : List Wanted) (args : List Argument)
     → length ws ≡ length args → AllSettled S args
     → PassedOr S (map wanted_size ws) (pass_all ws args).found (pass_all ws args).faults
 pass_all_settled S [] [] e g = (refl, refl)
@@ -309,14 +280,14 @@ pass_all_settled S (w ∷ ws) (a ∷ more) e g =
     pass_settled S w a.at a.resolved.faults a.resolved.found (pass_all ws more) (map wanted_size ws)
     g.0 (pass_all_settled S ws more same g.1)
 
-called_settled : (S : TypingContext) (t : CType) (make : Arguments → nodes.Node) (zs : List Size)
+called_settled : (S : Setting) (t : CType) (make : Arguments → nodes.Node) (zs : List Size)
     (o : Option Arguments) (fs : List FaultAt) → PassedOr S zs o fs
     → ((es : Arguments) → arguments_sound S es ≡ true → are_sizes zs (argument_sizes S es) ≡ true
     → IsGood S (typed t (make es))) → IsSettled S (called t make (rest_of o fs))
 called_settled S t make zs None fs p h = p
 called_settled S t make zs (Some es) fs p h = h es p.0 p.1
 
-call_with_settled : (S : TypingContext) (at : ℕ) (ws : List Wanted) (t : CType)
+call_with_settled : (S : Setting) (at : ℕ) (ws : List Wanted) (t : CType)
     (make : Arguments → nodes.Node) (args : List Argument) → AllSettled S args
     → ((es : Arguments) → arguments_sound S es ≡ true
     → are_sizes (map wanted_size ws) (argument_sizes S es) ≡ true → IsGood S (typed t (make es)))
@@ -332,8 +303,8 @@ wanted_types : (ps : List CType) → map wanted_size (map OfType ps) ≡ map siz
 wanted_types [] = refl
 wanted_types (p ∷ ps) = ap (λ zs. size_of p ∷ zs) (wanted_types ps)
 
-user_good : (S : TypingContext) (f : ℕ) (t : CType) (ps : List CType) (es : Arguments)
-    → FunctionFits S.functions f t ps → arguments_sound S es ≡ true
+user_good : (S : Setting) (f : ℕ) (t : CType) (ps : List CType) (es : Arguments)
+    → FunctionFits S.around.functions f t ps → arguments_sound S es ≡ true
     → are_sizes (map wanted_size (map OfType ps)) (argument_sizes S es) ≡ true
     → IsGood S (typed t (nodes.Call f es))
 user_good S f t ps es fit p q =
@@ -347,7 +318,7 @@ user_good S f t ps es fit p q =
       zero = λ z. absurd (cc);
     }
 
-built_in_good : (S : TypingContext) (k : BuiltIn) (es : Arguments) → arguments_sound S es ≡ true
+built_in_good : (S : Setting) (k : BuiltIn) (es : Arguments) → arguments_sound S es ≡ true
     → are_sizes (map wanted_size (built_in_wants k)) (argument_sizes S es) ≡ true
     → IsGood S (typed (built_in_result k) (nodes.CallBuiltIn k es))
 built_in_good S Put es p q = record { sound = and_true p q; sized = refl; zero = λ z. absurd (cc) }
@@ -364,7 +335,7 @@ built_in_good S RaiseException es p q = record {
 built_in_good S Walk es p q = record { sound = and_true p q; sized = refl; zero = λ z. absurd (cc) }
 
 -- a call that has a meaning in some places alone, whose node has no arguments
-only_where_settled : (S : TypingContext) (b : Bool) (at : ℕ) (f : Fault) (ws : List Wanted)
+only_where_settled : (S : Setting) (b : Bool) (at : ℕ) (f : Fault) (ws : List Wanted)
     (t : CType) (n : nodes.Node) (args : List Argument) → AllSettled S args
     → (b ≡ true → IsGood S (typed t n))
     → IsSettled S (only_where b at f (call_with at ws t (λ es. n) args))
@@ -373,8 +344,8 @@ only_where_settled S b at f ws t n args g h =
     given_that_settled S b at f r.faults r λ e. call_with_settled S at ws t (λ es. n) args g
     (λ es p q. h e)
 
-call_settled : (S : TypingContext) (s : Names) → NamesFit S s
-    → (at : ℕ) (e : Option Entity) (args : List Argument) → MeaningFits S.functions S.sizes e
+call_settled : (S : Setting) (s : Names) → NamesFit S s
+    → (at : ℕ) (e : Option Entity) (args : List Argument) → MeaningFits S.around.functions S.around.sizes S.layout e
     → AllSettled S args → IsSettled S (call s at e args)
 call_settled S s fit at (Some (UserFunction f t ps)) args h g = call_with_settled S at
     (map OfType ps) t (nodes.Call f) args g (λ es p q. user_good S f t ps es h p q)
@@ -391,7 +362,7 @@ call_settled S s fit at other args h g = tt
 
 -- ---- expressions
 
-changed_settled : (S : TypingContext) (o : Option Arithmetic) (at value_at : ℕ)
+changed_settled : (S : Setting) (o : Option Arithmetic) (at value_at : ℕ)
     (a b : ResolvedExpression) → IsSettled S a → IsSettled S b
     → IsSettled S (changed o at value_at a b)
 changed_settled S None at value_at a b g h = rule_of_two S value_at assigned a b g h
@@ -399,7 +370,7 @@ changed_settled S None at value_at a b g h = rule_of_two S value_at assigned a b
 changed_settled S (Some o) at value_at a b g h = rule_of_two S at (compound_assigned o) a b g h
     (compound_assigned_good S o)
 
-incremented_settled : (S : TypingContext) (lvalue : Bool) (first at : ℕ) (m : Fixity)
+incremented_settled : (S : Setting) (lvalue : Bool) (first at : ℕ) (m : Fixity)
     (o : Increment) (j : ResolvedExpression) → IsSettled S j
     → IsSettled S (given_that lvalue first NotLvalue j.faults
     (rule_1 at (incremented m o) j.faults j.found))
@@ -408,7 +379,7 @@ incremented_settled S lvalue first at m o j g =
     (rule_1 at (incremented m o) j.faults j.found) λ e. rule_1_settled S at (incremented m o)
     j.faults j.found g (incremented_good S m o)
 
-conditional_settled : (S : TypingContext) (at : ℕ) (c a b : ResolvedExpression) → IsSettled S c
+conditional_settled : (S : Setting) (at : ℕ) (c a b : ResolvedExpression) → IsSettled S c
     → IsSettled S a → IsSettled S b
     → IsSettled S (rule_3 at conditional_of (c.faults ++ a.faults ++ b.faults) c.found a.found
     b.found)
@@ -421,7 +392,7 @@ conditional_settled S at c a b f g h =
     (found_after S b.found (c.faults ++ a.faults) b.faults h) (conditional_good S)
 
 mutual
-  pub settled : (S : TypingContext) (s : Names) → NamesFit S s → (e : Expression)
+  pub settled : (S : Setting) (s : Names) → NamesFit S s → (e : Expression)
       → IsSettled S (resolve_expression s e)
   settled S s fit (trees.Constant at l) = literal_good S l
   settled S s fit (trees.Variable n) = name_settled S n.start (s.entity n) (fit.entities n)
@@ -440,7 +411,7 @@ mutual
       let j = resolve_expression s e in
       given_that_settled S (operand_is_lvalue o s e) (start e) NotLvalue j.faults
       (rule_1 at (unary_of o) j.faults j.found)
-      (λ h. unary_settled S at o j.faults j.found (settled S s fit e) (addressable s o e h))
+      (λ h. unary_settled S at o j.faults j.found (settled S s fit e))
   settled S s fit (trees.Cast at t e) = rule_1_settled S at (cast_of t)
       (resolve_expression s e).faults (resolve_expression s e).found (settled S s fit e)
       (cast_good S t)
@@ -458,7 +429,7 @@ mutual
   settled S s fit (trees.Comma a at b) = rule_of_two S at comma_of (resolve_expression s a)
       (resolve_expression s b) (settled S s fit a) (settled S s fit b) (comma_good S)
 
-  all_settled : (S : TypingContext) (s : Names) → NamesFit S s → (es : trees.Arguments)
+  all_settled : (S : Setting) (s : Names) → NamesFit S s → (es : trees.Arguments)
       → AllSettled S (resolve_arguments s es)
   all_settled S s fit trees.Done = tt
   all_settled S s fit (trees.Next e es) = (settled S s fit e, all_settled S s fit es)

@@ -1,7 +1,8 @@
 -- What operators make of good operands is good.
 use Rattle.std.proofs.Common.{◌≡◌, ℕ, refl, ap, sym, ◌∙◌}
 use Rattle.std.specs.Prelude.{Bool, true, false, not, ◌&&◌, ◌||◌, if◌then◌else◌, Option, Some, None}
-use Rattle.c_resolved.specs.Words.{Operation, Signedness, Size, Conversion, Kept, Fixity, Lvalue, TypingContext, is_number, both, can_convert, size_after, constant_fits, amount_fits, change_fits, unary_takes, takes, is_in_memory, node_size, node_sound, lvalue_size, expression_size, expression_sound, LongLong, CType, Arithmetic, BinaryOperator, Comparison, Increment, UnaryOperator, plain, pointer_to, pointed, is_pointer, is_integer, is_scalar, is_void_pointer, is_sized_pointer, same_type, sort_of, width_of, access_of, size_of, bytes_in, promoted, common, conversion, TypedNode, typed, only_if, int, void_pointer, as_is, as_type, as_index, can_become, operation_of, operation_in, is_shift, working_type, right_operand, on_integers, long_operation, moved, sum, difference, arithmetic_of, relation_of, compared, are_comparable, comparison_of, binary_of, lvalue_of, with_lvalue, address, unary_of, cast_of, element_of, assigned, is_additive, compound_assigned, increment_operator, incremented}
+use Rattle.c_resolved.specs.Words.{Operation, Signedness, Size, Conversion, Kept, Fixity, Lvalue, is_number, both, can_convert, size_after, constant_fits, amount_fits, change_fits, unary_takes, takes, LongLong, CType, Arithmetic, BinaryOperator, Comparison, Increment, UnaryOperator, plain, pointer_to, pointed, is_pointer, is_integer, is_scalar, is_void_pointer, is_sized_pointer, same_type, sort_of, width_of, access_of, size_of, bytes_in, promoted, common, conversion, TypedNode, typed, only_if, int, void_pointer, as_is, as_type, as_index, can_become, operation_of, operation_in, is_shift, working_type, right_operand, on_integers, long_operation, moved, sum, difference, arithmetic_of, relation_of, compared, are_comparable, comparison_of, binary_of, lvalue_of, with_lvalue, address, unary_of, cast_of, element_of, assigned, is_additive, compound_assigned, increment_operator, incremented, address_of, place_lvalue}
+use Rattle.c_resolved.proofs.Settings.{node_size, node_sound, lvalue_size, expression_size, expression_sound, Setting}
 use Rattle.c_operations.specs.declared.operation.Operation.TheVariants as operations
 use Rattle.c_operations.specs.declared.operation.Pure.{Pure}
 use Rattle.c_operations.specs.declared.operation.Pure.TheVariants as pures
@@ -9,6 +10,7 @@ use Rattle.c_operations.specs.declared.operation.Relation.{Relation}
 use Rattle.c_operations.specs.declared.operation.Signedness.TheVariants as signs
 use Rattle.c_operations.specs.declared.operation.Size.TheVariants as sizes
 use Rattle.c_checked.specs.Expression as nodes
+use Rattle.c_checked.specs.Sound as sound
 use Rattle.c_checked.specs.Expression.{Expression}
 use Rattle.c_syntax.specs.declared.operator.Arithmetic.TheVariants as arithmetic
 use Rattle.c_syntax.specs.declared.operator.BinaryOperator.TheVariants as binary
@@ -35,7 +37,7 @@ takes_shift arithmetic.ShiftRight s sizes.Long y h = refl
 takes_shift o s z y h = absurd (cc)
 
 -- the right operand is of a size that the operation takes
-right_has : (S : TypingContext) (o : Arithmetic) (t : CType) (b : TypedNode) → IsGood S b
+right_has : (S : Setting) (o : Arithmetic) (t : CType) (b : TypedNode) → IsGood S b
     → is_scalar b.type ≡ true → (x : Bool) → is_shift o ≡ x
     → (y : Size) × HasSize S (if x then as_is b else as_type t b) y
     × (takes (operation_in o t) (Some (size_of t)) (Some y) ≡ Some (size_of t))
@@ -58,7 +60,7 @@ working_scalar o a b h k = by_shift (is_shift o)
     by_shift true = promoted_scalar a h
     by_shift false = common_scalar a b h k
 
-pub integers_good : (S : TypingContext) (o : Arithmetic) (a b : TypedNode) → IsGood S a → IsGood S b
+pub integers_good : (S : Setting) (o : Arithmetic) (a b : TypedNode) → IsGood S a → IsGood S b
     → GoodIf S (on_integers o a b)
 integers_good S o a b g h =
     let t = working_type o a.type b.type in
@@ -78,7 +80,7 @@ sized_is_pointer : (t : CType) → is_sized_pointer t ≡ true → is_pointer t 
 sized_is_pointer t h = and_left (is_pointer t) (not (is_void_pointer t)) h
 
 -- of two operands of 64 bits
-long_has : (S : TypingContext) (o : Arithmetic) (e f : Expression) → HasSize S e sizes.Long
+long_has : (S : Setting) (o : Arithmetic) (e f : Expression) → HasSize S e sizes.Long
     → HasSize S f sizes.Long
     → (node_sound S (nodes.Binary (long_operation o) e f) ≡ true)
     × (node_size S (nodes.Binary (long_operation o) e f) ≡ Some sizes.Long)
@@ -86,7 +88,7 @@ long_has S o e f p q = binary_has S (long_operation o) e f sizes.Long sizes.Long
     (takes_alike o signs.Unsigned sizes.Long)
 
 -- a pointer and an index
-pointed_has : (S : TypingContext) (p i : TypedNode) → IsGood S p → IsGood S i
+pointed_has : (S : Setting) (p i : TypedNode) → IsGood S p → IsGood S i
     → (is_sized_pointer p.type && is_integer i.type) ≡ true
     → (is_pointer p.type ≡ true) × HasSize S (as_is p) sizes.Long
     × HasSize S (as_index p.type i) sizes.Long
@@ -99,7 +101,7 @@ pointed_has S p i g h e =
           (integer_scalar i.type (and_right (is_sized_pointer p.type) (is_integer i.type) e)),
     )
 
-moved_good : (S : TypingContext) (o : Arithmetic) (p i : TypedNode) → IsGood S p → IsGood S i
+moved_good : (S : Setting) (o : Arithmetic) (p i : TypedNode) → IsGood S p → IsGood S i
     → (is_sized_pointer p.type && is_integer i.type) ≡ true → IsGood S (moved o p i)
 moved_good S o p i g h e =
     let r = pointed_has S p i g h e in
@@ -111,7 +113,7 @@ abbrev index_first : TypedNode → TypedNode → TypedNode
 index_first i p = typed p.type (nodes.Binary (long_operation arithmetic.Add) (as_index p.type i)
     (as_is p))
 
-index_first_good : (S : TypingContext) (p i : TypedNode) → IsGood S p → IsGood S i
+index_first_good : (S : Setting) (p i : TypedNode) → IsGood S p → IsGood S i
     → (is_sized_pointer p.type && is_integer i.type) ≡ true → IsGood S (index_first i p)
 index_first_good S p i g h e =
     let r = pointed_has S p i g h e in
@@ -119,7 +121,7 @@ index_first_good S p i g h e =
     pointer_good S p.type (nodes.Binary (long_operation arithmetic.Add) (as_index p.type i)
     (as_is p)) r.0 n.0 n.1
 
-sum_good : (S : TypingContext) (a b : TypedNode) → IsGood S a → IsGood S b → GoodIf S (sum a b)
+sum_good : (S : Setting) (a b : TypedNode) → IsGood S a → IsGood S b → GoodIf S (sum a b)
 sum_good S a b g h =
     if_good S (is_pointer a.type) _ _
     (λ p. only_if_good S (is_sized_pointer a.type && is_integer b.type) (moved arithmetic.Add a b)
@@ -129,7 +131,7 @@ sum_good S a b g h =
     (λ e. index_first_good S b a h g e))
     (λ q. integers_good S arithmetic.Add a b g h))
 
-apart_good : (S : TypingContext) (a b : TypedNode) → IsGood S a → IsGood S b
+apart_good : (S : Setting) (a b : TypedNode) → IsGood S a → IsGood S b
     → is_pointer a.type ≡ true → is_pointer b.type ≡ true
     → IsGood S (typed (plain LongLong) (nodes.PointerDifference (bytes_in (pointed a.type))
     (as_is a) (as_is b)))
@@ -141,7 +143,7 @@ apart_good S a b g h p q =
     (and_true (and_true (and_true (and_true x.sound y.sound) (has_size S (as_is a) sizes.Long x))
     (has_size S (as_is b) sizes.Long y)) (bytes_divide (width_of (pointed a.type)))) refl
 
-difference_good : (S : TypingContext) (a b : TypedNode) → IsGood S a → IsGood S b
+difference_good : (S : Setting) (a b : TypedNode) → IsGood S a → IsGood S b
     → GoodIf S (difference a b)
 difference_good S a b g h =
     if_good S (is_pointer a.type && is_pointer b.type) _ _
@@ -155,7 +157,7 @@ difference_good S a b g h =
     (moved arithmetic.Subtract a b) (λ e. moved_good S arithmetic.Subtract a b g h e))
     (λ q. integers_good S arithmetic.Subtract a b g h))
 
-arithmetic_good : (S : TypingContext) (o : Arithmetic) (a b : TypedNode) → IsGood S a → IsGood S b
+arithmetic_good : (S : Setting) (o : Arithmetic) (a b : TypedNode) → IsGood S a → IsGood S b
     → GoodIf S (arithmetic_of o a b)
 arithmetic_good S arithmetic.Add a b g h = sum_good S a b g h
 arithmetic_good S arithmetic.Subtract a b g h = difference_good S a b g h
@@ -168,7 +170,7 @@ takes_compared : (r : Relation) (s : Signedness) (z : Size)
 takes_compared r s sizes.Int = refl
 takes_compared r s sizes.Long = refl
 
-compared_good : (S : TypingContext) (c : Comparison) (t : CType) (a b : TypedNode) → IsGood S a
+compared_good : (S : Setting) (c : Comparison) (t : CType) (a b : TypedNode) → IsGood S a
     → IsGood S b → is_scalar a.type ≡ true → is_scalar b.type ≡ true → IsGood S (compared c t a b)
 compared_good S c t a b g h p q =
     let o = operations.Pure (pures.Compare (relation_of c) (sort_of t) (size_of t)) in
@@ -177,7 +179,7 @@ compared_good S c t a b g h p q =
     (takes_compared (relation_of c) (sort_of t) (size_of t)) in
     typed_good S int (nodes.Binary o (as_type t a) (as_type t b)) refl n.0 n.1
 
-comparison_good : (S : TypingContext) (c : Comparison) (a b : TypedNode) → IsGood S a → IsGood S b
+comparison_good : (S : Setting) (c : Comparison) (a b : TypedNode) → IsGood S a → IsGood S b
     → GoodIf S (comparison_of c a b)
 comparison_good S c a b g h =
     if_good S (is_pointer a.type || is_pointer b.type) _ _
@@ -192,7 +194,7 @@ comparison_good S c a b g h =
 
 -- ---- `&&` and `||`
 
-both_scalar : (S : TypingContext) (a b : TypedNode) → IsGood S a → IsGood S b
+both_scalar : (S : Setting) (a b : TypedNode) → IsGood S a → IsGood S b
     → (is_scalar a.type && is_scalar b.type) ≡ true
     → (expression_sound S (as_is a) && expression_sound S (as_is b)
     && both (expression_size S (as_is a)) (expression_size S (as_is b))) ≡ true
@@ -202,7 +204,7 @@ both_scalar S a b g h e =
     and_true (and_true p.sound q.sound) (and_true (has_number S (as_is a) (size_of a.type) p)
     (has_number S (as_is b) (size_of b.type) q))
 
-pub binary_good : (S : TypingContext) (o : BinaryOperator) (a b : TypedNode) → IsGood S a
+pub binary_good : (S : Setting) (o : BinaryOperator) (a b : TypedNode) → IsGood S a
     → IsGood S b → GoodIf S (binary_of o a b)
 binary_good S (binary.Arithmetic o) a b g h = arithmetic_good S o a b g h
 binary_good S (binary.Comparison c) a b g h = comparison_good S c a b g h
@@ -225,7 +227,7 @@ takes_itself : (z : Size) → (unary_takes (pures.Negate z) (Some z) ≡ Some z)
 takes_itself sizes.Int = (refl, refl)
 takes_itself sizes.Long = (refl, refl)
 
-unary_has : (S : TypingContext) (o : Pure) (e : Expression) (y z : Size) → HasSize S e y
+unary_has : (S : Setting) (o : Pure) (e : Expression) (y z : Size) → HasSize S e y
     → unary_takes o (Some y) ≡ Some z → (node_sound S (nodes.Unary o e) ≡ true)
     × (node_size S (nodes.Unary o e) ≡ Some z)
 unary_has S o e y z p h =
@@ -233,7 +235,7 @@ unary_has S o e y z p h =
     (and_true p.sound (ap is_number size), size)
 
 -- an operator on a promoted integer
-promoted_good : (S : TypingContext) (o : Pure) (a : TypedNode) → IsGood S a
+promoted_good : (S : Setting) (o : Pure) (a : TypedNode) → IsGood S a
     → IsChange o (size_of (promoted a.type)) → GoodIf S
     (only_if (is_integer a.type) (typed (promoted a.type) (nodes.Unary o (as_is a))))
 promoted_good S o a g c =
@@ -243,7 +245,7 @@ promoted_good S o a g c =
     let n = unary_has S o (as_is a) (size_of (promoted a.type)) (size_of (promoted a.type)) h c in
     typed_good S (promoted a.type) (nodes.Unary o (as_is a)) (promoted_scalar a.type e) n.0 n.1
 
-indirection_good : (S : TypingContext) (a : TypedNode) → IsGood S a
+indirection_good : (S : Setting) (a : TypedNode) → IsGood S a
     → GoodIf S (unary_of unary.Indirection a)
 indirection_good S a g =
     let place = nodes.Indirection (access_of (pointed a.type)) (as_is a) in
@@ -253,37 +255,36 @@ indirection_good S a g =
     (and_true p.sound (has_size S (as_is a) sizes.Long p))
     (ap (λ z. Some z) (size_in_memory_is (width_of (pointed a.type))))
 
--- what `&` is applied to lies in memory
-abbrev pub IsInMemory : Option Lvalue → Type 0
-IsInMemory None = Unit {0}
-IsInMemory (Some p) = is_in_memory p ≡ true
+-- the address of what is in memory, or no address
+placed_address : (S : Setting) (q : Lvalue) → sound.lvalue_sound S.around q ≡ true
+    → (sound.node_sound S.around (address_of q) ≡ true)
+    × (sound.node_size S.around (address_of q) ≡ Some sizes.Long)
+placed_address S (nodes.Local x) h = (refl, refl)
+placed_address S q h = (and_true h refl, refl)
 
-address_good : (S : TypingContext) (t : CType) (n : nodes.Node) → node_sound S n ≡ true
-    → IsInMemory (lvalue_of n) → GoodIf S (address t (lvalue_of n))
-address_good S t (nodes.Read p) sound h = pointer_good S (pointer_to t) (nodes.AddressOf p)
-    (pointer_to_pointer t) (and_true sound h) refl
-address_good S t other sound h = tt
+address_good : (S : Setting) (t : CType) (n : nodes.Node) → node_sound S n ≡ true
+    → GoodIf S (address t (lvalue_of n))
+address_good S t (nodes.Read p) h =
+    let q = placed_address S (place_lvalue S.layout p) h in
+    pointer_good S (pointer_to t) (nodes.AddressOf p) (pointer_to_pointer t) q.0 q.1
+address_good S t other h = tt
 
-abbrev pub IsAddressable : UnaryOperator → TypedNode → Type 0
-IsAddressable unary.AddressOf a = IsInMemory (lvalue_of a.node)
-IsAddressable other a = Unit {0}
-
-pub unary_good : (S : TypingContext) (o : UnaryOperator) (a : TypedNode) → IsGood S a
-    → IsAddressable o a → GoodIf S (unary_of o a)
-unary_good S unary.Plus a g m = promoted_good S pures.First a g refl
-unary_good S unary.Minus a g m = promoted_good S (pures.Negate (size_of (promoted a.type))) a g
+pub unary_good : (S : Setting) (o : UnaryOperator) (a : TypedNode) → IsGood S a
+    → GoodIf S (unary_of o a)
+unary_good S unary.Plus a g = promoted_good S pures.First a g refl
+unary_good S unary.Minus a g = promoted_good S (pures.Negate (size_of (promoted a.type))) a g
     (takes_itself (size_of (promoted a.type))).0
-unary_good S unary.Complement a g m = promoted_good S (pures.Not (size_of (promoted a.type))) a g
+unary_good S unary.Complement a g = promoted_good S (pures.Not (size_of (promoted a.type))) a g
     (takes_itself (size_of (promoted a.type))).1
-unary_good S unary.LogicalNot a g m =
+unary_good S unary.LogicalNot a g =
     only_if_good S (is_scalar a.type) (typed int (nodes.Not (as_is a))) λ e.
     let p = as_is_has S a g e in
     typed_good S int (nodes.Not (as_is a)) refl
     (and_true p.sound (has_number S (as_is a) (size_of a.type) p)) refl
-unary_good S unary.Indirection a g m = indirection_good S a g
-unary_good S unary.AddressOf a g m = address_good S a.type a.node g.sound m
+unary_good S unary.Indirection a g = indirection_good S a g
+unary_good S unary.AddressOf a g = address_good S a.type a.node g.sound
 
-pub cast_good : (S : TypingContext) (t : CType) (a : TypedNode) → IsGood S a
+pub cast_good : (S : Setting) (t : CType) (a : TypedNode) → IsGood S a
     → GoodIf S (cast_of t a)
 cast_good S t a g =
     only_if_good S (is_scalar t && is_scalar a.type)
@@ -293,7 +294,7 @@ cast_good S t a g =
     typed_good S t (nodes.Unary pures.First (as_type t a))
     (and_left (is_scalar t) (is_scalar a.type) e) n.0 n.1
 
-pub element_good : (S : TypingContext) (a i : TypedNode) → IsGood S a → IsGood S i
+pub element_good : (S : Setting) (a i : TypedNode) → IsGood S a → IsGood S i
     → GoodIf S (element_of a i)
 element_good S a i g h =
     let place = nodes.Element (access_of (pointed a.type)) (as_is a) (as_index a.type i) in
@@ -308,7 +309,7 @@ element_good S a i g h =
 
 -- ---- changes of a place
 
-pub assigned_good : (S : TypingContext) (a b : TypedNode) → IsGood S a → IsGood S b
+pub assigned_good : (S : Setting) (a b : TypedNode) → IsGood S a → IsGood S b
     → GoodIf S (assigned a b)
 assigned_good S a b g h =
     if_good S (can_become a.type b) _ _
@@ -339,7 +340,7 @@ change_has place amount before after o x y z p q b s t c u =
     (alike_sizes (size_after after (takes o (size_after before place) amount)) place x
     (ap (size_after after) result ∙ u) p)
 
-moved_place_good : (S : TypingContext) (o : Arithmetic) (a b : TypedNode) → IsGood S a → IsGood S b
+moved_place_good : (S : Setting) (o : Arithmetic) (a b : TypedNode) → IsGood S a → IsGood S b
     → (is_sized_pointer a.type && is_integer b.type) ≡ true
     → GoodIf S (with_lvalue (lvalue_of a.node)
     (λ p. typed a.type (nodes.CompoundAssign p Kept (long_operation o) (as_index a.type b) Kept)))
@@ -358,7 +359,7 @@ moved_place_good S o a b g h e =
     (takes_alike o signs.Unsigned sizes.Long) refl refl))
     sized)
 
-worked_place_good : (S : TypingContext) (o : Arithmetic) (a b : TypedNode) → IsGood S a → IsGood S b
+worked_place_good : (S : Setting) (o : Arithmetic) (a b : TypedNode) → IsGood S a → IsGood S b
     → is_integer a.type ≡ true → is_integer b.type ≡ true
     → (t : CType) → GoodIf S (with_lvalue (lvalue_of a.node)
     (λ p. typed a.type (nodes.CompoundAssign p (conversion a.type t) (operation_in o t)
@@ -384,7 +385,7 @@ additive_parts : (x y z : Bool) → (x && y && z) ≡ true → (y && z) ≡ true
 additive_parts true y z h = h
 additive_parts false y z h = absurd (cc)
 
-pub compound_assigned_good : (S : TypingContext) (o : Arithmetic) (a b : TypedNode) → IsGood S a
+pub compound_assigned_good : (S : Setting) (o : Arithmetic) (a b : TypedNode) → IsGood S a
     → IsGood S b → GoodIf S (compound_assigned o a b)
 compound_assigned_good S o a b g h =
     if_good S (is_pointer a.type) _ _
@@ -397,7 +398,7 @@ compound_assigned_good S o a b g h =
     (and_right (is_integer a.type) (is_integer b.type) e) (working_type o a.type b.type))
     (λ e. tt))
 
-increment_place_good : (S : TypingContext) (m : Fixity) (o : Operation) (n : ℕ) (after : Conversion)
+increment_place_good : (S : Setting) (m : Fixity) (o : Operation) (n : ℕ) (after : Conversion)
     (y : Size) (a : TypedNode) → IsGood S a → is_scalar a.type ≡ true → size_of a.type ≡ y
     → takes o (Some y) (Some y) ≡ Some y → can_convert after (Some y) ≡ true
     → size_after after (Some y) ≡ Some (size_of a.type) → constant_fits y n ≡ true
@@ -414,7 +415,7 @@ increment_place_good S m o n after y a g scalar same t c u small =
     (ap (λ z. amount_fits z n) (sized ∙ ap (λ z. Some z) same) ∙ small))
     sized)
 
-pub incremented_good : (S : TypingContext) (m : Fixity) (i : Increment) (a : TypedNode) → IsGood S a
+pub incremented_good : (S : Setting) (m : Fixity) (i : Increment) (a : TypedNode) → IsGood S a
     → GoodIf S (incremented m i a)
 incremented_good S m i a g =
     if_good S (is_pointer a.type) _ _

@@ -37,6 +37,8 @@ use Rattle.c_resolved.specs.Operators.{TypedNode, typed, int, void_pointer, can_
 -- what a name means
 pub data Entity : Type 0 where
   LocalVariable : ℕ → CType → Entity
+  -- its number, and the type of its elements
+  LocalArray : ℕ → CType → Entity
   GlobalVariable : ℕ → CType → Entity
   -- its address, and the type of its elements
   GlobalArray : ℕ → CType → Entity
@@ -123,6 +125,8 @@ variable t p = typed t (nodes.Read p)
 
 abbrev pub name : ℕ → Option Entity → ResolvedExpression
 name at (Some (LocalVariable x t)) = good (variable t (nodes.Local x))
+-- an array is named by its number until it is known where it stands
+name at (Some (LocalArray x t)) = good (typed (pointer_to t) (nodes.StackedArray x 0))
 name at (Some (GlobalVariable a t)) = good (variable t (nodes.Global (access_of t) a))
 name at (Some (GlobalArray a t)) = good (constant (pointer_to t) a)
 name at (Some (BuiltInConstant n)) = good (constant int n)
@@ -136,32 +140,21 @@ is_variable (Some (LocalVariable x t)) = true
 is_variable (Some (GlobalVariable a t)) = true
 is_variable other = false
 
-abbrev pub is_global : Option Entity → Bool
-is_global None = true
-is_global (Some (GlobalVariable a t)) = true
-is_global other = false
-
 abbrev pub is_indirection : UnaryOperator → Bool
 is_indirection unary.Indirection = true
 is_indirection other = false
 
 -- variables, `*e` and `a[i]`, parentheses aside; an unknown name breaks no further rule
-abbrev pub is_lvalue_where : (Option Entity → Bool) → Names → Expression → Bool
-is_lvalue_where test s (trees.Variable n) = test (s.entity n)
-is_lvalue_where test s (trees.Parentheses at e) = is_lvalue_where test s e
-is_lvalue_where test s (trees.Index a at i) = true
-is_lvalue_where test s (trees.Unary at o e) = is_indirection o
-is_lvalue_where test s other = false
-
 abbrev pub is_lvalue : Names → Expression → Bool
-is_lvalue = is_lvalue_where is_variable
+is_lvalue s (trees.Variable n) = is_variable (s.entity n)
+is_lvalue s (trees.Parentheses at e) = is_lvalue s e
+is_lvalue s (trees.Index a at i) = true
+is_lvalue s (trees.Unary at o e) = is_indirection o
+is_lvalue s other = false
 
-abbrev pub is_addressable : Names → Expression → Bool
-is_addressable = is_lvalue_where is_global
-
--- `&` has a rule of its own
+-- of the operators with one operand `&` alone takes a place
 abbrev pub operand_is_lvalue : UnaryOperator → Names → Expression → Bool
-operand_is_lvalue unary.AddressOf s e = is_addressable s e
+operand_is_lvalue unary.AddressOf s e = is_lvalue s e
 operand_is_lvalue other s e = true
 
 -- ---- what a filter reads

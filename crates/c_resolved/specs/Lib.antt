@@ -3,6 +3,9 @@ pub mod Operators
 pub mod Expressions
 pub mod Scopes
 pub mod Statements
+pub mod Addresses
+pub mod Layout
+pub mod Placed
 pub mod Program
 pub mod Accepted
 pub mod Rows

@@ -24,7 +24,10 @@ use Rattle.c_resolved.specs.Types.{plain, is_void, is_scalar, same_type, size_of
 use Rattle.c_resolved.specs.Operators.{int}
 use Rattle.c_resolved.specs.Expressions.{Entity, LocalVariable, GlobalVariable, GlobalArray, UserFunction, FaultAt, fault_at}
 use Rattle.c_resolved.specs.Scopes.{Scope, spelled, meaning_in}
-use Rattle.c_resolved.specs.Statements.{Nowhere, Near, Environment, unless_holds, is_taken, with_name, resolve_statements}
+use Rattle.c_resolved.specs.declared.variable.Variable.{Variable}
+use Rattle.c_resolved.specs.Layout.{stored_bytes, layout_of, data_frame_of, base_local}
+use Rattle.c_resolved.specs.Placed.{place_statements}
+use Rattle.c_resolved.specs.Statements.{Nowhere, Near, Environment, unless_holds, length_faults, variable_of, is_taken, with_name, resolve_statements}
 
 -- ---- globals
 
@@ -75,11 +78,6 @@ abbrev pub too_many : List Constant → List FaultAt
 too_many [] = []
 too_many (c ∷ cs) = fault_at c.at BadInitialiser
 
--- how many bytes a variable of a type takes; one of type void, which no accepted program has, takes
--- none
-abbrev pub stored_bytes : CType → ℕ
-stored_bytes t = if is_scalar t then bytes_in t else 0
-
 abbrev pub initial_value : CType → Option Length → Option Initialiser → InitialValue
 initial_value t None None = record { bytes = replicate (stored_bytes t) 0; faults = [] }
 initial_value t None (Some (Single c)) =
@@ -98,10 +96,6 @@ initial_value t (Some l) (Some (Several at cs)) =
       bytes = filled (l.value * stored_bytes t) (bytes_of_all (stored_bytes t) cs);
       faults = too_many (drop l.value cs);
     }
-
-abbrev pub length_faults : Option Length → List FaultAt
-length_faults None = []
-length_faults (Some l) = unless_holds (nat_lt 0 l.value) l.at TypeClash
 
 abbrev pub global_entity : CType → ℕ → Option Length → Entity
 global_entity t a None = GlobalVariable a t
@@ -184,6 +178,9 @@ pub record DeclaredFunctions : Type 0 where
   pub number : ℕ
   pub faults : List FaultAt
 
+abbrev pub parameter_variable : Parameter → Variable
+parameter_variable p = variable_of p.of None
+
 abbrev pub around : List ℕ → Scope → CType → Environment
 around text file t =
     record {
@@ -203,14 +200,17 @@ function_of text file t n ps body number =
     let sizes = map (λ p. size_of p.of) ps in
     let m =
     resolve_statements body (around text file t) (with_parameters text ps [] 0)
-    (record { sizes = sizes; number = number }) in
+    (record { sizes = sizes; variables = map parameter_variable ps; number = number }) in
+    let draft = checked.statements m.done in
+    let layout = layout_of m.counts.variables draft in
     record {
       done = record {
         name = spelled text n;
         parameters = sizes;
-        locals = drop (length ps) m.counts.sizes;
+        locals = drop (length ps) m.counts.sizes ++ base_local layout;
+        data_frame = data_frame_of (length ps) layout;
         returns = result_size t;
-        body = checked.statements m.done;
+        body = place_statements layout draft;
       } ∷ [];
       number = m.counts.number;
       faults = parameter_faults text ps [] ++ m.faults;

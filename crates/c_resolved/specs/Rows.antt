@@ -131,14 +131,23 @@ Calls =
     × (resolve_expression names (trees.Call (at 6 7) trees.Done)
     ≡ record { found = None; faults = record { at = 6; fault = ArgCount } ∷ [] })
 
--- `q + &c`: an unknown name, and a place of a local; `(c + 1) = q`
+-- `&c` is a char *, and `&(c)` too
+abbrev pub AddressOfLocal : Type 0
+AddressOfLocal =
+    (resolve_expression names (trees.Unary 21 unary.AddressOf c)
+    ≡ found (pointer_to char) (nodes.AddressOf (nodes.Local 0)))
+    × (resolve_expression names (trees.Unary 21 unary.AddressOf (trees.Parentheses 22 c))
+    ≡ found (pointer_to char) (nodes.AddressOf (nodes.Local 0)))
+
+-- `q + &(c + 1)`: an unknown name, and what is no place; `(c + 1) = q`
 abbrev pub Faults : Type 0
 Faults =
-    (resolve_expression names (add q (trees.Unary 21 unary.AddressOf c))
+    (resolve_expression names (add q (trees.Unary 21 unary.AddressOf
+    (trees.Parentheses 22 (add c (number 1)))))
     ≡ record {
       found = None;
       faults = record { at = 8; fault = UnknownName }
-          ∷ record { at = 0; fault = NotLvalue } ∷ [];
+          ∷ record { at = 22; fault = NotLvalue } ∷ [];
     })
     × (resolve_expression names (trees.Assign (trees.Parentheses 0 (add c (number 1))) 30 None q)
     ≡ record {

@@ -1,13 +1,14 @@
 -- Statements: what each is resolved to, and the rules that it breaks (C11, 6.8; Microsoft C
 -- reference, "try-except statement", "try-finally statement"). Where there is a fault, what it is
 -- resolved to means nothing.
-use Rattle.std.specs.Prelude.{ℕ, ◌+◌, Bool, true, false, not, nat_eq, if◌then◌else◌, List, [], ◌∷◌, ◌++◌, length, Option, Some, None}
+use Rattle.std.specs.Prelude.{ℕ, ◌+◌, Bool, true, false, not, nat_eq, nat_lt, if◌then◌else◌, List, [], ◌∷◌, ◌++◌, length, Option, Some, None}
 use Rattle.c_operations.specs.declared.operation.Size.{Size}
 use Rattle.c_operations.specs.declared.operation.Size.TheVariants as sizes
 use Rattle.c_checked.specs.declared.expression.Conversion.TheVariants.{Kept}
 use Rattle.c_checked.specs.Expression as nodes
 use Rattle.c_checked.specs.Statement as checked
 use Rattle.c_checked.specs.Statement.{Declared, Filter, Always, Funclet}
+use Rattle.c_syntax.specs.declared.declaration.Length.{Length}
 use Rattle.c_syntax.specs.declared.expression.Base.{Base}
 use Rattle.c_syntax.specs.declared.expression.CType.{CType}
 use Rattle.c_syntax.specs.declared.expression.Literal.{Literal}
@@ -18,10 +19,11 @@ use Rattle.c_syntax.specs.Expression.{Expression, start}
 use Rattle.c_syntax.specs.Statement as statements
 use Rattle.c_syntax.specs.Statement.{Statement, Statements, Local, ForInitialiser, Declaring, Evaluating}
 use Rattle.c_resolved.specs.declared.fault.Fault.{Fault}
-use Rattle.c_resolved.specs.declared.fault.Fault.TheVariants.{Duplicate, TypeClash, LeaveOutsideTry, JumpOutOfFinally, JumpOutsideLoop}
+use Rattle.c_resolved.specs.declared.fault.Fault.TheVariants.{Duplicate, TypeClash, LeaveOutsideTry, JumpOutOfFinally, JumpOutsideLoop, BadInitialiser}
+use Rattle.c_resolved.specs.declared.variable.Variable.{Variable}
 use Rattle.c_resolved.specs.Types.{is_void, is_integer, is_scalar, size_of}
 use Rattle.c_resolved.specs.Operators.{int, as_is, as_type, can_become}
-use Rattle.c_resolved.specs.Expressions.{Entity, LocalVariable, BuiltInConstant, Names, FaultAt, fault_at, ResolvedExpression, resolve_expression}
+use Rattle.c_resolved.specs.Expressions.{Entity, LocalVariable, LocalArray, BuiltInConstant, Names, FaultAt, fault_at, ResolvedExpression, resolve_expression}
 use Rattle.c_resolved.specs.Scopes.{Scope, spelled, meaning_in, built_ins}
 
 -- ---- where a statement is
@@ -50,10 +52,11 @@ pub record Environment : Type 0 where
   pub code : Bool
   pub abnormal : Bool
 
--- the sizes of the function's locals so far, parameters first, and the number of the next filter or
--- `__finally` block
+-- the sizes of the function's variables so far, parameters first, and the variables; the number of
+-- the next filter or `__finally` block
 pub record Numbering : Type 0 where
   pub sizes : List Size
+  pub variables : List Variable
   pub number : ℕ
 
 -- what a statement is resolved to, the numbering after it, the names of its block after it, and its
@@ -156,23 +159,55 @@ is_taken block name = is_some (meaning_in (built_ins ++ block) name)
 abbrev pub with_name : Scope → List ℕ → Entity → Scope
 with_name block name e = if is_taken block name then block else (name, e) ∷ block
 
+-- an array has at least one element
+abbrev pub length_faults : Option Length → List FaultAt
+length_faults None = []
+length_faults (Some l) = unless_holds (nat_lt 0 l.value) l.at TypeClash
+
+abbrev pub local_entity : ℕ → CType → Option Length → Entity
+local_entity number t None = LocalVariable number t
+local_entity number t (Some l) = LocalArray number t
+
+abbrev pub elements_of : Option Length → Option ℕ
+elements_of None = None
+elements_of (Some l) = Some l.value
+
+abbrev pub variable_of : CType → Option ℕ → Variable
+variable_of t elements = record { of = t; elements = elements }
+
+-- an array has no initialiser
+abbrev pub without_initialiser : Names → Option Expression → Optional
+without_initialiser s None = record { value = None; faults = [] }
+without_initialiser s (Some e) =
+    record {
+      value = None;
+      faults = (resolve_expression s e).faults ++ fault_at (start e) BadInitialiser;
+    }
+
+abbrev pub local_value : Names → CType → Option Length → Option Expression → Optional
+local_value s t None e = optional (λ x. to_type t (start x) (resolve_expression s x)) e
+local_value s t (Some l) e = without_initialiser s e
+
 -- a local: its name is visible in its own initialiser
 abbrev pub declare : Environment → Base → Local → Scope → Numbering → ResolvedStatements
 declare a base l block n =
     let type : CType = record { base = base; pointers = l.pointers } in
     let name = spelled a.text l.name in
     let number = length n.sizes in
-    let after = with_name block name (LocalVariable number type) in
-    let value =
-    optional (λ e. to_type type (start e) (resolve_expression (names_at a after) e))
-    l.initialiser in
+    let after = with_name block name (local_entity number type l.length) in
+    let value = local_value (names_at a after) type l.length l.initialiser in
     record {
-      done = checked.Declare (record { local = number; value = value.value }) ∷ [];
-      counts = record { sizes = n.sizes ++ size_of type ∷ []; number = n.number };
+      done = checked.Declare (record { local = number; stacked = None; value = value.value }) ∷ [];
+      counts = record {
+        sizes = n.sizes ++ size_of type ∷ [];
+        variables = n.variables ++ variable_of type (elements_of l.length) ∷ [];
+        number = n.number;
+      };
       block = after;
       faults =
           unless_holds (not (is_taken block name)) l.name.start Duplicate
-          ++ unless_holds (is_scalar type) l.name.start TypeClash ++ value.faults;
+          ++ unless_holds (is_scalar type) l.name.start TypeClash ++ length_faults l.length
+          ++ value.faults;
     }
 
 abbrev pub follow : ResolvedStatements → ResolvedStatements → ResolvedStatements
@@ -251,7 +286,7 @@ resolve_filter a block e number =
     record { filter = Funclet number v.value; number = number + 1; faults = v.faults })
 
 abbrev pub with_number : Numbering → ℕ → Numbering
-with_number n number = record { sizes = n.sizes; number = number }
+with_number n number = record n { number = number }
 
 pub record ResolvedForInitialiser : Type 0 where
   pub declared : List Declared

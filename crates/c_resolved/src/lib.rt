@@ -10,3 +10,4 @@
 pub mod fault;
 pub mod resolution_laws;
 pub mod scope_laws;
+pub mod variable;

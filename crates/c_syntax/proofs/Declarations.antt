@@ -1,14 +1,14 @@
 -- There is one tree at most for an expression between punctuators, and for a declaration.
 use Rattle.std.proofs.Common.{◌≡◌, ◌≤◌, ◌<◌, ℕ, List, [], ◌∷◌}
 use Rattle.std.proofs.Common.{Option, Some, None, refl, sym, ap, ◌∙◌, subst, arith}
-use Rattle.c_syntax.specs.Words.{Punctuator, Token, Base, Identifier, Expression, Derives, punctuator_follows, follows, Stops, assignment, comma, Local, ForInitialiser, Declaring, Evaluating, IsInitialiser, IsLocal, AreMoreLocals, AreLocals, IsDeclaration, IsOptional, IsCondition, IsForInitialiser, IsIdentifier, HasPunctuator}
+use Rattle.c_syntax.specs.Words.{Punctuator, Token, Length, Base, Identifier, Expression, Derives, punctuator_follows, follows, Stops, primary, postfix, assignment, comma, Local, ForInitialiser, Declaring, Evaluating, IsLength, IsInitialiser, IsLocal, AreMoreLocals, AreLocals, IsDeclaration, IsOptional, IsCondition, IsForInitialiser, IsIdentifier, HasPunctuator}
 use Rattle.c_lex.specs.declared.punctuator.Punctuator.TheVariants as punctuators
 use Rattle.c_lex.specs.declared.token.Kind.TheVariants as kinds
 use Rattle.c_syntax.proofs.Fronts.{kind_same, has_same, name_same, punctuator_class}
 use Rattle.c_syntax.proofs.Fronts.{front, base_front, base_once, NoType, NoStar}
 use Rattle.c_syntax.proofs.Fronts.{stars_once, stars_front}
 use Rattle.c_syntax.proofs.Spine.{follows_punctuator}
-use Rattle.c_syntax.proofs.Once.{one_expression, has_stops, expression_front, has_front}
+use Rattle.c_syntax.proofs.Once.{one_expression, has_stops, expression_front, has_front, integer_same}
 use Rattle.c_syntax.proofs.Separated.{more_stop, separated_once}
 
 -- ---- expressions between punctuators
@@ -73,6 +73,46 @@ initialiser text (Some e) (Some f) ts us rest end p s z h g =
     let b = one_expression text assignment e f h.0 rest end h.2 k s z in
     (ap present b.0, b.1)
 
+-- no element of an array is taken before an initialiser
+pub initialiser_stops : (text : List ℕ) (e : Option Expression) (ts rest : List Token)
+    → Stops assignment rest → IsInitialiser text e ts rest → Stops postfix ts
+initialiser_stops text None ts rest s h = let a = ap follows h in omega arith
+initialiser_stops text (Some e) ts rest s h =
+    has_stops punctuators.Assign ts h.0 postfix h.1 (omega arith)
+
+abbrev sized : ℕ → ℕ → Option Length
+sized at value = Some (record { at = at; value = value })
+
+bracket_not : (ts us rest end : List Token) → ts ≡ us → ts ≡ rest → Stops postfix rest
+    → HasPunctuator punctuators.OpenBracket us end → ⊥
+bracket_not ts us rest end p q s h = let a =
+    follows_punctuator punctuators.OpenBracket h.0 us end postfix h.1 refl in let b =
+    ap follows q in let c = ap follows p in absurd (omega arith)
+
+pub length_once : (i j : Option Length) (ts us rest end : List Token) → ts ≡ us → Stops postfix rest
+    → Stops postfix end → IsLength i ts rest → IsLength j us end → (i ≡ j) × (rest ≡ end)
+length_once None None ts us rest end p s z h g = (refl, sym h ∙ p ∙ g)
+length_once None (Some m) ts us rest end p s z h g =
+    absurd (bracket_not ts us rest g.after_opening p h s g.opening)
+length_once (Some n) None ts us rest end p s z h g =
+    absurd (bracket_not us ts end h.after_opening (sym p) g z h.opening)
+length_once (Some n) (Some m) ts us rest end p s z h g =
+    let a = has_same punctuators.OpenBracket ts us h.after_opening g.after_opening p h.opening
+    g.opening in
+    let b = integer_same n.value m.value n.at m.at h.after_opening g.after_opening h.after_inner
+    g.after_inner a h.inner g.inner in (
+      ap (λ (x : ℕ). sized n.at x) b.0
+          ∙ ap (λ (x : ℕ). sized x m.value) b.1,
+      has_same punctuators.CloseBracket h.after_inner
+          g.after_inner rest end b.2 h.closing g.closing,
+    )
+
+pub length_stops : (i : Option Length) (ts rest : List Token) → Stops postfix rest
+    → IsLength i ts rest → Stops primary ts
+length_stops None ts rest s h = let a = ap follows h in omega arith
+length_stops (Some n) ts rest s h =
+    has_stops punctuators.OpenBracket ts h.after_opening primary h.opening (omega arith)
+
 pub name_star : (name : Identifier) (ts rest : List Token) → IsIdentifier name ts rest → NoStar ts
 name_star name ts rest h = λ end g.
     let q = kind_same kinds.Identifier (kinds.Punctuator punctuators.Star) name.start g.0 ts ts rest
@@ -82,8 +122,8 @@ name_star name ts rest h = λ end g.
 pub name_type : (name : Identifier) (ts rest : List Token) → IsIdentifier name ts rest → NoType ts
 name_type name ts rest h = λ e. let q : front ts ≡ 0 = ap front h in absurd (omega (arith, e))
 
-abbrev make : ℕ → Identifier → Option Expression → Local
-make n name e = record { pointers = n; name = name; initialiser = e }
+abbrev make : ℕ → Identifier → Option Length → Option Expression → Local
+make n name l e = record { pointers = n; name = name; length = l; initialiser = e }
 
 pub local : (text : List ℕ) (l m : Local) (ts us rest end : List Token) → ts ≡ us
     → Stops assignment rest → Stops assignment end → IsLocal text l ts rest → IsLocal text m us end
@@ -94,12 +134,16 @@ local text l m ts us rest end p s z h g =
     (name_star m.name g.after_stars g.after_name g.name) h.stars g.stars in
     let b = name_same l.name m.name h.after_stars g.after_stars h.after_name g.after_name a.1 h.name
     g.name in
-    let c = initialiser text l.initialiser m.initialiser h.after_name g.after_name rest end b.1 s z
-    h.initialiser g.initialiser in (
-      ap (λ (n : ℕ). make n l.name l.initialiser) a.0
-          ∙ ap (λ (n : Identifier). make m.pointers n l.initialiser) b.0
-          ∙ ap (λ (e : Option Expression). make m.pointers m.name e) c.0,
-      c.1,
+    let c = length_once l.length m.length h.after_name g.after_name h.after_length g.after_length
+    b.1 (initialiser_stops text l.initialiser h.after_length rest s h.initialiser)
+    (initialiser_stops text m.initialiser g.after_length end z g.initialiser) h.length g.length in
+    let d = initialiser text l.initialiser m.initialiser h.after_length g.after_length rest end c.1
+    s z h.initialiser g.initialiser in (
+      ap (λ (n : ℕ). make n l.name l.length l.initialiser) a.0
+          ∙ ap (λ (n : Identifier). make m.pointers n l.length l.initialiser) b.0
+          ∙ ap (λ (n : Option Length). make m.pointers m.name n l.initialiser) c.0
+          ∙ ap (λ (e : Option Expression). make m.pointers m.name m.length e) d.0,
+      d.1,
     )
 
 pub locals_stop : (text : List ℕ) (ls : List Local) (ts rest : List Token)

@@ -80,8 +80,8 @@ wrapped No Has No' Has' kind at text ts ts' w f = record {
       (subst (λ z. SameFirst z (f.front ++ other)) (sym f.split)
       (first_after f.front f.fault other s))
       (f.against text' other (alike_inner text text' w.before ts ts' w.split a) s));
-  able = λ text' a k. able_so Has Has' 6 text' w.before f.front
-      (λ inner h. w.has 6 text' inner a k h)
+  able = λ text' a k. able_so Has Has' 7 text' w.before f.front
+      (λ inner h. w.has 7 text' inner a k h)
       (f.able text' (alike_inner text text' w.before ts ts' w.split a) k);
   further = λ text' n a k e. onward Has Has' n text' w.before f.front f.fault
       (λ inner h. w.has n text' inner a k h)

@@ -4,7 +4,7 @@ use Rattle.std.proofs.Common.{refl, sym, ap, ◌∙◌, arith, inl, inr}
 use Rattle.c_lex.specs.declared.keyword.Keyword.TheVariants as keywords
 use Rattle.c_lex.specs.declared.punctuator.Punctuator.TheVariants as punctuators
 use Rattle.c_lex.specs.declared.token.Kind.TheVariants as kinds
-use Rattle.c_syntax.specs.Words.{Token, Length, Parameter, Base, CType, Literal, Identifier, literal_kind, follows, Stops, postfix, primary, assignment, Initialiser, Single, Several, Global, ExternalDeclaration, Globals, Function, IsLiteral, IsConstant, AreConstants, IsLength, IsGlobal, AreMoreGlobals, AreGlobals, IsParameter, AreParameters, IsExternalDeclaration, IsProgram, OneProgram, Statements, IsPunctuator, IsIdentifier, HasPunctuator, HasKeyword, IsBase, AreStars, IsType}
+use Rattle.c_syntax.specs.Words.{Token, Length, Parameter, Base, CType, Literal, Identifier, literal_kind, follows, Stops, postfix, assignment, Initialiser, Single, Several, Global, ExternalDeclaration, Globals, Function, IsLiteral, IsConstant, AreConstants, IsGlobal, AreMoreGlobals, AreGlobals, IsParameter, AreParameters, IsExternalDeclaration, IsProgram, OneProgram, Statements, IsPunctuator, IsIdentifier, HasPunctuator, HasKeyword, IsBase, AreStars, IsType}
 use Rattle.c_lex.proofs.Texts.{tokens_once}
 use Rattle.c_syntax.specs.declared.declaration.Constant.{Constant}
 use Rattle.c_syntax.specs.declared.expression.Base.TheVariants as bases
@@ -14,10 +14,11 @@ use Rattle.c_syntax.proofs.Fronts.{kind_same, punctuator_same, has_same, name_sa
 use Rattle.c_syntax.proofs.Fronts.{front, base_front, base_once, NoType, stars_once, stars_front}
 use Rattle.c_syntax.proofs.Fronts.{type_once, close_type, close_star}
 use Rattle.c_syntax.proofs.Spine.{follows_punctuator}
-use Rattle.c_syntax.proofs.Once.{has_stops, has_front, literal_same, integer_same}
+use Rattle.c_syntax.proofs.Once.{has_stops, has_front, literal_same}
 use Rattle.c_syntax.proofs.Separated.{more_stop, separated_once}
 pub use Rattle.c_syntax.proofs.Separated.{other_punctuator}
-use Rattle.c_syntax.proofs.Declarations.{name_star, name_type}
+use Rattle.c_syntax.proofs.Declarations.{name_star, name_type, length_stops}
+pub use Rattle.c_syntax.proofs.Declarations.{length_once}
 use Rattle.c_syntax.proofs.Blocks.{same_items}
 
 -- ---- constants
@@ -124,39 +125,6 @@ initialiser_stops (Some (Single c)) ts rest s h =
     has_stops punctuators.Assign ts h.0 postfix h.1 (omega arith)
 initialiser_stops (Some (Several at cs)) ts rest s h =
     has_stops punctuators.Assign ts h.after_assign postfix h.assign (omega arith)
-
-abbrev sized : ℕ → ℕ → Option Length
-sized at value = Some (record { at = at; value = value })
-
-bracket_not : (ts us rest end : List Token) → ts ≡ us → ts ≡ rest → Stops postfix rest
-    → HasPunctuator punctuators.OpenBracket us end → ⊥
-bracket_not ts us rest end p q s h = let a =
-    follows_punctuator punctuators.OpenBracket h.0 us end postfix h.1 refl in let b =
-    ap follows q in let c = ap follows p in absurd (omega arith)
-
-pub length_once : (i j : Option Length) (ts us rest end : List Token) → ts ≡ us → Stops postfix rest
-    → Stops postfix end → IsLength i ts rest → IsLength j us end → (i ≡ j) × (rest ≡ end)
-length_once None None ts us rest end p s z h g = (refl, sym h ∙ p ∙ g)
-length_once None (Some m) ts us rest end p s z h g =
-    absurd (bracket_not ts us rest g.after_opening p h s g.opening)
-length_once (Some n) None ts us rest end p s z h g =
-    absurd (bracket_not us ts end h.after_opening (sym p) g z h.opening)
-length_once (Some n) (Some m) ts us rest end p s z h g =
-    let a = has_same punctuators.OpenBracket ts us h.after_opening g.after_opening p h.opening
-    g.opening in
-    let b = integer_same n.value m.value n.at m.at h.after_opening g.after_opening h.after_inner
-    g.after_inner a h.inner g.inner in (
-      ap (λ (x : ℕ). sized n.at x) b.0
-          ∙ ap (λ (x : ℕ). sized x m.value) b.1,
-      has_same punctuators.CloseBracket h.after_inner
-          g.after_inner rest end b.2 h.closing g.closing,
-    )
-
-pub length_stops : (i : Option Length) (ts rest : List Token) → Stops postfix rest
-    → IsLength i ts rest → Stops primary ts
-length_stops None ts rest s h = let a = ap follows h in omega arith
-length_stops (Some n) ts rest s h =
-    has_stops punctuators.OpenBracket ts h.after_opening primary h.opening (omega arith)
 
 abbrev make : ℕ → Identifier → Option Length → Option Initialiser → Global
 make n name l i = record { pointers = n; name = name; length = l; initialiser = i }

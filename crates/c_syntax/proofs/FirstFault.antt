@@ -18,7 +18,8 @@ function_fewer n m ps body f h = record {
   statements = λ k. h.statements (f 1 (omega arith) k);
   expressions = λ k. h.expressions (f 1 (omega arith) k);
   locals = λ k. h.locals (f 2 (omega arith) k);
-  parameters = λ k. h.parameters (f 3 (omega arith) k);
+  arrays = λ k. h.arrays (f 3 (omega arith) k);
+  parameters = λ k. h.parameters (f 4 (omega arith) k);
 }
 
 each_fewer : (n m : ℕ) (xs : List ExternalDeclaration) → AreAmong m n → EachWithinFirst n xs
@@ -32,9 +33,9 @@ fewer : (n m : ℕ) (text : List ℕ) (xs : List ExternalDeclaration) → AreAmo
     → WithinFirst n text xs → WithinFirst m text xs
 fewer n m text xs f h = record {
   each = each_fewer n m xs f h.each;
-  functions = λ k. h.functions (f 4 (omega arith) k);
-  bytes = λ k. h.bytes (f 5 (omega arith) k);
-  numbered = λ k. h.numbered (f 6 (omega arith) k);
+  functions = λ k. h.functions (f 5 (omega arith) k);
+  bytes = λ k. h.bytes (f 6 (omega arith) k);
+  numbered = λ k. h.numbered (f 7 (omega arith) k);
 }
 
 continues_fewer : (n m : ℕ) (text : List ℕ) (front fault : List Token) → AreAmong m n

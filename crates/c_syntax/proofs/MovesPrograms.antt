@@ -4,14 +4,15 @@ use Rattle.std.proofs.Common.{◌≡◌, ℕ, Bool, true, false, List, [], ◌�
 use Rattle.std.proofs.Common.{refl, ap, ◌∙◌, inl, inr}
 use Rattle.c_lex.specs.declared.keyword.Keyword.TheVariants as keywords
 use Rattle.c_lex.specs.declared.punctuator.Punctuator.TheVariants as punctuators
-use Rattle.c_syntax.specs.Words.{Token, Length, Parameter, Literal, literal_kind, Alike, Initialiser, Single, Several, Global, ExternalDeclaration, Globals, Function, IsLiteral, IsConstant, AreConstants, IsLength, IsGlobal, AreGlobals, IsParameter, AreParameters, IsExternalDeclaration}
+use Rattle.c_syntax.specs.Words.{Token, Parameter, Literal, literal_kind, Alike, Initialiser, Single, Several, Global, ExternalDeclaration, Globals, Function, IsLiteral, IsConstant, AreConstants, IsGlobal, AreGlobals, IsParameter, AreParameters, IsExternalDeclaration}
 use Rattle.c_syntax.specs.declared.declaration.Constant.{Constant}
 use Rattle.c_syntax.specs.Limits as limits
 use Rattle.c_syntax.specs.Programs.{IsInitialiser}
-use Rattle.c_syntax.proofs.Moves.{enclosed, Moves, map, both, nothing, alike_after, kind}
+use Rattle.c_syntax.proofs.Moves.{Moves, map, both, nothing, alike_after, kind}
 use Rattle.c_syntax.proofs.Moves.{punctuator, has_punctuator, has_keyword, name, base, stars, type}
 use Rattle.c_syntax.proofs.MovesPhrases.{separated}
 use Rattle.c_syntax.proofs.MovesStatements as statements
+pub use Rattle.c_syntax.proofs.MovesStatements.{length}
 pub use Rattle.c_syntax.proofs.Moves.{integer}
 
 -- ---- globals
@@ -52,14 +53,6 @@ initialiser (Some (Several at cs)) text ts rest h =
       brace = brace;
       constants = constants;
     })
-
-pub length : (n : Option Length) (text : List ℕ) (ts rest : List Token) → IsLength n ts rest
-    → Moves (λ t. IsLength n) text ts rest
-length None text ts rest h = nothing text ts rest h
-length (Some n) text ts rest h =
-    enclosed punctuators.CloseBracket
-    (has_punctuator punctuators.OpenBracket text ts h.after_opening h.opening)
-    (integer n.value n.at text h.after_opening h.after_inner h.inner) h.closing
 
 pub global : (g : Global) (text : List ℕ) (ts rest : List Token) → IsGlobal g ts rest
     → Moves (λ t. IsGlobal g) text ts rest

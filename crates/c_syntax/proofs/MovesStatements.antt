@@ -2,14 +2,14 @@
 -- same of their filters and finally blocks have numbers there.
 use Rattle.std.proofs.Common.{◌≡◌, ℕ, List, [], ◌∷◌, ◌++◌, cond, Option, Some, None, IsFalse, refl}
 use Rattle.std.proofs.Common.{ap, ◌∙◌}
-use Rattle.c_syntax.specs.Words.{Keyword, Punctuator, Token, Base, Expression, Alike, assignment, comma, Local, ForInitialiser, Declaring, Evaluating, Statement, Declare, Block, Evaluate, If, IfElse, While, DoWhile, For, Return, Break, Continue, Leave, TryExcept, TryFinally, Statements, Empty, Then, IsInitialiser, IsLocal, AreLocals, IsDeclaration, IsOptional, IsUpTo, IsCondition, IsForInitialiser, is_declaration, IsStatement, IsBlock, IsConditional, IsForHead, IsJump, IsBlockItem, AreBlockItems, Phrase, IsKeyword}
+use Rattle.c_syntax.specs.Words.{Keyword, Punctuator, Token, Length, Base, Expression, Alike, assignment, comma, Local, ForInitialiser, Declaring, Evaluating, Statement, Declare, Block, Evaluate, If, IfElse, While, DoWhile, For, Return, Break, Continue, Leave, TryExcept, TryFinally, Statements, Empty, Then, IsLength, IsInitialiser, IsLocal, AreLocals, IsDeclaration, IsOptional, IsUpTo, IsCondition, IsForInitialiser, is_declaration, IsStatement, IsBlock, IsConditional, IsForHead, IsJump, IsBlockItem, AreBlockItems, Phrase, IsKeyword}
 use Rattle.c_lex.specs.declared.keyword.Keyword.TheVariants as keywords
 use Rattle.c_lex.specs.declared.punctuator.Punctuator.TheVariants as punctuators
 use Rattle.c_lex.specs.declared.token.Kind.TheVariants as kinds
 use Rattle.c_syntax.specs.Limits as limits
 use Rattle.c_syntax.proofs.Moves as moves
 use Rattle.c_syntax.proofs.Moves.{enclosed, Moves, map, both, nothing, alike_after, has_punctuator}
-use Rattle.c_syntax.proofs.Moves.{has_keyword, name, base, stars, derives}
+use Rattle.c_syntax.proofs.Moves.{has_keyword, name, base, stars, integer, derives}
 use Rattle.c_syntax.proofs.MovesPhrases.{separated}
 
 pub keyword : (k : Keyword) (at : ℕ) (text : List ℕ) (ts rest : List Token) → IsKeyword k at ts rest
@@ -17,6 +17,14 @@ pub keyword : (k : Keyword) (at : ℕ) (text : List ℕ) (ts rest : List Token) 
 keyword k at text ts rest h = moves.kind (kinds.Keyword k) at text ts rest h
 
 -- ---- declarations
+
+pub length : (n : Option Length) (text : List ℕ) (ts rest : List Token) → IsLength n ts rest
+    → Moves (λ t. IsLength n) text ts rest
+length None text ts rest h = nothing text ts rest h
+length (Some n) text ts rest h =
+    enclosed punctuators.CloseBracket
+    (has_punctuator punctuators.OpenBracket text ts h.after_opening h.opening)
+    (integer n.value n.at text h.after_opening h.after_inner h.inner) h.closing
 
 pub initialiser : (e : Option Expression) (text : List ℕ) (ts rest : List Token)
     → IsInitialiser text e ts rest → Moves (λ t. IsInitialiser t e) text ts rest
@@ -31,12 +39,16 @@ local l text ts rest h =
     map
     (both (stars l.pointers text ts h.after_stars h.stars)
     (both (name l.name text h.after_stars h.after_name h.name)
-    (initialiser l.initialiser text h.after_name rest h.initialiser)))
-    (λ t us vs (after_stars, stars, (after_name, name, initialiser)). record {
+    (both (length l.length text h.after_name h.after_length h.length)
+    (initialiser l.initialiser text h.after_length rest h.initialiser))))
+    (λ t us vs (after_stars, stars, (after_name, name, (after_length, length, initialiser))).
+    record {
       after_stars = after_stars;
       after_name = after_name;
+      after_length = after_length;
       stars = stars;
       name = name;
+      length = length;
       initialiser = initialiser;
     })
 

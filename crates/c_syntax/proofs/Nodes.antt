@@ -253,6 +253,16 @@ condition text e =
 
 -- ---- declarations
 
+pub array_length : (n : Option Length) → Takes 0 (IsLength n)
+array_length None = nothing
+array_length (Some n) = record {
+  takes = λ ts rest h.
+      let a = (has_punctuator punctuators.OpenBracket).takes ts h.after_opening h.opening in
+      let b = (kind _ n.at).takes h.after_opening h.after_inner h.inner.1 in
+      let c = (has_punctuator punctuators.CloseBracket).takes h.after_inner rest h.closing in
+      omega arith;
+}
+
 pub initialiser : (text : List ℕ) (e : Option Expression)
     → Takes (nodes_of_optional e) (IsInitialiser text e)
 initialiser text None = nothing
@@ -265,7 +275,8 @@ local text l = record {
   takes = λ ts rest h.
       let a = (stars l.pointers).takes ts h.after_stars h.stars in
       let b = (identifier l.name).takes h.after_stars h.after_name h.name in
-      let c = (initialiser text l.initialiser).takes h.after_name rest h.initialiser in
+      let c = (array_length l.length).takes h.after_name h.after_length h.length in
+      let d = (initialiser text l.initialiser).takes h.after_length rest h.initialiser in
       omega arith;
 }
 
@@ -407,15 +418,5 @@ given (Some (Several at cs)) = record {
       let a = (has_punctuator punctuators.Assign).takes ts h.after_assign h.assign in
       let b = (punctuator punctuators.OpenBrace at).takes h.after_assign h.after_brace h.brace in
       let c = (constants cs).takes h.after_brace rest h.constants in
-      omega arith;
-}
-
-pub array_length : (n : Option Length) → Takes 0 (IsLength n)
-array_length None = nothing
-array_length (Some n) = record {
-  takes = λ ts rest h.
-      let a = (has_punctuator punctuators.OpenBracket).takes ts h.after_opening h.opening in
-      let b = (kind _ n.at).takes h.after_opening h.after_inner h.inner.1 in
-      let c = (has_punctuator punctuators.CloseBracket).takes h.after_inner rest h.closing in
       omega arith;
 }

@@ -10,8 +10,8 @@ use Rattle.c_syntax.specs.declared.expression.Literal.TheVariants as literals
 use Rattle.c_syntax.specs.declared.limit.Count.{Count}
 use Rattle.c_syntax.specs.declared.limit.Count.TheVariants as counts
 use Rattle.c_syntax.specs.declared.limit.TheConstants.{MOST_EXPRESSIONS, MOST_STATEMENTS}
-use Rattle.c_syntax.specs.declared.limit.TheConstants.{MOST_LOCALS, MOST_PARAMETERS, MOST_FUNCTIONS}
-use Rattle.c_syntax.specs.declared.limit.TheConstants.{MOST_GLOBALS, MOST_FUNCLETS}
+use Rattle.c_syntax.specs.declared.limit.TheConstants.{MOST_LOCALS, MOST_ARRAY_BYTES, MOST_PARAMETERS}
+use Rattle.c_syntax.specs.declared.limit.TheConstants.{MOST_FUNCTIONS, MOST_GLOBALS, MOST_FUNCLETS}
 use Rattle.c_syntax.specs.Expression.{Expression, Constant, Variable, Information, Call}
 use Rattle.c_syntax.specs.Expression.{Parentheses, Index, Postfix, Prefix, Unary, Cast, Binary}
 use Rattle.c_syntax.specs.Expression.{Conditional, Assign, Comma, height}
@@ -233,6 +233,51 @@ bytes_from [] at = at
 bytes_from (Globals base gs ∷ xs) at = bytes_from xs (end_of_globals base gs at)
 bytes_from (Function returns name ps body ∷ xs) at = bytes_from xs at
 
+-- ---- bytes of a function's arrays
+
+-- where a local ends that is placed after so many bytes; one that isn't an array takes none
+abbrev pub end_of_local : Base → ℕ → Option Length → ℕ → ℕ
+end_of_local base pointers None at = at
+end_of_local base pointers (Some n) at =
+    aligned at (size base pointers) + size base pointers * n.value
+
+-- where the arrays among these locals end that begin at a place, one after another
+abbrev pub end_of_locals : Base → List Local → ℕ → ℕ
+end_of_locals base [] at = at
+end_of_locals base (l ∷ ls) at =
+    end_of_locals base ls (end_of_local base l.pointers l.length at)
+
+abbrev pub end_of_for_initialiser : ForInitialiser → ℕ → ℕ
+end_of_for_initialiser (Declaring base ls) at = end_of_locals base ls at
+end_of_for_initialiser (Evaluating e) at = at
+
+abbrev mutual
+  pub end_of_arrays : Statement → ℕ → ℕ
+  end_of_arrays (Declare base ls) from = end_of_locals base ls from
+  end_of_arrays (Block ss) from = end_of_all_arrays ss from
+  end_of_arrays (Evaluate e) from = from
+  end_of_arrays (If at c s) from = end_of_arrays s from
+  end_of_arrays (IfElse at c s t) from = end_of_arrays t (end_of_arrays s from)
+  end_of_arrays (While at c s) from = end_of_arrays s from
+  end_of_arrays (DoWhile s at c) from = end_of_arrays s from
+  end_of_arrays (For at f c n s) from = end_of_arrays s (end_of_for_initialiser f from)
+  end_of_arrays (Return at e) from = from
+  end_of_arrays (Break at) from = from
+  end_of_arrays (Continue at) from = from
+  end_of_arrays (Leave at) from = from
+  end_of_arrays (TryExcept body at f handler) from =
+      end_of_all_arrays handler (end_of_all_arrays body from)
+  end_of_arrays (TryFinally body at last) from =
+      end_of_all_arrays last (end_of_all_arrays body from)
+
+  pub end_of_all_arrays : Statements → ℕ → ℕ
+  end_of_all_arrays Empty from = from
+  end_of_all_arrays (Then s ss) from = end_of_all_arrays ss (end_of_arrays s from)
+
+-- how many bytes the arrays of a function take
+abbrev pub array_bytes : Statements → ℕ
+array_bytes body = end_of_all_arrays body 0
+
 -- ---- functions of a program
 
 abbrev pub functions : List ExternalDeclaration → ℕ
@@ -251,10 +296,11 @@ pub data Limit : Type 0 where
 abbrev pub order : Limit → ℕ
 order Nesting = 1
 order (Number counts.Locals) = 2
-order (Number counts.Parameters) = 3
-order (Number counts.Functions) = 4
-order (Number counts.Globals) = 5
-order (Number counts.Funclets) = 6
+order (Number counts.ArrayBytes) = 3
+order (Number counts.Parameters) = 4
+order (Number counts.Functions) = 5
+order (Number counts.Globals) = 6
+order (Number counts.Funclets) = 7
 
 -- how many there are
 abbrev pub every_limit : ℕ
@@ -270,6 +316,7 @@ pub record FunctionWithinFirst (n : ℕ) (ps : List Parameter) (body : Statement
   pub statements : IsInForce Nesting n → statements_over_all body ≤ MOST_STATEMENTS
   pub expressions : IsInForce Nesting n → expressions_over_all body ≤ MOST_EXPRESSIONS
   pub locals : IsInForce (Number counts.Locals) n → locals_of_all body ≤ MOST_LOCALS
+  pub arrays : IsInForce (Number counts.ArrayBytes) n → array_bytes body ≤ MOST_ARRAY_BYTES
   pub parameters : IsInForce (Number counts.Parameters) n → length ps ≤ MOST_PARAMETERS
 
 abbrev pub EachWithinFirst : ℕ → List ExternalDeclaration → Type 0

@@ -5,17 +5,16 @@ use Rattle.c_lex.specs.declared.punctuator.Punctuator.TheVariants as punctuators
 use Rattle.c_lex.specs.declared.token.Token.{Token}
 use Rattle.c_lex.specs.Text.{IsTokens}
 use Rattle.c_syntax.specs.declared.declaration.Constant.{Constant}
-use Rattle.c_syntax.specs.declared.declaration.Length.{Length}
 use Rattle.c_syntax.specs.declared.declaration.Parameter.{Parameter}
 use Rattle.c_syntax.specs.declared.expression.CType.{CType}
 use Rattle.c_syntax.specs.declared.expression.Identifier.{Identifier}
 use Rattle.c_syntax.specs.declared.expression.Literal.{Literal}
-use Rattle.c_syntax.specs.Expressions.{literal_kind, IsInteger}
-use Rattle.c_syntax.specs.Phrases.{InTurn, IsEnclosed, AreMore, AreSeparated}
+use Rattle.c_syntax.specs.Expressions.{literal_kind}
+use Rattle.c_syntax.specs.Phrases.{InTurn, AreMore, AreSeparated}
 use Rattle.c_syntax.specs.Program.{Initialiser, Single, Several, Global, ExternalDeclaration}
 use Rattle.c_syntax.specs.Program.{Globals, Function}
 use Rattle.c_syntax.specs.Statement.{Statements}
-use Rattle.c_syntax.specs.Statements.{IsBlock, AreBlockItems}
+use Rattle.c_syntax.specs.Statements.{IsLength, IsBlock, AreBlockItems}
 use Rattle.c_syntax.specs.Tokens.{Phrase, IsKind, IsPunctuator, IsIdentifier, HasPunctuator}
 use Rattle.c_syntax.specs.Tokens.{HasKeyword}
 use Rattle.c_syntax.specs.Types.{IsBase, AreStars, IsType}
@@ -55,12 +54,6 @@ IsInitialiser None ts rest = ts ≡ rest
 IsInitialiser (Some (Single c)) ts rest =
     InTurn (HasPunctuator punctuators.Assign) (IsConstant c) ts rest
 IsInitialiser (Some (Several at cs)) ts rest = IsInitialiserList at cs ts rest
-
-abbrev pub IsLength : Option Length → Phrase
-IsLength None ts rest = ts ≡ rest
-IsLength (Some n) ts rest =
-    IsEnclosed (HasPunctuator punctuators.OpenBracket) (IsInteger n.value n.at)
-    punctuators.CloseBracket ts rest
 
 pub record IsGlobal (g : Global) (ts rest : List Token) : Type 0 where
   pub after_stars : List Token

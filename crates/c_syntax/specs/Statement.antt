@@ -1,5 +1,6 @@
 -- Statements, wherever they lie in memory.
 use Rattle.std.specs.Prelude.{ℕ, List, [], ◌∷◌, map, Option, Some, None, option_map}
+use Rattle.c_syntax.specs.declared.declaration.Length.{Length}
 use Rattle.c_syntax.specs.declared.expression.Base.{Base}
 use Rattle.c_syntax.specs.declared.expression.Identifier.{Identifier}
 use Rattle.c_syntax.specs.declared.statement.ForInitialiser.{ForInitialiser as ForInitialiser'}
@@ -13,6 +14,7 @@ use Rattle.c_syntax.specs.Expression.{Expression, expression}
 pub record Local : Type 0 where
   pub pointers : ℕ
   pub name : Identifier
+  pub length : Option Length
   pub initialiser : Option Expression
 
 pub data ForInitialiser : Type 0 where
@@ -51,6 +53,7 @@ local l =
     record {
       pointers = l.pointers;
       name = l.name;
+      length = l.length;
       initialiser = option_map expression l.initialiser;
     }
 

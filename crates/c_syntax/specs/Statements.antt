@@ -6,9 +6,10 @@ use Rattle.c_lex.specs.declared.keyword.Keyword.TheVariants as keywords
 use Rattle.c_lex.specs.declared.punctuator.Punctuator.{Punctuator}
 use Rattle.c_lex.specs.declared.punctuator.Punctuator.TheVariants as punctuators
 use Rattle.c_lex.specs.declared.token.Token.{Token}
+use Rattle.c_syntax.specs.declared.declaration.Length.{Length}
 use Rattle.c_syntax.specs.declared.expression.Base.{Base}
 use Rattle.c_syntax.specs.Expression.{Expression}
-use Rattle.c_syntax.specs.Expressions.{Derives}
+use Rattle.c_syntax.specs.Expressions.{Derives, IsInteger}
 use Rattle.c_syntax.specs.Operators.{assignment, comma}
 use Rattle.c_syntax.specs.Phrases.{InTurn, IsEnclosed, AreMore, AreSeparated}
 use Rattle.c_syntax.specs.Statement.{Local, ForInitialiser, Declaring, Evaluating, Statement}
@@ -20,6 +21,12 @@ use Rattle.c_syntax.specs.Types.{IsBase, AreStars}
 
 -- ---- declarations
 
+abbrev pub IsLength : Option Length → Phrase
+IsLength None ts rest = ts ≡ rest
+IsLength (Some n) ts rest =
+    IsEnclosed (HasPunctuator punctuators.OpenBracket) (IsInteger n.value n.at)
+    punctuators.CloseBracket ts rest
+
 abbrev pub IsInitialiser : List ℕ → Option Expression → Phrase
 IsInitialiser text None ts rest = ts ≡ rest
 IsInitialiser text (Some e) ts rest =
@@ -28,9 +35,11 @@ IsInitialiser text (Some e) ts rest =
 pub record IsLocal (text : List ℕ) (l : Local) (ts rest : List Token) : Type 0 where
   pub after_stars : List Token
   pub after_name : List Token
+  pub after_length : List Token
   pub stars : AreStars l.pointers ts after_stars
   pub name : IsIdentifier l.name after_stars after_name
-  pub initialiser : IsInitialiser text l.initialiser after_name rest
+  pub length : IsLength l.length after_name after_length
+  pub initialiser : IsInitialiser text l.initialiser after_length rest
 
 -- further locals, and the semicolon
 abbrev pub AreMoreLocals : List ℕ → List Local → Phrase

@@ -11,10 +11,10 @@ pub use Rattle.c_syntax.specs.Nodes.{nodes, nodes_of_arguments, nodes_of_optiona
 pub use Rattle.c_syntax.specs.Operators.{assignment, comma, postfix, primary, binary_punctuator, unary_punctuator, increment_punctuator, assignment_punctuator, unary, cast, logical_or, conditional, level, level_of_arithmetic, level_of_comparison, punctuator_of_arithmetic, punctuator_of_comparison}
 pub use Rattle.c_syntax.specs.Phrases.{IsEnclosed, AreMore, AreSeparated, InTurn, IsAnother}
 pub use Rattle.c_syntax.specs.Program.{Initialiser, Single, Several, Global, ExternalDeclaration, Globals, Function}
-pub use Rattle.c_syntax.specs.Programs.{IsLiteral, IsConstant, AreConstants, IsLength, IsGlobal, AreMoreGlobals, AreGlobals, IsParameter, AreParameters, IsExternalDeclaration, IsProgram, OneProgram}
+pub use Rattle.c_syntax.specs.Programs.{IsLiteral, IsConstant, AreConstants, IsGlobal, AreMoreGlobals, AreGlobals, IsParameter, AreParameters, IsExternalDeclaration, IsProgram, OneProgram}
 pub use Rattle.c_syntax.specs.Rows.{Differences, Product, CastOfElement, Choices, Assignments, TwoArguments, NearestIf, NoOtherIf}
 pub use Rattle.c_syntax.specs.Statement.{Local, ForInitialiser, Statement, Declare, Block, Evaluate, If, IfElse, While, DoWhile, For, Return, Break, Continue, Leave, TryExcept, TryFinally, Statements, Empty, Then, Declaring, Evaluating}
-pub use Rattle.c_syntax.specs.Statements.{IsOptional, dangles, IsBlockItem, AreBlockItems, IsInitialiser, IsLocal, AreMoreLocals, AreLocals, IsDeclaration, IsCondition, IsForInitialiser, IsUpTo, is_declaration, IsStatement, IsBlock, IsConditional, IsForHead, IsJump}
+pub use Rattle.c_syntax.specs.Statements.{IsOptional, dangles, IsBlockItem, AreBlockItems, IsLength, IsInitialiser, IsLocal, AreMoreLocals, AreLocals, IsDeclaration, IsCondition, IsForInitialiser, IsUpTo, is_declaration, IsStatement, IsBlock, IsConditional, IsForHead, IsJump}
 pub use Rattle.c_syntax.specs.Steps.{Closes, Run, IsOperandAlone, Step, At, After, With, Choose, Set, And, apply, Tail, bound}
 pub use Rattle.c_syntax.specs.Tokens.{IsKeyword, HasPunctuator, HasKeyword, IsIdentifier, IsPunctuator, token, IsKind, HasWord, Phrase}
 pub use Rattle.c_syntax.specs.Types.{IsBase, AreStars, IsType, spellings, AreKeywords, IsOneOf}

@@ -7,6 +7,8 @@ use seh_num::limit;
 pub enum Count {
     /// Locals of a function.
     Locals,
+    /// Bytes of a function's local arrays.
+    ArrayBytes,
     /// Parameters of a function.
     Parameters,
     /// Functions of a program.
@@ -26,6 +28,9 @@ pub const MOST_STATEMENTS: u64 = 65;
 
 /// The most locals of a function.
 pub const MOST_LOCALS: u64 = limit::MOST_LOCALS;
+
+/// The most bytes of a function's local arrays.
+pub const MOST_ARRAY_BYTES: u64 = limit::MOST_ARRAY_BYTES;
 
 /// The most parameters of a function.
 pub const MOST_PARAMETERS: u64 = limit::MOST_PARAMETERS;

@@ -1,5 +1,6 @@
 //! Statements.
 
+use crate::declaration::Length;
 use crate::expression::{Base, Expr, Identifier};
 
 /// A local of a declaration (C11, 6.7.6).
@@ -9,6 +10,8 @@ pub struct Local {
     pub pointers: u64,
     /// Its name.
     pub name: Identifier,
+    /// How many elements it has, if it is an array.
+    pub length: Option<Length>,
     /// What it begins with, if that is given.
     pub initialiser: Option<Expr>,
 }

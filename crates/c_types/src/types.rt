@@ -1,6 +1,7 @@
 //! Types, and how values of one become values of another.
 
 ghost use Rattle.std.specs.Prelude.{◌≡◌, IfOk};
+ghost use Rattle.c_resolved.specs.Layout.{stored_bytes};
 ghost use Rattle.c_resolved.specs.Types.{plain, pointer_to, pointed, is_void_base, is_pointer};
 ghost use Rattle.c_resolved.specs.Types.{is_void, is_integer, is_scalar, is_void_pointer};
 ghost use Rattle.c_resolved.specs.Types.{is_sized_pointer, same_base, same_type, base_width};
@@ -187,6 +188,13 @@ pub fn bytes_in(t: CType) -> u64
     ensures { result ≡ bytes_in t }
 {
     width_of(t).bytes()
+}
+
+/// How many bytes a variable of a type takes. One of type void, which is refused, takes none.
+pub fn stored_bytes(t: CType) -> u64
+    ensures { result ≡ stored_bytes t }
+{
+    if is_scalar(t) { bytes_in(t) } else { 0 }
 }
 
 fn promoted_base(base: Base) -> Base

@@ -1,9 +1,10 @@
 -- Memory as a map from each address to what may be done there and to a byte.
 use Rattle.std.specs.Prelude.{ℕ, zero, suc, ◌+◌, ◌-◌, ◌*◌, ◌/◌, ◌%◌, ◌^◌, Bool, true, false, ◌&&◌, ◌==◌, nat_lt, nat_eq, if◌then◌else◌, List, [], ◌∷◌, ℤ, Option, Some, None, Result, Ok, Err}
 use Rattle.seh_num.specs.declared.width.Width.{Width}
+use Rattle.seh_num.specs.declared.width.Width.TheVariants.{W64}
 use Rattle.seh_num.specs.Widths.{bytes_of}
 use Rattle.host_layout.specs.Ranges.{in_guard, in_arena}
-use Rattle.host_layout.specs.declared.range.TheConstants.{PAGE}
+use Rattle.host_layout.specs.declared.range.TheConstants.{PAGE, DATA_STACK_START, FIRST_DATA_STACK}
 use Rattle.flat_memory.specs.declared.protection.Protection.{Protection}
 use Rattle.flat_memory.specs.declared.protection.Rights.{Rights}
 use Rattle.flat_memory.specs.declared.access.RefusedAccess.{RefusedAccess}
@@ -44,6 +45,10 @@ is_among n at a = nat_lt a (2 ^ 64) && nat_lt (distance at a) n
 unfoldable pub with_number : (ℕ → ℕ) → ℕ → ℕ → ℕ → ℕ → ℕ
 with_number byte n at v a = if is_among n at a then v / 256 ^ distance at a % 256 else byte a
 
+-- the bytes that a run begins with outside what is loaded: zeros, but for the data stack's pointer
+abbrev pub first_byte : ℕ → ℕ
+first_byte = with_number (λ a. 0) 8 DATA_STACK_START FIRST_DATA_STACK
+
 -- a refused access, by the place of its first byte that may not be accessed
 abbrev pub refused : Bool → ℕ → RefusedAccess
 refused write a = if in_guard a then Guard a else Fault a write
@@ -78,6 +83,14 @@ abbrev pub after_store : Memory → ℕ → Width → ℕ → Memory
 after_store m at w v =
     unless_refused (first_refused (may_write m) (bytes_of w) at)
     (with_bytes m (with_number m.byte (bytes_of w) at v)) m
+
+-- ---- the data stack's pointer, the number at its start
+
+abbrev pub pointer_of : Memory → ℕ
+pointer_of m = number_at m.byte 8 DATA_STACK_START
+
+abbrev pub with_pointer : Memory → ℕ → Memory
+with_pointer m v = after_store m DATA_STACK_START W64 v
 
 -- the executable bytes at an address, at most n
 unfoldable pub executable : Memory → ℕ → ℕ → List ℕ

@@ -37,6 +37,16 @@ pub const ARENA_START: u64 = 0x2000_0000;
 
 pub const ARENA_END: u64 = 0x2010_0000;
 
+/// The data stack: arrays of functions stand there, and their variables of which an address is
+/// taken.
+pub const DATA_STACK_START: u64 = 0x3000_0000;
+
+pub const DATA_STACK_END: u64 = 0x3040_0000;
+
+/// Where the first of them stand. The bytes before it are reserved: the first eight hold the data
+/// stack's pointer, the address where those of the next function stand.
+pub const FIRST_DATA_STACK: u64 = DATA_STACK_START + 16;
+
 /// The page of the host, in which no instruction is fetched.
 pub const HOST_PAGE_START: u64 = 0x7FF0_0000;
 

@@ -1,16 +1,16 @@
 -- How an image is placed in memory, and the state that a run starts from (PE format, "Section
 -- Table", "Import Address Table"; the stack, the arena, the services and their places are the
 -- host's own).
-use Rattle.std.specs.Prelude.{ℕ, ◌+◌, ◌-◌, ◌%◌, Bool, true, false, ◌&&◌, ◌==◌, nat_lt, nat_le, List, [], ◌∷◌, replicate, position, ℤ, Option, Some, None, option_map, Result, Ok, Err, slice_index}
+use Rattle.std.specs.Prelude.{ℕ, ◌+◌, ◌-◌, ◌%◌, Bool, true, false, ◌&&◌, ◌||◌, ◌==◌, nat_lt, nat_le, List, [], ◌∷◌, replicate, position, ℤ, Option, Some, None, option_map, Result, Ok, Err, slice_index}
 use Rattle.seh_num.specs.declared.width.Width.TheVariants.{W64}
 use Rattle.seh_num.specs.Widths.{wrapped}
-pub use Rattle.host_layout.specs.Ranges.{pages, in_stack}
+pub use Rattle.host_layout.specs.Ranges.{pages, in_stack, in_data_stack}
 pub use Rattle.host_layout.specs.Services.{service_named}
 use Rattle.flat_memory.specs.declared.protection.Protection.{Protection}
 use Rattle.flat_memory.specs.declared.protection.TheConstants.{UNMAPPED}
 use Rattle.flat_memory.specs.declared.protection.Rights.{Rights}
 use Rattle.flat_memory.specs.declared.protection.Rights.TheVariants.{Nothing, Read, ReadWrite}
-use Rattle.flat_memory.specs.Memory.{Memory, with_number}
+use Rattle.flat_memory.specs.Memory.{Memory, with_number, first_byte}
 use Rattle.pe_image.specs.Image.{Section, Image, is_executable, is_writable, is_readable}
 use Rattle.pe_image.specs.Imports.{Import, imports_of}
 use Rattle.pe_image.specs.NameRows.{NameRow, names_of}
@@ -54,7 +54,8 @@ abbrev pub section_mode : Section → Protection
 section_mode s =
     record { rights = rights_of (is_readable s) (is_writable s); execute = is_executable s }
 
--- outside the image the stack alone may be accessed; the arena's pages begin with no rights
+-- outside the image the stack and the data stack alone may be accessed; the arena's pages begin
+-- with no rights
 abbrev pub stack_mode : Bool → Protection
 stack_mode true = record { rights = ReadWrite; execute = false }
 stack_mode false = UNMAPPED
@@ -62,12 +63,12 @@ stack_mode false = UNMAPPED
 -- the protection at an address, in a section or outside
 abbrev pub mode_in : Option Section → ℕ → Protection
 mode_in (Some s) a = section_mode s
-mode_in None a = stack_mode (in_stack a)
+mode_in None a = stack_mode (in_stack a || in_data_stack a)
 
--- what the file stores of a section, and zeros after it
+-- what the file stores of a section, and zeros after it; outside, what each run begins with
 abbrev pub byte_in : ℕ → Option Section → ℕ → ℕ
 byte_in base (Some s) a = slice_index s.raw (a - begins_at base s)
-byte_in base None a = 0
+byte_in base None a = first_byte a
 
 -- ---- the slots of imports
 

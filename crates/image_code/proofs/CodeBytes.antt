@@ -1,8 +1,8 @@
 -- The byte that may be executed at an address of an image's code, by the section that covers it.
-use Rattle.std.proofs.Common.{◌≡◌, ℕ, ◌+◌, ◌-◌, Bool, true, false, cond, get_or, Some, None, refl, sym, ap, ◌∙◌, arith}
+use Rattle.std.proofs.Common.{◌≡◌, ℕ, ◌+◌, ◌-◌, Bool, true, false, ◌||◌, cond, get_or, Some, None, refl, sym, ap, ◌∙◌, arith}
 use Rattle.std.specs.Ordering.{nat_cmp}
 use Rattle.std.specs.BTreeMap.{BTreeMap, get}
-use Rattle.host_layout.specs.Ranges.{in_stack}
+use Rattle.host_layout.specs.Ranges.{in_stack, in_data_stack}
 use Rattle.pe_image.specs.Image.{Section, Image, is_executable}
 use Rattle.pe_image.specs.Imports.{imports_of}
 use Rattle.host_model.specs.Loading.{section_of, mode_in, stack_mode, byte_in, stored_byte, with_slots, mapped}
@@ -24,7 +24,7 @@ none_executed image a e = ap (λ b. cond b (Some ((code_of image).byte a)) None)
 pub no_section : (image : Image) (a : ℕ) → section_of 0 a image.sections ≡ None
     → executable_byte (code_of image) a ≡ None
 no_section image a none = none_executed image a (ap (λ o. (mode_in o a).execute) none
-    ∙ not_stack (in_stack a))
+    ∙ not_stack (in_stack a || in_data_stack a))
 
 pub not_executed : (image : Image) (a : ℕ) (s : Section) → section_of 0 a image.sections ≡ Some s
     → is_executable s ≡ false → executable_byte (code_of image) a ≡ None

@@ -1,8 +1,8 @@
 -- The loaded image has the bytes of its code at its base.
-use Rattle.std.proofs.Common.{◌≡◌, ℕ, zero, suc, ◌+◌, ◌-◌, ◌/◌, ◌%◌, ◌^◌, ◌<◌, ◌≤◌, Bool, true, false, ltb, leb, List, [], ◌∷◌, Option, Some, None, refl, sym, ap, ◌∙◌, arith, inl, inr}
+use Rattle.std.proofs.Common.{◌≡◌, ℕ, zero, suc, ◌+◌, ◌-◌, ◌/◌, ◌%◌, ◌^◌, ◌<◌, ◌≤◌, Bool, true, false, ◌||◌, ltb, leb, List, [], ◌∷◌, Option, Some, None, refl, sym, ap, ◌∙◌, arith, inl, inr}
 use Rattle.std.specs.List.{AllByRecursion}
 use Rattle.std.proofs.lemmas.Bool.{cases_lt, lt-ltb, le-ltb, le-leb, lt-leb}
-use Rattle.host_layout.specs.Ranges.{pages, in_stack}
+use Rattle.host_layout.specs.Ranges.{pages, in_stack, in_data_stack}
 use Rattle.host_layout.specs.declared.service.Service.{Service}
 use Rattle.host_layout.specs.Services.{address_of}
 use Rattle.flat_memory.specs.Memory.{next, executable, distance, with_number}
@@ -47,20 +47,28 @@ not_stack true = refl
 not_stack false = refl
 
 execute_shifted : (a b : ℕ) (o : Option Section) → (mode_in o a).execute ≡ (mode_in o b).execute
-execute_shifted a b None = not_stack (in_stack a) ∙ sym (not_stack (in_stack b))
+execute_shifted a b None = not_stack (in_stack a || in_data_stack a)
+    ∙ sym (not_stack (in_stack b || in_data_stack b))
 execute_shifted a b (Some s) = refl
 
-byte_shifted : (base a : ℕ) (o : Option Section) → byte_in base o (base + a) ≡ byte_in 0 o a
-byte_shifted base a None = refl
-byte_shifted base a (Some s) =
-    let e : base + a - (base + s.address) ≡ a - (0 + s.address) = omega arith in
-    rw e refl
+-- outside all sections nothing is executed
+byte_shifted : (base a : ℕ) (o : Option Section) → (mode_in o a).execute ≡ true
+    → byte_in base o (base + a) ≡ byte_in 0 o a
+byte_shifted base a None e = absurd
+    (not_both (sym (not_stack (in_stack a || in_data_stack a)) ∙ e))
+  where
+    not_both : false ≡ true → ⊥
+    not_both h = cc
+byte_shifted base a (Some s) e =
+    let at : base + a - (base + s.address) ≡ a - (0 + s.address) = omega arith in
+    rw at refl
 
 stored_shifted : (image : Image) (a : ℕ)
+    → (mode_in (section_of 0 a image.sections) a).execute ≡ true
     → stored_byte image (image.base + a) ≡ stored_byte (record image { base = 0 }) a
-stored_shifted image a =
+stored_shifted image a e =
     ap (λ o. byte_in image.base o (image.base + a)) (section_shifted image.base a image.sections)
-    ∙ byte_shifted image.base a (section_of 0 a image.sections)
+    ∙ byte_shifted image.base a (section_of 0 a image.sections) e
 
 -- ---- slots
 
@@ -84,15 +92,14 @@ module _ (base : ℕ) (low : base ≤ 2 ^ 47) where
       small same
 
   slots_shifted : (is : List Import) (f g : ℕ → ℕ)
-      → AllByRecursion (λ i. i.slot + 8 ≤ 2 ^ 47) is
-      → ((a : ℕ) → a < 2 ^ 63 → f (base + a) ≡ g a) → (a : ℕ) → a < 2 ^ 63
-      → with_slots base f is (base + a) ≡ with_slots 0 g is a
-  slots_shifted [] f g near same a small = same a small
-  slots_shifted (i ∷ is) f g near same a small = slots_shifted is
+      → AllByRecursion (λ i. i.slot + 8 ≤ 2 ^ 47) is → (a : ℕ) → a < 2 ^ 63
+      → f (base + a) ≡ g a → with_slots base f is (base + a) ≡ with_slots 0 g is a
+  slots_shifted [] f g near a small same = same
+  slots_shifted (i ∷ is) f g near a small same = slots_shifted is
       (with_address f (base + i.slot) (service_named i.name))
-      (with_address g (0 + i.slot) (service_named i.name)) near.1
-      (λ a small. address_shifted f g i.slot a (service_named i.name)
-      (let first = near.0 in omega arith) small (same a small)) a small
+      (with_address g (0 + i.slot) (service_named i.name)) near.1 a small
+      (address_shifted f g i.slot a (service_named i.name)
+      (let first = near.0 in omega arith) small same)
 
 -- ---- what is executed
 
@@ -104,10 +111,11 @@ module _ (image : Image) (b : IsBounded image) where
       ap (λ o. (mode_in o (image.base + a)).execute) (section_shifted image.base a image.sections)
       ∙ execute_shifted (image.base + a) a (section_of 0 a image.sections)
 
-  pub byte_at : (a : ℕ) → a < 2 ^ 63 → (mapped image).byte (image.base + a) ≡ (code_of image).byte a
+  pub byte_at : (a : ℕ) → ((code_of image).protection a).execute ≡ true → a < 2 ^ 63
+      → (mapped image).byte (image.base + a) ≡ (code_of image).byte a
   unfolding mapped
-  byte_at a small = slots_shifted image.base b.base (imports_of image) (stored_byte image)
-      (stored_byte (record image { base = 0 })) b.slots (λ a small. stored_shifted image a) a small
+  byte_at a e small = slots_shifted image.base b.base (imports_of image) (stored_byte image)
+      (stored_byte (record image { base = 0 })) b.slots a small (stored_shifted image a e)
 
   pub code_at : (n a : ℕ) → a + n ≤ 2 ^ 63
       → executable (mapped image) n (image.base + a) ≡ executable (code_of image) n a
@@ -119,7 +127,15 @@ module _ (image : Image) (b : IsBounded image) where
       let here : next a ≡ a + 1 = omega arith in
       let rest = ap (executable (mapped image) n) on ∙ code_at n (a + 1) (omega arith)
       ∙ ap (executable (code_of image) n) (sym here) in
-      rw (execute_at a, byte_at a (omega arith), rest) refl
+      go ((code_of image).protection a).execute refl rest
+    where
+      go : (b : Bool) → ((code_of image).protection a).execute ≡ b
+          → executable (mapped image) n (next (image.base + a))
+          ≡ executable (code_of image) n (next a)
+          → executable (mapped image) (suc n) (image.base + a)
+          ≡ executable (code_of image) (suc n) a
+      go true is rest = rw (execute_at a, is, byte_at a is (omega arith), rest) refl
+      go false is rest = rw (execute_at a, is) refl
 
 pub loaded_code : LoadedCodeIsCode
 loaded_code bytes image n at read place le = code_at image (bounded bytes image read place) n at le

@@ -45,8 +45,9 @@ module _ (image : Image) (b : IsBounded image) where
       let on : image.base + at + 1 ≡ image.base + (at + 1) = omega arith in
       let rest = bytes_there (at + 1) bs (omega arith)
       (subst (λ n. IsExecutableAt (mapped image) n bs) on h.2) in
-      let byte = eq-eqb (m.byte at) x (sym (byte_at image b at (omega arith)) ∙ h.0) in
+      let executes = sym (execute_at image b at) ∙ h.1 in
+      let byte = eq-eqb (m.byte at) x (sym (byte_at image b at executes (omega arith)) ∙ h.0) in
       and_from ((m.protection at).execute && eqb (m.byte at) x) (has_bytes m (next at) bs)
       (and_from (m.protection at).execute (eqb (m.byte at) x)
-      (sym (execute_at image b at) ∙ h.1) byte)
+      executes byte)
       (ap (λ n. has_bytes m n bs) here ∙ rest)

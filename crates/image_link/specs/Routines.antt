@@ -13,7 +13,7 @@ use Rattle.frame_layout.specs.declared.frame.FrameLayout.{FrameLayout}
 use Rattle.frame_layout.specs.Layout.{frame_of}
 use Rattle.template_code.specs.declared.layout.TheConstants.{MOST_REGISTERS, NO_REGISTERS}
 use Rattle.template_code.specs.declared.layout.Layout.{Layout}
-use Rattle.template_code.specs.Operands.{has_second}
+use Rattle.template_code.specs.Operands.{needs_rax_alone}
 use Rattle.image_link.specs.declared.routine.Entry.{Entry}
 use Rattle.image_link.specs.declared.routine.Entry.TheVariants as entries
 
@@ -26,8 +26,8 @@ pub record RoutineView : Type 0 where
 
 -- ---- leaf functions
 
--- They call nothing, handle nothing, and of registers write RAX alone, since no operation of theirs
--- reads a second operand and no result goes to a parameter. Their parameters stay in the registers
+-- They call nothing, handle nothing, and of registers write RAX alone, since their operations need
+-- no other and no result goes to a parameter. Their parameters stay in the registers
 -- in which they arrive, and their other slots are in the home space.
 
 -- a slot that is no parameter, of so many
@@ -36,7 +36,7 @@ is_kept n (Temporary i) = true
 is_kept n (Local i) = nat_le n i
 
 abbrev pub is_spare : ℕ → Instruction → Bool
-is_spare n (instructions.Compute to o first second) = not (has_second o) && is_kept n to
+is_spare n (instructions.Compute to o first second) = needs_rax_alone o && is_kept n to
 is_spare n (instructions.Jump label) = true
 is_spare n (instructions.JumpIfZero slot label) = true
 is_spare n instructions.Separator = true
@@ -163,7 +163,14 @@ nothing =
 -- a function without a name or a body
 abbrev pub no_function : LinearFunction
 no_function =
-    record { name = []; parameters = 0; registers = []; surplus = 0; body = nothing }
+    record {
+      name = [];
+      parameters = 0;
+      registers = [];
+      surplus = 0;
+      data_surplus = 0;
+      body = nothing;
+    }
 
 abbrev pub function_of_index : LinearProgram → ℕ → LinearFunction
 function_of_index p index = get_or p.functions index no_function

@@ -14,7 +14,7 @@ use linear_code::slot::Slot;
 use std::alloc::{AllocError, Global};
 use std::marker::Model;
 use template_code::layout::{Layout, MOST_REGISTERS, NO_REGISTERS};
-use template_code::operands::has_second;
+use template_code::operands::needs_rax_alone;
 
 /// The words of the home space, which a leaf function uses for its slots.
 const HOME_WORDS: u64 = 4;
@@ -101,7 +101,7 @@ fn is_spare(parameters: u64, instruction: &Instruction) -> bool
 {
     match *instruction {
         Instruction::Compute { to, operation, .. } => {
-            !has_second(operation) && is_kept(parameters, to)
+            needs_rax_alone(operation) && is_kept(parameters, to)
         }
         Instruction::Jump { .. }
         | Instruction::JumpIfZero { .. }

@@ -5,7 +5,8 @@ use Rattle.c_syntax.specs.declared.declaration.Length.{Length}
 use Rattle.c_syntax.specs.declared.expression.Base.{Base}
 use Rattle.c_syntax.specs.declared.expression.CType.{CType}
 use Rattle.c_syntax.specs.Program.{Initialiser, Single, Several, Global, ExternalDeclaration, Globals, Function}
-use Rattle.c_resolved.specs.Program.{constant_value, bytes_of_number, bytes_of_all, filled, stored_bytes, initial_value, padded, File, with_global, with_globals, with_external_declaration, file_of, empty_file}
+use Rattle.c_resolved.specs.Layout.{stored_bytes}
+use Rattle.c_resolved.specs.Program.{constant_value, bytes_of_number, bytes_of_all, filled, initial_value, padded, File, with_global, with_globals, with_external_declaration, file_of, empty_file}
 use Rattle.c_resolved.specs.Types.{bytes_in}
 use Rattle.image_octets.specs.OctetLaws.{AreOctets, ResolvedAreOctets}
 use Rattle.image_octets.proofs.Octets.{joined, taken, repeated}

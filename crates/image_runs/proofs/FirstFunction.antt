@@ -285,14 +285,16 @@ module _ (t : Functions) (fs : List Funclet) (program : LinearProgram) (p : Imag
   -- ---- all of it
 
   pub begins : RepresentsAt t fs program p q after
-      (begun f (arguments ++ others) (0 + fn.surplus) [] source [] [])
+      (begun f (arguments ++ others) (0 + (fn.surplus + fn.data_surplus)) [] source [] [])
   begins =
       let small = frame_small (p.leaf (FunctionBody f)) planned in
       let light = h.light in
+      let shallow = h.shallow in
       let e = inside.place in
       let stack = inside.stack in
       let up : register after.cpu Rsp + layout.frame + 8 ≡ top + 8 = omega arith in
-      function_begins t fs program p q image after source f o there [] [] (0 + fn.surplus) []
+      function_begins t fs program p q image after source f o there [] []
+      (0 + (fn.surplus + fn.data_surplus)) []
       (arguments ++ others)
       well_formed_after memory inside.rip some
       (record { space = omega arith; shallow = omega arith }) tt

@@ -63,9 +63,10 @@ first_states_start program c bytes arg = record {
 }
 
 pub mains_begin : MainsBegin
-mains_begin program c bytes made arg main is_main goes =
+mains_begin program c bytes made arg main is_main shallow goes =
     main_is_begun (functions_of program) (funclets_of program) program (plan_of program)
     (sites_of program) (images_are_programs program c) made arg main
     (start (image_of (linked program)) arg) is_main
-    (all_at FitsFunction program.functions program.main main c.fits.functions is_main).weight goes
+    (all_at FitsFunction program.functions program.main main c.fits.functions is_main).weight
+    shallow goes
     (first_states_start program c bytes arg)

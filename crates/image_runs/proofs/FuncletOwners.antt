@@ -3,7 +3,7 @@ use Rattle.std.proofs.Common.{◌≡◌, ℕ, zero, suc, ◌+◌, ◌-◌, ◌<�
 use Rattle.std.specs.List.{AllByRecursion}
 use Rattle.std.specs.Prelude.{slice_get}
 use Rattle.image_runs.specs.Words.{Program, Function, LinearFunction, LinearFunclet, scope_of, lowered, all_locals, lowered_function, lowered_funclets, all_funclets}
-use Rattle.c_checked.specs.Program.{weight}
+use Rattle.seh_ir.specs.Lowered.{body_start}
 use Rattle.c_checked.specs.Statement.{Statement, Declare, Block, Evaluate, If, IfElse, For, DoWhile, Return, Break, Continue, Leave, TryExcept, TryFinally, Statements, Empty, Then}
 use Rattle.linear_code.specs.declared.program.RegionKind.TheVariants as kinds
 use Rattle.lowering_sizes.specs.Sizes.{expression_size, discarded_size, condition_size, all_declared_size, statement_size, statements_size, statements_notes}
@@ -67,7 +67,7 @@ mutual
   none_in (TryExcept body filter block) owner names at e =
       let target = at + statements_size body + 1 in
       let l = length-append (statements_regions body at)
-      (region at target (except_kind filter target) ∷ statements_regions block (target + 1)) in
+      (region at target (except_kind filter target) ∷ statements_regions block (target + 2)) in
       absurd (omega arith)
   none_in (TryFinally body k last) owner names at e =
       let l = length-append (statements_regions body at)
@@ -119,13 +119,13 @@ module _ (all : List LinearFunction) where
 
   own : (fn : Function) (number : ℕ) → slice_get all number ≡ Some (lowered_function fn)
       → AllByRecursion (IsOwned all) (lowered_funclets number fn)
-  own fn number there = by (length (statements_regions fn.body (weight fn))) refl
+  own fn number there = by (length (statements_regions fn.body (body_start fn))) refl
     where
-      by : (n : ℕ) → length (statements_regions fn.body (weight fn)) ≡ n
+      by : (n : ℕ) → length (statements_regions fn.body (body_start fn)) ≡ n
           → AllByRecursion (IsOwned all) (lowered_funclets number fn)
       by zero e = nothing_owned (lowered_funclets number fn)
           (none_of fn.body (record { function = number; locals = all_locals fn; parent = None })
-          (scope_of fn).names (weight fn) e)
+          (scope_of fn).names (body_start fn) e)
       by (suc n) e =
           each_owned number (lowered_function fn) there (omega arith) (lowered_funclets number fn)
           (funclets_known (IsOf number (all_locals fn)) (Owns number (all_locals fn))

@@ -2,7 +2,7 @@
 -- the parameters go to their locals.
 use Rattle.std.proofs.Common.{◌≡◌, ℕ, ◌+◌, ◌*◌, ◌^◌, ◌<◌, ◌≤◌, true, Some, List, length, ap, subst, ◌∙◌, arith, inl, inr, refl}
 use Rattle.std.specs.Prelude.{◌⊎◌, slice_get}
-use Rattle.image_runs.specs.Words.{STACK_START, STACK_END, Memory, may_write, Protection, Rsp, State, register, Functions, Funclet, Local, LinearProgram, LinearBody, LinearFunction, FunctionBody, body_of, function_body, Layout, sizes, spelled, parameters_code, stack_parameter, MachineView, InRegisters, with_arguments, OnStack, IsFunctionFrame, body_in_memory, HasCode, Enters, ReachesBody, ImagePlan, Sites, arguments_code, IsMachineMemory, IsProgramImage, OtherRegisters, seen_by_templates, counts_of, FRAME_BY_WEIGHT, MOST_WEIGHT, weight, is_reserved, machine}
+use Rattle.image_runs.specs.Words.{STACK_START, STACK_END, Memory, may_write, Protection, Rsp, State, register, Functions, Funclet, Local, LinearProgram, depth_weight, DEEPEST, LinearBody, LinearFunction, FunctionBody, body_of, function_body, Layout, sizes, spelled, parameters_code, stack_parameter, MachineView, InRegisters, with_arguments, OnStack, IsFunctionFrame, body_in_memory, HasCode, Enters, ReachesBody, ImagePlan, Sites, arguments_code, IsMachineMemory, IsProgramImage, OtherRegisters, seen_by_templates, counts_of, FRAME_BY_WEIGHT, MOST_WEIGHT, weight, is_hidden, machine}
 use Rattle.flat_memory.specs.Protections.{is_writable}
 use Rattle.x64_templates.specs.CallStates.{sp_of}
 use Rattle.match_bodies.specs.CodeSites.{body_plan, making_size}
@@ -17,7 +17,7 @@ use Rattle.match_bodies.specs.BodyViews.{arrived_in}
 use Rattle.match_bodies.proofs.BodyViews.{locals_small}
 use Rattle.x64_templates.proofs.PrologueParts.{registers_are}
 use Rattle.match_bodies.proofs.ChainKeeping.{all_are, are_all}
-use Rattle.image_runs.proofs.Lemmas.{bytes_kept, enters_then, making_steps, stack_is_reserved, Keeps, enters_keeps, own_frame, IsOwn, roomy_own, fresh_own, parameters_soon, number_unarrived, argument_is, Made}
+use Rattle.image_runs.proofs.Lemmas.{bytes_kept, enters_then, making_steps, stack_is_hidden, Keeps, enters_keeps, own_frame, IsOwn, roomy_own, fresh_own, parameters_soon, number_unarrived, argument_is, Made}
 use Rattle.x64_templates.proofs.Ranges.{within_agrees}
 use Rattle.x64_templates.proofs.Entering.{fresh_holds, parameters_run}
 
@@ -30,6 +30,7 @@ pub record IsCalled (t : Functions) (fs : List Funclet) (program : LinearProgram
   pub rip : s.cpu.rip ≡ q.function f
   pub stack : register s.cpu Rsp ≡ top
   pub light : weight fn ≤ MOST_WEIGHT
+  pub shallow : depth_weight fn ≤ DEEPEST
   pub low : STACK_START + FRAME_BY_WEIGHT * MOST_WEIGHT + 8192 ≤ top
   pub high : top + 40 ≤ STACK_END
   pub count : length s.cpu.registers ≡ 16
@@ -87,8 +88,8 @@ module _ (t : Functions) (fs : List Funclet) (program : LinearProgram) (p : Imag
     pub locals : (i : ℕ) → i < count → number_placed layout sp (arrived_in state.cpu)
         (local_registers state.cpu.registers) state.memory i (place_of layout i) ≡ arguments i
     pub bytes : IsBytes state.memory
-    pub agrees : Agrees (is_reserved program.globals) state.memory source
-    pub same : (a : ℕ) → is_reserved program.globals a ≡ true → Outside a
+    pub agrees : Agrees (is_hidden program.globals) state.memory source
+    pub same : (a : ℕ) → is_hidden program.globals a ≡ true → Outside a
         → state.memory.byte a ≡ s.memory.byte a
 
   -- ---- once the frame is made, the parameters
@@ -123,12 +124,12 @@ module _ (t : Functions) (fs : List Funclet) (program : LinearProgram) (p : Imag
         (made_keeps.small (all_are (registers_of view)
         (subst AllSmall (registers_are s.cpu.registers h.count) h.numbers))))
 
-    made_agrees : Agrees (is_reserved program.globals) made.after.memory source
+    made_agrees : Agrees (is_hidden program.globals) made.after.memory source
     made_agrees =
         let l = own.low in
         let u = h.high in
-        within_agrees (is_reserved program.globals) sp top s.memory made.after.memory source
-        (λ a x z. stack_is_reserved program.globals a (omega arith) (omega arith)) made.within
+        within_agrees (is_hidden program.globals) sp top s.memory made.after.memory source
+        (λ a x z. stack_is_hidden program.globals a (omega arith) (omega arith)) made.within
         h.memory.agrees
 
     made_may : (a : ℕ) → STACK_START ≤ a → a < STACK_END → may_write made.after.memory a ≡ true

@@ -11,6 +11,7 @@ use Rattle.pe_image.specs.Reading.{IsImage}
 use Rattle.linear_machine.specs.Run as code
 use Rattle.image_runs.proofs.Lemmas.{continues, tables_are_read}
 use Rattle.image_runs.proofs.FirstState.{mains_begin}
+use Rattle.image_runs.proofs.FunctionDepths.{function_is_shallow}
 use Rattle.std.proofs.lemmas.Option.{slice_get-get_or}
 use Rattle.image_runs.proofs.ImageCode.{lowered_is_compiled}
 use Rattle.image_runs.proofs.SoundImages.{lowered_has_image}
@@ -50,6 +51,7 @@ module _ (program : Program) (l : IsLinkable program) (octets : HasBytes (lowere
       let first = code.start (lowered program) arg main_of in
       mains_begin (lowered program) (lowered_is_compiled program l) octets
       (lowered_has_image program l).made arg main_of main_is
+      (function_is_shallow program l.sound (lowered program).main main_of main_is)
       (continues program l.sound first (record
       { argument = arg; main = main_of; is_main = main_is; turns = zero; comes = refl }))
 

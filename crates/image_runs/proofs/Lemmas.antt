@@ -14,7 +14,7 @@ pub use Rattle.match_bodies.proofs.BodyResumption.{frame_size, frame_told}
 pub use Rattle.match_bodies.proofs.ChainKeeping.{Keeps, enters_keeps, stays_well_formed}
 pub use Rattle.match_bodies.proofs.FrameMaking.{making_steps}
 pub use Rattle.match_bodies.proofs.LabelPlaces.{label_near, template_there, code_ends}
-pub use Rattle.match_bodies.proofs.SlotPlaces.{stack_is_reserved}
+pub use Rattle.match_bodies.proofs.SlotPlaces.{stack_is_hidden}
 pub use Rattle.match_bodies.proofs.StackTop.{leaf_layout, OnTop, leaf_frame, framed_here, framed_top, leaf_top, body_on_top, one_entry}
 pub use Rattle.match_bodies.proofs.StackWords.{word_is, may_read_written, word_of}
 pub use Rattle.match_bodies.proofs.StepNeeds.{label_in}

@@ -7,6 +7,7 @@ pub mod FunctionEntry
 pub mod FrameEntries
 pub mod FirstFunction
 pub mod MainStart
+pub mod FunctionDepths
 pub mod FirstState
 pub mod AgreementFacts
 pub mod FirstSeparators

@@ -2,7 +2,7 @@
 use Rattle.std.proofs.Common.{◌≡◌, ℕ, zero, suc, ◌^◌, ◌<◌, ◌≤◌, Bool, true, false, Some, ℤ, pos, negsuc, List, [], ◌∷◌, length, get_or, refl, sym, ap, subst, arith}
 use Rattle.std.specs.Prelude.{slice_get, nat_eq, replicate, if◌then◌else◌}
 use Rattle.std.proofs.lemmas.Option.{slice_get_within}
-use Rattle.image_runs.specs.Words.{weight, MOST_WEIGHT, Memory, Cpu, State, Functions, Funclet, first_cpu, LinearProgram, LinearFunction, FunctionBody, body_of, function_body, InRegisters, ImagePlan, CanContinue, IsWellFormed, Sites, IsProgramImage, seen_by_templates, first_stack, IsFirst, MainBegins, W64, first_memory, main_arguments, start, IsWellMade}
+use Rattle.image_runs.specs.Words.{weight, depth_weight, DEEPEST, MOST_WEIGHT, Memory, Cpu, State, Functions, Funclet, first_cpu, LinearProgram, LinearFunction, FunctionBody, body_of, function_body, InRegisters, ImagePlan, CanContinue, IsWellFormed, Sites, IsProgramImage, seen_by_templates, first_stack, IsFirst, MainBegins, W64, first_memory, main_arguments, start, IsWellMade}
 use Rattle.seh_num.specs.Widths.{wrapped}
 use Rattle.seh_records.specs.Laws.{AllSmall}
 use Rattle.image_runs.proofs.Lemmas.{label_in}
@@ -63,6 +63,7 @@ module _ (t : Functions) (fs : List Funclet) (program : LinearProgram) (p : Imag
     (image : IsProgramImage t fs program p q) (made : IsWellMade program p) (arg : ℤ)
     (main : LinearFunction) (s : State) (is_main : slice_get program.functions program.main
     ≡ Some main) (light : weight main ≤ MOST_WEIGHT)
+    (shallow : depth_weight main ≤ DEEPEST)
     (goes : CanContinue program (start program arg main)) (h : IsFirst t fs program p q arg s) where
   abbrev source : Memory
   source = first_memory program.globals
@@ -102,6 +103,7 @@ module _ (t : Functions) (fs : List Funclet) (program : LinearProgram) (p : Imag
     rip = ap (λ (c : Cpu). c.rip) h.cpu;
     stack = ap (λ (c : Cpu). get_or c.registers 4 0) h.cpu;
     light = light;
+    shallow = shallow;
     low = omega arith;
     high = omega arith;
     count = well_formed.count;
@@ -141,5 +143,5 @@ module _ (t : Functions) (fs : List Funclet) (program : LinearProgram) (p : Imag
       }
 
 pub main_is_begun : MainIsBegun
-main_is_begun t fs program p q image made arg main s is_main light goes h = main_begins t fs program
-    p q image made arg main s is_main light goes h
+main_is_begun t fs program p q image made arg main s is_main light shallow goes h =
+    main_begins t fs program p q image made arg main s is_main light shallow goes h

@@ -67,7 +67,7 @@ calm_too meant linear same calm = by linear.end refl
 
 pub all : MatchedRunsShowAll
 all t fs program sound credit arg first n s begins few =
-    let turns : ℕ = 16 * n + 3 in
+    let turns : ℕ = 16 * n + 6 in
     let follows = lowered_follows program sound arg n turns (omega arith) in
     let rest = lowered_shows_no_more program sound arg turns
     ((turns + 1) * steps_per_turn_of program)

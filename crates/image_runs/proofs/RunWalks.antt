@@ -6,6 +6,7 @@ use Rattle.image_runs.specs.Words.{image_of, State, Program, LinearFunction, Lin
 use Rattle.host_model.specs.Loading as images
 use Rattle.image_runs.proofs.Lemmas.{continues, agreement_at_start}
 use Rattle.image_runs.proofs.FirstState.{mains_begin}
+use Rattle.image_runs.proofs.FunctionDepths.{function_is_shallow}
 use Rattle.image_runs.proofs.ImageCode.{lowered_is_compiled}
 use Rattle.image_runs.proofs.SoundImages.{lowered_has_image}
 use Rattle.image_runs.proofs.AgreementFacts.{known}
@@ -48,6 +49,7 @@ module _ (program : Program) (l : IsLinkable program) (reads : ReadsNoUnset (low
           (sites_of linear) arg main (images.start (image_of (linked linear)) arg)
       begins =
           mains_begin linear (lowered_is_compiled program l) octets image.made arg main is_main
+          (function_is_shallow program l.sound linear.main main is_main)
           (continues program l.sound (start linear arg main)
           (record { argument = arg; main = main; is_main = is_main; turns = zero; comes = refl }))
 

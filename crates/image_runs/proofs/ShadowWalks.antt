@@ -120,7 +120,7 @@ compiled_walk_the_shadow program l reads bytes w arg m n lt enough_steps calm no
 pub accepted_walk_the_shadow : AcceptedWalkTheShadow
 accepted_walk_the_shadow text xs bytes within accepted fits w most few arg m n lt enough_steps calm
     none =
-    let slow = steps_per_turn_are_bounded text xs most few in
+    let slow = steps_per_turn_are_bounded text xs within most few in
     let slower = mul-le (m + 1) (steps_per_turn_of (program_of text xs)) (m + 1)
     (steps_per_turn_in most) (omega arith)
     slow in

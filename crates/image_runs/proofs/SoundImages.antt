@@ -1,5 +1,5 @@
 -- All that steps of the machine ask of the image of a sound program.
-use Rattle.std.proofs.Common.{◌≡◌, ℕ, ◌<◌, [], ◌∷◌, length, get_or, Some, refl, sym, ap, ◌∙◌, arith, length-append}
+use Rattle.std.proofs.Common.{◌≡◌, ℕ, ◌<◌, [], ◌∷◌, ◌++◌, length, get_or, Some, refl, sym, ap, ◌∙◌, arith, length-append}
 use Rattle.std.proofs.lemmas.Option.{slice_get-get_or}
 use Rattle.image_runs.specs.Words.{Program, Local, Temporary, LinearBody, LinearProgram, FunctionBody, function_body, body_of, lowered, no_function, functions_of, funclets_of, plan_of, sites_of, IsLinkable, IsSoundImage, FunctionsApart, IsField, IsPlain, LoweredHasImage}
 use Rattle.c_operations.specs.declared.field.Field.{Field}
@@ -9,6 +9,7 @@ use Rattle.linear_code.specs.declared.program.FuncletKind.TheVariants.{Filter, F
 use Rattle.linear_machine.specs.Unwinding.{flag_in, flag_of}
 use Rattle.lowering_expressions.specs.Scope.{finally_scope}
 use Rattle.lowering_expressions.specs.Expressions.{expression_code}
+use Rattle.seh_ir.specs.Funclets.{finally_begin}
 use Rattle.seh_ir.specs.Statements.{statements_code}
 use Rattle.lowering_invariants.proofs.CallRegions.{has_same_regions}
 use Rattle.lowering_invariants.proofs.Flags.{has_flags}
@@ -50,8 +51,11 @@ module _ (program : Program) (l : IsLinkable program) where
   some_code k b e = every_body (λ (b : LinearBody). 0 < length b.code)
       (λ owner names e. (let n = length-append (expression_code names e 0 0)
       (instructions.Return (Temporary 0) ∷ []) in omega arith))
-      (λ owner names last. (let n = length-append (statements_code (finally_scope names) last 0)
-      (instructions.Return (Local names.free) ∷ []) in omega arith))
+      (λ owner names last.
+      (let code = statements_code (finally_scope names) last 3 in
+      let ends = instructions.Return (Local names.free) ∷ [] in
+      let n = length-append code ends in
+      let m = length-append (finally_begin names.part names.free) (code ++ ends) in omega arith))
       (λ f. omega arith)
       program (FunctionBody k) b e
 

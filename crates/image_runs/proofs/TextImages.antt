@@ -30,7 +30,7 @@ realise text xs bytes within accepted fits w = compiled_realise (program_of text
 
 pub nothing_more : AcceptedShowNothingMore
 nothing_more text xs bytes within accepted fits w most few arg m n lt enough_steps calm =
-    let slow = steps_per_turn_are_bounded text xs most few in
+    let slow = steps_per_turn_are_bounded text xs within most few in
     let slower = mul-le (m + 1) (steps_per_turn_of (program_of text xs)) (m + 1)
     (steps_per_turn_in most) (omega arith)
     slow in

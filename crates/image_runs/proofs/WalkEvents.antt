@@ -16,7 +16,7 @@ front_has (e ∷ es) more h = (h.0, front_has es more h.1)
 
 pub meanings_walk_by_calls : MeaningsWalkByCalls
 meanings_walk_by_calls program sound without arg n =
-    let turns = 16 * n + 3 in
+    let turns = 16 * n + 6 in
     let front = (lowered_follows program sound arg n turns (omega arith)).0 in
     front_has (meaning program arg n).events front.0
     (subst (AllByRecursion IsNotAt) (sym front.1)

@@ -40,7 +40,7 @@ module _ (t : Functions) (fs : List Funclet) (program : Program) (p : ImagePlan)
 pub images_show_all : ImagesShowAll
 images_show_all t fs program p q sound reads image arg main s is_main b n =
     runs.all t fs program sound turns_left arg most_before_main n s
-    (begins t fs program p q sound reads image arg main s is_main b (16 * n + 3))
+    (begins t fs program p q sound reads image arg main s is_main b (16 * n + 6))
     (omega arith)
 
 pub images_show_no_more : ImagesShowNoMore

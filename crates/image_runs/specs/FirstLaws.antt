@@ -1,8 +1,9 @@
 -- What is claimed of the first state of a compiled program's image.
-use Rattle.std.specs.Prelude.{◌≡◌, slice_get, ℤ, Some}
+use Rattle.std.specs.Prelude.{◌≡◌, ◌≤◌, slice_get, ℤ, Some}
 use Rattle.host_model.specs.Loading.{start}
 use Rattle.pe_write.specs.Program.{image_of}
-use Rattle.linear_code.specs.Program.{LinearProgram, LinearFunction}
+use Rattle.linear_code.specs.Program.{LinearProgram, LinearFunction, depth_weight}
+use Rattle.source_meaning.specs.declared.depth.TheConstants.{DEEPEST}
 use Rattle.linear_machine.specs.Run as linear
 use Rattle.image_link.specs.Linked.{linked}
 use Rattle.lowering_invariants.specs.Ready.{CanContinue}
@@ -25,6 +26,6 @@ MainsBegin =
     (program : LinearProgram) → HasWholeImage program → HasBytes program
     → IsWellMade program (plan_of program)
     → (arg : ℤ) (main : LinearFunction) → slice_get program.functions program.main ≡ Some main
-    → CanContinue program (linear.start program arg main)
+    → depth_weight main ≤ DEEPEST → CanContinue program (linear.start program arg main)
     → MainBegins (functions_of program) (funclets_of program) program (plan_of program)
     (sites_of program) arg main (start (image_of (linked program)) arg)

@@ -22,7 +22,7 @@ turns_per_step = 16
 
 -- turns before `main` begins, at most
 abbrev pub most_before_main : ℕ
-most_before_main = 208
+most_before_main = 160
 
 -- in 256 n + 256 turns the machine shows what the program shows within n steps, and has ended as it
 -- ends
@@ -30,7 +30,7 @@ abbrev pub MatchedRunsShowAll : Type 0
 MatchedRunsShowAll =
     (t : Functions) (fs : List Funclet) (program : Program) → IsSound program
     → (credit : Configuration → ℕ) (arg : ℤ) (first n : ℕ) (s : State)
-    → RunBegins t fs (lowered program) turns_per_step credit arg first s (16 * n + 3)
+    → RunBegins t fs (lowered program) turns_per_step credit arg first s (16 * n + 6)
     → first ≤ most_before_main
     → ShowsAll (meaning program arg n) (run t fs (256 * n + 256) (host s) [])
 

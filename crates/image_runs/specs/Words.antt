@@ -9,9 +9,10 @@ pub use Rattle.flat_memory.specs.declared.protection.Protection.{Protection}
 pub use Rattle.c_checked.specs.Program.{Program, Function}
 pub use Rattle.c_checked.specs.Sound.{IsSound, count_up}
 pub use Rattle.source_meaning.specs.Meaning.{meaning, is_calm, Calm}
-pub use Rattle.source_meaning.specs.Source.{is_reserved, first_memory}
+pub use Rattle.source_meaning.specs.Source.{is_hidden, first_memory}
 pub use Rattle.source_meaning.specs.declared.ended.Ended.{Ended}
-pub use Rattle.linear_code.specs.Program.{LinearProgram, LinearFunction, LinearBody, LinearFunclet, weight}
+pub use Rattle.source_meaning.specs.declared.depth.TheConstants.{DEEPEST}
+pub use Rattle.linear_code.specs.Program.{LinearProgram, LinearFunction, LinearBody, LinearFunclet, weight, depth_weight}
 pub use Rattle.linear_code.specs.declared.instruction.Instruction.{Instruction}
 pub use Rattle.linear_code.specs.declared.slot.Slot.{Slot}
 pub use Rattle.linear_code.specs.declared.slot.Slot.TheVariants.{Local, Temporary}

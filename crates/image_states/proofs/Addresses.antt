@@ -3,7 +3,7 @@ use Rattle.std.proofs.Common.{◌≡◌, ◌≢◌, ◌⊎◌, ℕ, ◌+◌, ◌
 use Rattle.std.specs.Prelude.{◌&&◌, if◌then◌else◌, slice_get}
 use Rattle.std.proofs.lemmas.Option.{slice_get_within}
 use Rattle.std.proofs.lemmas.Bool.{or_right, and_from, and_right, not_from_false, cases_eq, cases_lt, le-leb, lt-ltb, le-ltb}
-use Rattle.image_states.specs.Words.{IMAGE_BASE, IMAGE_RANGE_END, is_between, is_data, data_end, is_reserved, LinearBody, LinearFunclet, LinearProgram, BodyName, body_of, Instruction, modrm, size, sizes, check_stack, template_size, body_size, is_cold, side_from, FitsProgram, RoutineView, funclet_frame, funclet, routines, IsFrameNear, routine_size, cold_size, cold_total, entry_size, bounds, text_begin, linked, Placed, PlacedPart, body_begin, end_of, placed, first_cursor, site_of, part_with, image_base, template_at, funclet_begin, functions_of, funclets_of, routine_of, address_of, plan_of, sites_of, HasWholeImage, IsInImage, routines_begin, cold_begin, probe_begin}
+use Rattle.image_states.specs.Words.{IMAGE_BASE, IMAGE_RANGE_END, is_between, is_data, data_end, is_hidden, LinearBody, LinearFunclet, LinearProgram, BodyName, body_of, Instruction, modrm, size, sizes, check_stack, template_size, body_size, is_cold, side_from, FitsProgram, RoutineView, funclet_frame, funclet, routines, IsFrameNear, routine_size, cold_size, cold_total, entry_size, bounds, text_begin, linked, Placed, PlacedPart, body_begin, end_of, placed, first_cursor, site_of, part_with, image_base, template_at, funclet_begin, functions_of, funclets_of, routine_of, address_of, plan_of, sites_of, HasWholeImage, IsInImage, routines_begin, cold_begin, probe_begin}
 use Rattle.image_tables.specs.RoutinePlaces.{parts_of}
 use Rattle.lowering_invariants.specs.ColdParts.{HasColdParts}
 use Rattle.image_states.proofs.ColdLabels.{first_hot}
@@ -18,7 +18,7 @@ data_ends : (globals : List ℕ) → image_base + text_begin globals ≡ data_en
 data_ends globals = omega arith
 
 pub reserved : (globals : List ℕ) (a : ℕ) → image_base + text_begin globals ≤ a
-    → a < IMAGE_RANGE_END → is_reserved globals a ≡ true
+    → a < IMAGE_RANGE_END → is_hidden globals a ≡ true
 reserved globals a le lt =
     let e = data_ends globals in
     let past : is_data globals a ≡ false = and_right (leb 0x140001000 a) (ltb a (data_end globals))

@@ -2,9 +2,9 @@
 use Rattle.std.proofs.Common.{◌≡◌, ℕ, ◌+◌, ◌*◌, ◌-◌, ◌^◌, ◌<◌, ◌≤◌, Bool, true, false, cond, not, leb, ltb, List, [], ◌∷◌, ◌++◌, length, get_or, Option, Some, None, refl, sym, ap, subst, ◌∙◌, arith, inl, inr}
 use Rattle.std.specs.Prelude.{◌&&◌, ◌||◌, ◌⊎◌}
 use Rattle.std.specs.List.{AllByRecursion, flat_map}
-use Rattle.std.proofs.lemmas.Bool.{and_from, and_parts, and_left, and_right, or_left, lt-ltb, le-ltb, le-leb, lt-leb, ltb-true, leb-true, cases_lt, false≢true}
+use Rattle.std.proofs.lemmas.Bool.{and_from, and_parts, and_left, and_right, or_left, or_right, lt-ltb, le-ltb, le-leb, lt-leb, ltb-true, leb-true, cases_lt, false≢true}
 use Rattle.std.proofs.lemmas.List.{get_or_past}
-use Rattle.image_states.specs.Words.{IMAGE_BASE, IMAGE_RANGE_END, is_writable, Memory, may_write, Section, Image, Import, ImageContents, image_of, imports_of, sizes_of, rdata_at, end_at, section_of, covers, mode_in, byte_in, stored_byte, with_slots, mapped, is_between, data_end, is_data, is_reserved, LinearProgram, linked, image_base, HasWholeImage, MOST_IMAGE, GUARD_START, STACK_START, STACK_END, ARENA_START, ARENA_END, FIRST_DATA, in_stack, in_arena, slots_at, import_tables, sections_of, parts_of, data_section, text_section, rdata_section, xdata_section, pdata_section, stack_mode, IsBeside, plain_mode, first_memory, HasBytes, tables_size}
+use Rattle.image_states.specs.Words.{IMAGE_BASE, IMAGE_RANGE_END, is_writable, Memory, may_write, Section, Image, Import, ImageContents, image_of, imports_of, sizes_of, rdata_at, end_at, section_of, covers, mode_in, byte_in, stored_byte, with_slots, mapped, is_between, data_end, is_data, is_hidden, LinearProgram, linked, image_base, HasWholeImage, MOST_IMAGE, GUARD_START, STACK_START, STACK_END, ARENA_START, ARENA_END, FIRST_DATA, DATA_STACK_START, DATA_STACK_END, FIRST_DATA_STACK, first_byte, in_stack, in_data_stack, in_arena, slots_at, import_tables, sections_of, parts_of, data_section, text_section, rdata_section, xdata_section, pdata_section, stack_mode, IsBeside, plain_mode, first_memory, HasBytes, tables_size}
 use Rattle.flat_memory.specs.declared.protection.Rights.TheVariants.{Nothing, ReadWrite}
 use Rattle.pe_image.specs.Imports as importing
 use Rattle.pe_image.specs.Numbers.{zeros}
@@ -12,10 +12,10 @@ use Rattle.pe_write.specs.NameTable.{NameRow}
 use Rattle.pe_write.specs.Program.{data_read, text_read, rdata_read, xdata_read, pdata_read, names_read, names_section, if_named}
 use Rattle.pe_write.specs.Written.{SectionParts, raw_size, raw_data, written, dos_header, file_header, standard_fields, windows_fields, directories, table_of}
 use Rattle.image_link.proofs.Imports.{IsWithin, slots_within, all_from}
-use Rattle.image_states.proofs.Lemmas.{listed, slots-beside, is, text_is}
+use Rattle.image_states.proofs.Lemmas.{listed, slots-beside, is, text_is, pointer_is_seen, digits}
 use Rattle.match_stack.specs.StackRecords.{IsData}
 use Rattle.x64_templates.specs.Frames.{Agrees}
-use Rattle.image_states.proofs.Sections.{covered, below, above, here, past, of_section, AllBytes, bytes_front, bytes_back, stored_small, slots_small, slots_past, get_zeros, IsApart}
+use Rattle.image_states.proofs.Sections.{covered, below, above, here, past, of_section, AllBytes, bytes_front, bytes_back, stored_small, slots_small, slots_past, get_zeros, IsApart, first_byte-beside}
 
 -- ---- the bytes of sections
 
@@ -232,7 +232,7 @@ module _ (program : LinearProgram) (c : HasWholeImage program) where
   ]
 
   -- an address of which the language says something
-  free : (a : ℕ) → is_reserved program.globals a ≡ false
+  free : (a : ℕ) → is_hidden program.globals a ≡ false
       → (is_between GUARD_START STACK_END a ≡ false) × (Place a)
   free a e =
       let q = or_none (is_between GUARD_START STACK_END a)
@@ -265,19 +265,20 @@ module _ (program : LinearProgram) (c : HasWholeImage program) where
       ∙ ap (λ (o : Option Section). byte_in image_base o a) (data_there a h.0 h.1)
       ∙ data_raw (a - (image_base + 0x1000))
       ∙ ap (λ (i : ℕ). get_or program.globals i 0) same
-      ∙ sym (ap (λ (b : Bool). cond b 0 (get_or program.globals (a - FIRST_DATA) 0))
+      ∙ sym (ap (λ (b : Bool). cond b (first_byte a) (get_or program.globals (a - FIRST_DATA) 0))
       (le-ltb a FIRST_DATA h.0))
   byte_by a (inr (inl lt)) =
       let l = low in
       stored_there a (inl (omega arith))
       ∙ ap (λ (o : Option Section). byte_in image_base o a) (outside a (inl lt))
-      ∙ sym (ap (λ (b : Bool). cond b 0 (get_or program.globals (a - FIRST_DATA) 0))
+      ∙ sym (ap (λ (b : Bool). cond b (first_byte a) (get_or program.globals (a - FIRST_DATA) 0))
       (lt-ltb a FIRST_DATA lt))
   byte_by a (inr (inr le)) =
       let few = c.fits.globals in
       stored_there a (inr le)
       ∙ ap (λ (o : Option Section). byte_in image_base o a) (outside a (inr le))
-      ∙ sym (ap (λ (b : Bool). cond b 0 (get_or program.globals (a - FIRST_DATA) 0))
+      ∙ first_byte-beside a (inr (omega arith))
+      ∙ sym (ap (λ (b : Bool). cond b (first_byte a) (get_or program.globals (a - FIRST_DATA) 0))
       (le-ltb a FIRST_DATA (omega arith)) ∙ get_or_past program.globals (a - FIRST_DATA) 0
       (omega arith))
 
@@ -288,20 +289,47 @@ module _ (program : LinearProgram) (c : HasWholeImage program) where
       and_right (leb FIRST_DATA a) (ltb a (data_end program.globals))
       (le-ltb a (data_end program.globals) (omega arith))
 
+  stack_is_plain : (b : Bool) → stack_mode b ≡ cond b (plain_mode ReadWrite) (plain_mode Nothing)
+  stack_is_plain true = refl
+  stack_is_plain false = refl
+
   mode_by : (a : ℕ) → is_between GUARD_START STACK_END a ≡ false → Place a
       → m.protection a ≡ (first_memory program.globals).protection a
   unfolding mapped
   mode_by a off (inl h) =
       ap (λ (o : Option Section). mode_in o a) (data_there a h.0 h.1)
-      ∙ sym (ap (λ (b : Bool). cond b (plain_mode ReadWrite) (plain_mode Nothing))
+      ∙ sym (ap (λ (b : Bool). cond (b || in_data_stack a) (plain_mode ReadWrite)
+      (plain_mode Nothing))
       (and_from (leb FIRST_DATA a) (ltb a (data_end program.globals)) (le-leb FIRST_DATA a h.0)
       (lt-ltb a (data_end program.globals) h.1)))
   mode_by a off (inr h) =
       ap (λ (o : Option Section). mode_in o a) (outside a h)
-      ∙ ap stack_mode (not_stack a off)
-      ∙ sym (ap (λ (b : Bool). cond b (plain_mode ReadWrite) (plain_mode Nothing)) (not_data a h))
+      ∙ ap (λ (b : Bool). stack_mode (b || in_data_stack a)) (not_stack a off)
+      ∙ stack_is_plain (in_data_stack a)
+      ∙ sym (ap (λ (b : Bool). cond (b || in_data_stack a) (plain_mode ReadWrite)
+      (plain_mode Nothing)) (not_data a h))
 
-  pub agrees : Agrees (is_reserved program.globals) m (first_memory program.globals)
+  -- ---- the data stack's pointer, in the source's memory
+
+  pointer_writes : (a : ℕ) → DATA_STACK_START ≤ a → a < DATA_STACK_START + 8
+      → may_write (first_memory program.globals) a ≡ true
+  pointer_writes a low high =
+      ap (λ (b : Bool). is_writable (cond b (plain_mode ReadWrite) (plain_mode Nothing)).rights)
+      (or_right (is_data program.globals a) (in_data_stack a)
+      (and_from (leb DATA_STACK_START a) (ltb a DATA_STACK_END) (le-leb DATA_STACK_START a low)
+      (lt-ltb a DATA_STACK_END (omega arith))))
+
+  pointer_small : (a : ℕ) → a < DATA_STACK_START + 8
+      → (first_memory program.globals).byte a < 256
+  pointer_small a high =
+      let is : (first_memory program.globals).byte a ≡ first_byte a =
+      ap (λ (b : Bool). cond b (first_byte a) (get_or program.globals (a - FIRST_DATA) 0))
+      (lt-ltb a FIRST_DATA (omega arith)) in
+      let few : first_byte a < 256 =
+      digits (λ a. 0) 8 DATA_STACK_START FIRST_DATA_STACK a (omega arith) in
+      omega arith
+
+  pub agrees : Agrees (is_hidden program.globals) m (first_memory program.globals)
   agrees = record {
     byte = λ a e. byte_by a (free a e).1;
     protection = λ a e. mode_by a (free a e).0 (free a e).1;
@@ -309,6 +337,11 @@ module _ (program : LinearProgram) (c : HasWholeImage program) where
         let lt = ltb-true a STACK_START q.1 in or_left (is_between GUARD_START STACK_END a)
         (is_between IMAGE_BASE IMAGE_RANGE_END a && not (is_data program.globals a))
         (and_from (leb GUARD_START a) (ltb a STACK_END) q.0 (lt-ltb a STACK_END (omega arith))));
+    pointer = λ a l u. record {
+      seen = pointer_is_seen program.globals a u;
+      writable = pointer_writes a l u;
+      small = pointer_small a u;
+    };
   }
 
   -- ---- the stack
@@ -317,7 +350,7 @@ module _ (program : LinearProgram) (c : HasWholeImage program) where
   unfolding mapped
   stack_writes a le lt =
       ap (λ (o : Option Section). is_writable (mode_in o a).rights) (outside a (inl (omega arith)))
-      ∙ ap (λ (b : Bool). is_writable (stack_mode b).rights)
+      ∙ ap (λ (b : Bool). is_writable (stack_mode (b || in_data_stack a)).rights)
       (and_from (leb STACK_START a) (ltb a STACK_END) (le-leb STACK_START a le)
       (lt-ltb a STACK_END lt))
 
@@ -326,19 +359,21 @@ module _ (program : LinearProgram) (c : HasWholeImage program) where
   stack_zero a le lt =
       let l = low in
       stored_there a (inl (omega arith)) ∙ ap (λ (o : Option Section). byte_in image_base o a)
-      (outside a (inl (omega arith)))
+      (outside a (inl (omega arith))) ∙ first_byte-beside a (inr (omega arith))
 
   -- ---- the arena
+
+  not_executed : (b : Bool) → (stack_mode b).execute ≡ false
+  not_executed true = refl
+  not_executed false = refl
 
   pub arena_alone : (a : ℕ) → in_arena a ≡ true → (m.protection a).execute ≡ false
   unfolding mapped
   arena_alone a e =
       let q = and_parts (leb ARENA_START a) (ltb a ARENA_END) e in
       let high : a < ARENA_END = ltb-true a ARENA_END q.1 in
-      let off : in_stack a ≡ false = and_left (leb STACK_START a) (ltb a STACK_END)
-      (lt-leb STACK_START a (omega arith)) in
       ap (λ (o : Option Section). (mode_in o a).execute) (outside a (inl (omega arith)))
-      ∙ ap (λ (b : Bool). (stack_mode b).execute) off
+      ∙ not_executed (in_stack a || in_data_stack a)
 
   -- ---- data alone
 
@@ -352,7 +387,7 @@ module _ (program : LinearProgram) (c : HasWholeImage program) where
     bytes = slots_small image_base (stored_byte image) (importing.imports_of image)
         (λ a. stored_small image_base a (sections_of p) (raws p bytes));
     no_code = λ a. of_section (λ (o : Option Section). IsApart (mode_in o a)) image_base a
-        (sections_of p) (apart_by a (in_stack a)) (
+        (sections_of p) (apart_by a (in_stack a || in_data_stack a)) (
           (λ e. refl),
           (
             (λ e. absurd (false≢true e)),

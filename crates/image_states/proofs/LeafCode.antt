@@ -1,11 +1,11 @@
 -- What makes a function a leaf: few slots, and code that writes RAX alone.
-use Rattle.std.proofs.Common.{◌≡◌, ℕ, ◌+◌, ◌≤◌, ◌==◌, Bool, true, false, not, List, [], ◌∷◌, length, refl}
+use Rattle.std.proofs.Common.{◌≡◌, ℕ, ◌+◌, ◌≤◌, ◌==◌, Bool, true, false, List, [], ◌∷◌, length, refl}
 use Rattle.std.specs.Prelude.{◌&&◌, nat_le}
 use Rattle.std.specs.List.{AllByRecursion}
 use Rattle.std.proofs.lemmas.Bool.{and_parts, leb-true, false≢true}
 use Rattle.image_states.specs.Words.{Slot, Local, Temporary, Instruction, LinearFunction, Layout, is_kept, is_spare, all_spare}
 use Rattle.linear_code.specs.declared.instruction.Instruction.TheVariants as instructions
-use Rattle.template_code.specs.Operands.{has_second}
+use Rattle.template_code.specs.Operands.{needs_rax_alone}
 use Rattle.x64_templates.specs.Frames.{IsKept}
 use Rattle.x64_templates.specs.InstructionRuns.{IsSpare, KeepsArrivals}
 use Rattle.image_link.specs.Routines as link
@@ -31,17 +31,13 @@ leaf_facts f e =
 
 -- ---- instructions
 
-not_second : (b : Bool) → not b ≡ true → b ≡ false
-not_second true e = absurd (false≢true e)
-not_second false e = refl
-
 slot_kept : (y : Layout) (x : Slot) → is_kept y.arrivals x ≡ true → IsKept y x
 slot_kept y (Temporary i) e = tt
 slot_kept y (Local i) e = leb-true y.arrivals i e
 
 one_spare : (n : ℕ) (i : Instruction) → is_spare n i ≡ true → IsSpare i
 one_spare n (instructions.Compute to o first second) e =
-    not_second (has_second o) (and_parts (not (has_second o)) (is_kept n to) e).0
+    (and_parts (needs_rax_alone o) (is_kept n to) e).0
 one_spare n (instructions.Jump label) e = tt
 one_spare n (instructions.JumpIfZero slot label) e = tt
 one_spare n instructions.Separator e = tt
@@ -50,7 +46,7 @@ one_spare n i e = absurd (false≢true e)
 
 one_kept : (y : Layout) (i : Instruction) → is_spare y.arrivals i ≡ true → KeepsArrivals y i
 one_kept y (instructions.Compute to o first second) e =
-    slot_kept y to (and_parts (not (has_second o)) (is_kept y.arrivals to) e).1
+    slot_kept y to (and_parts (needs_rax_alone o) (is_kept y.arrivals to) e).1
 one_kept y (instructions.Information to field) e = absurd (false≢true e)
 one_kept y (instructions.Landing to) e = absurd (false≢true e)
 one_kept y i e = tt

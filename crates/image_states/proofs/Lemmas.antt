@@ -18,3 +18,5 @@ pub use Rattle.image_tables.proofs.Shape.{no_funclet, as_long, begin_is, funclet
 pub use Rattle.image_tables.proofs.Table.{text_is, end_inside, is, rdata_is, tables_are_read, image_small}
 pub use Rattle.image_tables.proofs.RoutineRanges.{routines_have}
 pub use Rattle.image_link.proofs.Nearness.{routines_near}
+pub use Rattle.x64_templates.proofs.Accesses.{digits}
+pub use Rattle.match_bodies.proofs.HiddenBytes.{pointer_is_seen}

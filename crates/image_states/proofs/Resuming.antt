@@ -37,16 +37,14 @@ ready_is (operations.Pure p) v e = tt
 ready_is (operations.Divide s z) v e = eqb-true (low (width z) v.rdx) (high_of s (width z) v.rax) e
 ready_is (operations.Remainder s z) v e = eqb-true (low (width z) v.rdx) (high_of s (width z) v.rax)
     e
-ready_is (operations.Load w) v e = tt
-ready_is (operations.Store w) v e = tt
+ready_is o v e = tt
 
 is_ready_of : (o : Operation) (v : MachineView) → IsReady o v → is_ready o v ≡ true
 is_ready_of (operations.Pure p) v e = refl
 is_ready_of (operations.Divide s z) v e = eq-eqb (low (width z) v.rdx) (high_of s (width z) v.rax) e
 is_ready_of (operations.Remainder s z) v e = eq-eqb (low (width z) v.rdx)
     (high_of s (width z) v.rax) e
-is_ready_of (operations.Load w) v e = refl
-is_ready_of (operations.Store w) v e = refl
+is_ready_of o v e = refl
 
 -- locals in registers
 module _ (saved : Cpu) where

@@ -1,11 +1,11 @@
 -- Which section is at an address, and what sections are like.
-use Rattle.std.proofs.Common.{◌≡◌, ℕ, zero, suc, ◌+◌, ◌-◌, ◌/◌, ◌%◌, ◌^◌, ◌<◌, ◌≤◌, Bool, true, false, cond, leb, ltb, List, [], ◌∷◌, ◌++◌, get_or, replicate, Option, Some, None, refl, ap, ◌∙◌, arith}
+use Rattle.std.proofs.Common.{◌≡◌, ℕ, zero, suc, ◌+◌, ◌-◌, ◌/◌, ◌%◌, ◌^◌, ◌<◌, ◌≤◌, Bool, true, false, cond, leb, ltb, List, [], ◌∷◌, ◌++◌, get_or, replicate, Option, Some, None, refl, ap, ◌∙◌, arith, inl, inr, ◌⊎◌}
 use Rattle.std.specs.List.{AllByRecursion}
-use Rattle.std.proofs.lemmas.Bool.{and_from, and_left, and_right, lt-ltb, le-ltb, le-leb, lt-leb}
-use Rattle.image_states.specs.Words.{is_writable, Section, Import, Service, service_named, section_of, byte_in, with_slots, with_number, is_among, pages, covers, or_else, with_address}
+use Rattle.std.proofs.lemmas.Bool.{and_from, and_left, and_right, lt-ltb, le-ltb, le-leb, lt-leb, cases_lt}
+use Rattle.image_states.specs.Words.{is_writable, first_byte, DATA_STACK_START, FIRST_DATA_STACK, Section, Import, Service, service_named, section_of, byte_in, with_slots, with_number, is_among, pages, covers, or_else, with_address}
 use Rattle.flat_memory.specs.declared.protection.Protection.{Protection}
 use Rattle.flat_memory.specs.Memory.{distance}
-use Rattle.flat_memory.proofs.Stores.{outside}
+use Rattle.flat_memory.proofs.Stores.{beyond, outside}
 use Rattle.host_layout.specs.Services.{address_of}
 
 -- ---- which section
@@ -65,17 +65,6 @@ byte_small [] (suc i) h = omega arith
 byte_small (x ∷ xs) zero h = h.0
 byte_small (x ∷ xs) (suc i) h = byte_small xs i h.1
 
-pub stored_small : (base a : ℕ) (ss : List Section)
-    → AllByRecursion (λ (s : Section). AllBytes s.raw) ss
-    → byte_in base (section_of base a ss) a < 256
-stored_small base a ss all = of_section (λ (o : Option Section). byte_in base o a < 256) base a ss
-    (omega arith) (each ss all)
-  where
-    each : (qs : List Section) → AllByRecursion (λ (s : Section). AllBytes s.raw) qs
-        → AllByRecursion (λ (s : Section). byte_in base (Some s) a < 256) qs
-    each [] h = tt
-    each (q ∷ qs) h = (byte_small q.raw (a - (base + q.address)) h.0, each qs h.1)
-
 number_small : (byte : ℕ → ℕ) (n at v : ℕ) → ((a : ℕ) → byte a < 256) → (a : ℕ)
     → with_number byte n at v a < 256
 unfolding with_number
@@ -84,6 +73,35 @@ number_small byte n at v h a = go (is_among n at a)
     go : (b : Bool) → (cond b (v / 256 ^ distance at a % 256) (byte a)) < 256
     go true = omega arith
     go false = h a
+
+-- ---- what a run begins with where no section is
+
+first_small : (a : ℕ) → first_byte a < 256
+first_small a = number_small (λ b. 0) 8 DATA_STACK_START FIRST_DATA_STACK (λ b. omega arith) a
+
+-- zeros beside the data stack's pointer
+pub first_byte-beside : (a : ℕ) → (a < DATA_STACK_START) ⊎ (DATA_STACK_START + 8 ≤ a)
+    → first_byte a ≡ 0
+first_byte-beside a h = elim (cases_lt a (2 ^ 64)) [
+  | inl lt ↦ beyond (λ b. 0) 8 DATA_STACK_START FIRST_DATA_STACK a lt (far h lt)
+  | inr le ↦ outside (λ b. 0) 8 DATA_STACK_START FIRST_DATA_STACK a le
+]
+  where
+    far : (a < DATA_STACK_START) ⊎ (DATA_STACK_START + 8 ≤ a) → a < 2 ^ 64
+        → 8 ≤ distance DATA_STACK_START a
+    far (inl x) lt = omega arith
+    far (inr x) lt = omega arith
+
+pub stored_small : (base a : ℕ) (ss : List Section)
+    → AllByRecursion (λ (s : Section). AllBytes s.raw) ss
+    → byte_in base (section_of base a ss) a < 256
+stored_small base a ss all = of_section (λ (o : Option Section). byte_in base o a < 256) base a ss
+    (first_small a) (each ss all)
+  where
+    each : (qs : List Section) → AllByRecursion (λ (s : Section). AllBytes s.raw) qs
+        → AllByRecursion (λ (s : Section). byte_in base (Some s) a < 256) qs
+    each [] h = tt
+    each (q ∷ qs) h = (byte_small q.raw (a - (base + q.address)) h.0, each qs h.1)
 
 address_small : (byte : ℕ → ℕ) (at : ℕ) (o : Option Service) → ((a : ℕ) → byte a < 256) → (a : ℕ)
     → with_address byte at o a < 256

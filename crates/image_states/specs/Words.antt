@@ -1,16 +1,16 @@
 -- The words of this crate's proofs: what its lemma files import, by the crates below.
 pub use Rattle.seh_num.specs.declared.width.Width.TheVariants.{W64, W32}
-pub use Rattle.host_layout.specs.Ranges.{in_stack, in_arena, pages}
+pub use Rattle.host_layout.specs.Ranges.{in_stack, in_data_stack, in_arena, pages}
 pub use Rattle.host_layout.specs.Services.{service_named}
 pub use Rattle.host_layout.specs.declared.limit.TheConstants.{MOST_IMAGE}
-pub use Rattle.host_layout.specs.declared.range.TheConstants.{IMAGE_BASE, IMAGE_RANGE_END, GUARD_START, STACK_START, STACK_END, ARENA_START, ARENA_END, FIRST_DATA}
+pub use Rattle.host_layout.specs.declared.range.TheConstants.{IMAGE_BASE, IMAGE_RANGE_END, GUARD_START, STACK_START, STACK_END, ARENA_START, ARENA_END, FIRST_DATA, DATA_STACK_START, DATA_STACK_END, FIRST_DATA_STACK}
 pub use Rattle.host_layout.specs.declared.service.Service.{Service}
-pub use Rattle.flat_memory.specs.Memory.{Memory, may_write, may_read, is_among}
+pub use Rattle.flat_memory.specs.Memory.{Memory, may_write, may_read, is_among, first_byte}
 unfoldable pub use Rattle.flat_memory.specs.Memory.{number_at, with_number}
 pub use Rattle.flat_memory.specs.Protections.{is_writable, is_readable}
 pub use Rattle.c_operations.specs.declared.built_in.BuiltIn.{BuiltIn}
 pub use Rattle.c_operations.specs.declared.built_in.BuiltIn.TheVariants.{Put, Protect, RaiseException, Walk}
-pub use Rattle.source_meaning.specs.Source.{is_between, is_data, data_end, is_reserved, plain_mode, first_memory}
+pub use Rattle.source_meaning.specs.Source.{is_between, is_data, data_end, is_hidden, plain_mode, first_memory}
 pub use Rattle.linear_code.specs.Program.{LinearBody, LinearFunclet, LinearProgram, LinearFunction}
 pub use Rattle.linear_code.specs.declared.instruction.Instruction.{Instruction}
 pub use Rattle.linear_code.specs.declared.program.FuncletKind.{FuncletKind}

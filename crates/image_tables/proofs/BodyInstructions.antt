@@ -8,6 +8,9 @@ use Rattle.x64_instr.specs.declared.instruction.Instr.TheVariants as instrs
 use Rattle.x64_instr.specs.declared.register.Reg.{Reg}
 use Rattle.x64_instr.specs.declared.register.Reg.TheVariants.{Rdx, R8, R9}
 use Rattle.x64_instr.specs.Registers.{number}
+use Rattle.x64_instr.specs.Operands.{immediate_of}
+use Rattle.seh_num.specs.Widths.{bytes_of}
+use Rattle.template_code.specs.Operations.{set}
 use Rattle.virtual_unwind.specs.Contexts.{is_nonvolatile}
 use Rattle.frame_rules.specs.Body.{may_write}
 use Rattle.frame_rules.specs.Codes.{is_saved}
@@ -208,15 +211,13 @@ module _ (ops : List UnwindOperation) where
     ((refl, (λ b. refl), refl), ((refl, (λ b. refl), refl), tt)),
   )
 
+  -- a number to a register that may be written
+  set_inner : (r : Reg) (v : ℕ) → may_write_all FRAME_REGISTER ops (number r ∷ []) ≡ true
+      → Inner (set r v)
+  set_inner r v writes = (lt-ltb (low W64 v) (2 ^ 64) (omega arith), (λ b. refl), writes)
+
   pure_inner : (p : Pure) → AllInner (pure_code p)
-  pure_inner (pures.Constant v) = (
-    (
-      lt-ltb (low W64 v) (2 ^ 64) (omega arith),
-      (λ b. refl),
-      refl,
-    ),
-    tt,
-  )
+  pure_inner (pures.Constant v) = (set_inner Rax v refl, tt)
   pure_inner pures.First = tt
   pure_inner (pures.Extend s n z) = extended_inner s n z
   pure_inner (pures.Not z) = ((refl, (λ b. refl), refl), tt)
@@ -226,6 +227,7 @@ module _ (ops : List UnwindOperation) where
   pure_inner (pures.Subtract z) = ((refl, (λ b. refl), refl), tt)
   pure_inner (pures.Multiply Int) = ((refl, (λ b. refl), refl), tt)
   pure_inner (pures.Multiply Long) = ((refl, (λ b. refl), refl), tt)
+  pure_inner (pures.MultiplyBy n) = (set_inner Rcx n refl, ((refl, (λ b. refl), refl), tt))
   pure_inner (pures.And z) = ((refl, (λ b. refl), refl), tt)
   pure_inner (pures.Or z) = ((refl, (λ b. refl), refl), tt)
   pure_inner (pures.Xor z) = ((refl, (λ b. refl), refl), tt)
@@ -244,8 +246,20 @@ module _ (ops : List UnwindOperation) where
   before_inner (operations.Pure p) = tt
   before_inner (operations.Divide s z) = half_inner s z
   before_inner (operations.Remainder s z) = half_inner s z
-  before_inner (operations.Load w) = tt
-  before_inner (operations.Store w) = tt
+  before_inner o = tt
+
+  clear_inner : (w : Width) (offset : ℕ) → is_signed W32 W64 (bytes_of w) ≡ true
+      → is_signed (immediate_of w) w 0 ≡ true → AllInner (work (operations.Clear w offset))
+  clear_inner w offset size zero = (
+    set_inner Rdx offset refl,
+    (
+      (refl, (λ b. refl), refl),
+      (
+        (size, (λ b. refl), refl),
+        ((zero, (λ b. refl), refl), ((refl, (λ b. refl), refl), tt)),
+      ),
+    ),
+  )
 
   pub work_inner : (o : Operation) → AllInner (work o)
   work_inner (operations.Pure p) = pure_inner p
@@ -267,3 +281,19 @@ module _ (ops : List UnwindOperation) where
     (refl, (λ b. refl), refl),
     ((refl, (λ b. refl), refl), tt),
   )
+  work_inner (operations.Allocate n) = (
+    (refl, (λ b. refl), refl),
+    (set_inner Rcx n refl, ((refl, (λ b. refl), refl), tt)),
+  )
+  work_inner (operations.SetPointer n) = (
+    set_inner Rcx n refl,
+    ((refl, (λ b. refl), refl), ((refl, (λ b. refl), refl), tt)),
+  )
+  work_inner (operations.Place w offset) = (
+    set_inner Rdx offset refl,
+    ((refl, (λ b. refl), refl), ((refl, (λ b. refl), refl), tt)),
+  )
+  work_inner (operations.Clear W8 offset) = clear_inner W8 offset refl refl
+  work_inner (operations.Clear W16 offset) = clear_inner W16 offset refl refl
+  work_inner (operations.Clear W32 offset) = clear_inner W32 offset refl refl
+  work_inner (operations.Clear W64 offset) = clear_inner W64 offset refl refl

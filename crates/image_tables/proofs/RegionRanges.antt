@@ -1,11 +1,12 @@
 -- Each region of a body is a range of its instructions, none of which is cold.
-use Rattle.std.proofs.Common.{◌≡◌, ℕ, zero, suc, ◌+◌, ◌<◌, ◌≤◌, Bool, true, false, ltb, List, [], ◌∷◌, ◌++◌, length, map, Some, refl, sym, ap, subst, ◌∙◌, arith, length-append, inl, inr}
+use Rattle.std.proofs.Common.{◌≡◌, ℕ, zero, suc, ◌+◌, ◌<◌, ◌≤◌, Bool, true, false, ltb, List, [], ◌∷◌, ◌++◌, length, map, Option, Some, None, refl, sym, ap, subst, ◌∙◌, arith, length-append, inl, inr}
 use Rattle.std.specs.Prelude.{◌&&◌, ◌||◌, slice_get}
 use Rattle.std.specs.List.{AllByRecursion}
 use Rattle.std.proofs.lemmas.Bool.{and_parts, lt-leb, false≢true}
 use Rattle.std.proofs.lemmas.List.{length-replicate}
 use Rattle.image_tables.specs.Words.{Program, Statements, Function, Instruction, LabelRange, Region, Local, Temporary, LinearBody, LinearFunction, LinearFunclet, Names, Owner, statements_regions, finally_funclet, lowered, scope_of, lowered_function, is_cold, all_spare, IsRange, HasRanges, statements_notes, finally_scope, LoweredHasRegions}
-use Rattle.c_checked.specs.Program.{surplus, weight}
+use Rattle.c_checked.specs.declared.function.DataPart.{DataPart}
+use Rattle.c_checked.specs.Program.{surplus}
 use Rattle.linear_code.specs.declared.instruction.Instruction.TheVariants as instructions
 use Rattle.linear_machine.specs.Frames.{FunctionBody, FuncletBody, function_body, funclet_body}
 use Rattle.lowering_expressions.specs.declared.scope.LoweringContext.{LoweringContext}
@@ -13,7 +14,9 @@ use Rattle.lowering_expressions.specs.Expressions.{constant}
 use Rattle.lowering_invariants.specs.ColdParts.{IsApart, IsColdPart, HasColdParts}
 use Rattle.lowering_invariants.specs.ReturnRegions.{is_call}
 use Rattle.lowering_invariants.proofs.ColdParts.{lowered_has_cold_parts}
-use Rattle.seh_ir.specs.Lowered.{first_separators}
+use Rattle.seh_ir.specs.Funclets.{finally_begin}
+use Rattle.seh_ir.specs.Lowered.{first_separators, open_code, close_code, body_start}
+use Rattle.seh_ir.proofs.FunctionCodes.{open_length}
 use Rattle.seh_ir.specs.Statements.{statements_code}
 use Rattle.seh_ir.proofs.StatementParts.{statements_have}
 use Rattle.seh_ir.proofs.EveryStatement.{WaysHave, any_neutral, IsPlaced, HoldsOfPieces, statements_every}
@@ -69,6 +72,10 @@ module _ (n : ℕ) where
     of_discarded = λ names m e at k h c. tt;
     of_condition = λ names m e label at k h l c. tt;
     of_initialiser = λ names m x e at k d h c. tt;
+    of_put_zero = λ v at d. tt;
+    of_put_initialiser = λ names m v e at k d h c. tt;
+    of_counted = λ names m n at le k. tt;
+    of_clearing = λ names m v end begin at le k d l b. tt;
     of_repeated = λ names m e end begin at k h l b c. tt;
     of_return = λ names m e exit at k h w c. tt;
   }
@@ -88,21 +95,32 @@ module _ (n : ℕ) where
 
 function_spans : (f : Function) → HasSpans (lowered_function f).body
 function_spans f =
-    let code = statements_code (scope_of f) f.body (weight f) in
-    let last = constant 0 0 ∷ instructions.Return (Temporary 0) ∷ [] in
-    let l = length-append (first_separators f ++ code) last in
-    let a = length-append (first_separators f) code in
+    let code = statements_code (scope_of f) f.body (body_start f) in
+    let opens = open_code f.data_frame in
+    let last = constant 0 0 ∷ (close_code f.data_frame ++ instructions.Return (Temporary 0) ∷ []) in
+    let l = length-append (first_separators f) (opens ++ (code ++ last)) in
+    let a = length-append opens (code ++ last) in
+    let b = length-append code last in
     let s = length-replicate (surplus f) instructions.Separator in
-    statements_range (length (lowered_function f).body.code) f.body (scope_of f) (weight f)
+    let o = open_length f.data_frame in
+    statements_range (length (lowered_function f).body.code) f.body (scope_of f) (body_start f)
     (record { exit = tt; loop_end = tt; loop_next = tt; leave = tt }) (omega arith)
+
+-- three instructions are before a `__finally` block's statements
+finally_begins : (o : Option DataPart) (flag : ℕ) → length (finally_begin o flag) ≡ 3
+finally_begins None flag = refl
+finally_begins (Some part) flag = refl
 
 finally_spans : (owner : Owner) (names : Names) (last : Statements)
     → HasSpans (finally_funclet owner names last).body
 finally_spans owner names last =
-    let code = statements_code (finally_scope names) last 0 in
+    let begins = finally_begin names.part names.free in
+    let code = statements_code (finally_scope names) last 3 in
     let end = instructions.Return (Local names.free) ∷ [] in
-    let l = length-append code end in
-    statements_range (length (code ++ end)) last (finally_scope names) 0
+    let l = length-append begins (code ++ end) in
+    let a = length-append code end in
+    let b = finally_begins names.part names.free in
+    statements_range (length (begins ++ (code ++ end))) last (finally_scope names) 3
     (record { exit = tt; loop_end = tt; loop_next = tt; leave = tt }) (omega arith)
 
 -- ---- with what is known of cold parts

@@ -3,8 +3,7 @@
 use Rattle.std.proofs.Common.{◌≡◌, ◌⊎◌, inl, inr, ℕ, suc, ◌+◌, ◌<◌, ◌≤◌, Bool, true, false, List, [], ◌∷◌, ◌++◌, length, take, map, Option, Some, None, refl, sym, ap, subst, ◌∙◌, arith, append_assoc}
 use Rattle.std.specs.Prelude.{not, ◌&&◌, ◌==◌, if◌then◌else◌}
 use Rattle.std.specs.List.{AllByRecursion}
-use Rattle.image_tables.specs.Words.{W32, Rax, Rcx, Entry, ScopeRecord, Statements, Function, LinearBody, LinearFunclet, LinearProgram, Region, Local, FrameLayout, Layout, modrm, keep_register, move, keep, size, sizes, body_size, is_cold, AreParts, side_from, hot_code, label_list, address_or, info_of, Nothing, statements_regions, scope_of, lowered, lowered_function, statements_notes, RoutineView, is_leaf, leaf_if, functions_from, funclet, routines, IsRoutineNear, SiteView, argument_code, base_of, scope_records, Placed, PlacedPart, Cursor, put, past, body_begin, end_of, parts_of, placed_from, placed, first_cursor, site_of, IsRange, HasRanges, entry_of, entry_if, part_entry, chained_if}
-use Rattle.c_checked.specs.Program.{weight}
+use Rattle.image_tables.specs.Words.{W32, Rax, Rcx, Entry, ScopeRecord, Statements, Function, LinearBody, LinearFunclet, LinearProgram, Region, Local, FrameLayout, Layout, modrm, keep_register, move, keep, size, sizes, body_size, is_cold, AreParts, side_from, hot_code, label_list, address_or, info_of, Nothing, statements_regions, scope_of, lowered, lowered_function, body_start, statements_notes, RoutineView, is_leaf, leaf_if, functions_from, funclet, routines, IsRoutineNear, SiteView, argument_code, base_of, scope_records, Placed, PlacedPart, Cursor, put, past, body_begin, end_of, parts_of, placed_from, placed, first_cursor, site_of, IsRange, HasRanges, entry_of, entry_if, part_entry, chained_if}
 use Rattle.linear_code.specs.declared.program.FuncletKind.{FuncletKind}
 use Rattle.linear_code.specs.declared.program.FuncletKind.TheVariants as kinds
 use Rattle.lowering_expressions.specs.declared.scope.LoweringContext.{LoweringContext}
@@ -49,6 +48,10 @@ pieces_late = record {
   of_discarded = λ names m e at k h c. tt;
   of_condition = λ names m e label at k h l c. tt;
   of_initialiser = λ names m x e at k d h c. tt;
+  of_put_zero = λ v at d. tt;
+  of_put_initialiser = λ names m v e at k d h c. tt;
+  of_counted = λ names m n at le k. tt;
+  of_clearing = λ names m v end begin at le k d l b. tt;
   of_repeated = λ names m e end begin at k h l b c. tt;
   of_return = λ names m e exit at k h w c. tt;
 }
@@ -94,7 +97,7 @@ all_hot [] have = tt
 all_hot (r ∷ rs) have = (hot_all r.body r.body.regions have.0.regions, all_hot rs have.1)
 
 function_late : (f : Function) → AllByRecursion IsLate (lowered_function f).body.regions
-function_late f = statements_late f.body (scope_of f) (weight f) (omega arith)
+function_late f = statements_late f.body (scope_of f) (body_start f) (omega arith)
     (record { exit = tt; loop_end = tt; loop_next = tt; leave = tt })
 
 function_started : (leaf : Bool) (f : Function) → FitsFunction (lowered_function f)

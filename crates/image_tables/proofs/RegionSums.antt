@@ -1,7 +1,6 @@
 -- Sums over the regions of a program are sums over its `__try` statements.
 use Rattle.std.proofs.Common.{◌≡◌, ℕ, ◌+◌, ◌-◌, List, [], ◌∷◌, ◌++◌, map, None, refl, arith}
-use Rattle.image_tables.specs.Words.{Filter, Always, Funclet, Statement, Declare, Block, Evaluate, If, IfElse, For, DoWhile, Return, Break, Continue, Leave, TryExcept, TryFinally, Statements, Empty, Then, Function, Program, Region, RegionKind, LinearFunclet, Names, Owner, statements_regions, finally_funclet, scope_of, lowered_function, all_funclets, lowered, function_bodies, funclet_bodies, regions_in, regions, Try, Accepts, Asks, Finishes, with_filter, tries_in, tries, tries_of, all_tries, expression_size, discarded_size, condition_size, all_declared_size, statement_size, statements_size, except_names, filter_names, finally_names, except_kind, region, statement_regions, filter_funclets, in_funclet, statement_funclets, statements_funclets, all_locals}
-use Rattle.c_checked.specs.Program as programs
+use Rattle.image_tables.specs.Words.{Filter, Always, Funclet, Statement, Declare, Block, Evaluate, If, IfElse, For, DoWhile, Return, Break, Continue, Leave, TryExcept, TryFinally, Statements, Empty, Then, Function, Program, Region, RegionKind, LinearFunclet, Names, Owner, statements_regions, finally_funclet, scope_of, lowered_function, all_funclets, lowered, function_bodies, funclet_bodies, regions_in, regions, Try, Accepts, Asks, Finishes, with_filter, tries_in, tries, tries_of, all_tries, expression_size, discarded_size, condition_size, all_declared_size, statement_size, statements_size, except_names, filter_names, finally_names, except_kind, region, statement_regions, filter_funclets, in_funclet, statement_funclets, statements_funclets, all_locals, body_start}
 use Rattle.linear_code.specs.declared.program.RegionKind.TheVariants as kinds
 
 -- what a `__finally` block, a filter and one that always accepts count for; funclets are numbered
@@ -81,7 +80,7 @@ module _ (finally filter : ℕ → ℕ) (always : ℕ) where
     statement_total owner names (TryExcept body filter' block) at =
         let target = at + statements_size body + 1 in
         let x = statements_total owner names body at in
-        let y = statements_total owner (except_names names) block (target + 1) in
+        let y = statements_total owner (except_names names) block (target + 2) in
         let k = kind_is filter' target in
         let none = filter_is owner (filter_names names) filter' in
         let more = filter_funclets owner (filter_names names) filter'
@@ -90,7 +89,7 @@ module _ (finally filter : ℕ → ℕ) (always : ℕ) where
           arith,
           total_both (statements_regions body at)
               (region at target (except_kind filter' target) ∷ statements_regions block
-              (target + 1)),
+              (target + 2)),
           funclets_both (statements_funclets owner names body) more,
           funclets_both (filter_funclets owner (filter_names names) filter')
               (statements_funclets owner (except_names names) block),
@@ -98,7 +97,7 @@ module _ (finally filter : ℕ → ℕ) (always : ℕ) where
         )
     statement_total owner names (TryFinally body k last) at =
         let x = statements_total owner names body at in
-        let y = statements_total (in_funclet (k - 1) owner) (finally_names names) last 0 in
+        let y = statements_total (in_funclet (k - 1) owner) (finally_names names) last 3 in
         let r = region at (at + statements_size body + 1) (kinds.Finally (k - 1)) in
         let more = finally_funclet owner names last
         ∷ statements_funclets (in_funclet (k - 1) owner) (finally_names names) last in
@@ -138,11 +137,11 @@ module _ (finally filter : ℕ → ℕ) (always : ℕ) where
   functions_total number [] = refl
   functions_total number (f ∷ fs) =
       let owner : Owner = record { function = number; locals = all_locals f; parent = None } in
-      let x = statements_total owner (scope_of f).names f.body (programs.weight f) in
+      let x = statements_total owner (scope_of f).names f.body (body_start f) in
       let y = functions_total (number + 1) fs in
       omega (
         arith,
-        total_both (statements_regions f.body (programs.weight f))
+        total_both (statements_regions f.body (body_start f))
             (regions_in (function_bodies (map lowered_function fs))),
         funclets_both (statements_funclets owner (scope_of f).names f.body)
             (all_funclets (number + 1) fs),

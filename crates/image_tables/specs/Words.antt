@@ -19,7 +19,7 @@ pub use Rattle.lowering_sizes.specs.Sizes.{statements_notes, expression_size, di
 pub use Rattle.lowering_expressions.specs.Scope.{finally_scope, except_names, filter_names, finally_names}
 pub use Rattle.lowering_expressions.specs.declared.scope.Names.{Names}
 pub use Rattle.seh_ir.specs.Funclets.{finally_funclet, filter_funclets, in_funclet, statement_funclets, statements_funclets}
-pub use Rattle.seh_ir.specs.Lowered.{lowered, scope_of, lowered_function, all_funclets, all_locals}
+pub use Rattle.seh_ir.specs.Lowered.{lowered, scope_of, lowered_function, all_funclets, all_locals, body_start}
 pub use Rattle.seh_ir.specs.Regions.{statements_regions, except_kind, region, statement_regions}
 pub use Rattle.seh_ir.specs.declared.funclets.Owner.{Owner}
 pub use Rattle.pe_image.specs.Image.{Image, stored, Section, stores_byte, section_or, section_at, stored_in, only_if, whole}

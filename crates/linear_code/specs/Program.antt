@@ -23,13 +23,19 @@ pub record LinearFunction : Type 0 where
   pub parameters : ℕ
   -- the locals that may stand in registers
   pub registers : List ℕ
-  -- how much an activation of it counts in the depth, above 1
+  -- how many parts its frame may have above 1
   pub surplus : ℕ
+  -- how much its part of the data stack counts in the depth
+  pub data_surplus : ℕ
   pub body : LinearBody
 
--- how much an activation counts in the depth, and how many parts its frame may have
+-- how many parts its frame may have
 abbrev pub weight : LinearFunction → ℕ
 weight f = 1 + f.surplus
+
+-- how much an activation counts in the depth
+abbrev pub depth_weight : LinearFunction → ℕ
+depth_weight f = 1 + (f.surplus + f.data_surplus)
 
 pub record LinearFunclet : Type 0 where
   pub kind : FuncletKind
@@ -63,6 +69,7 @@ linear_function f =
       parameters = f.parameters;
       registers = f.registers.items;
       surplus = f.surplus;
+      data_surplus = f.data_surplus;
       body = linear_body f.body;
     }
 

@@ -63,9 +63,11 @@ pub struct IrFunction {
     /// The numbers of the locals that may stand in registers, rising: those that no filter and no
     /// `__finally` block of it names.
     pub registers: ArrayVec<u64, 7>,
-    /// How much an activation of it counts in the depth, above 1 (own). Its code begins with a
-    /// separator, and with as many more.
+    /// How many parts its frame may have above 1 (own).
     pub surplus: u64,
+    /// How much its part of the data stack counts in the depth (own). An activation of it counts
+    /// that beside 1 and its surplus. Its code begins with as many separators.
+    pub data_surplus: u64,
     /// Its code.
     pub body: IrBody,
 }

@@ -3,7 +3,7 @@
 use Rattle.std.proofs.Common.{◌≡◌, ℕ, suc, ◌+◌, List, [], ◌∷◌, ◌++◌, length, refl}
 use Rattle.std.specs.Prelude.{◌^◌, Bool, true, false, nat_eq, nat_lt, slice_get, get_or, Option, Some, None}
 use Rattle.seh_num.specs.declared.width.Width.TheVariants.{W32, W64}
-use Rattle.linear_machine.specs.Words.{Event, Ended, Exception, Instruction, Region, RegionKind, LinearProgram, weight, BodyName, FunctionBody, FuncletBody, Handler, Target, Resumption, AfterCall, SameOperation, Item, Waits, Searches, Unwinds, Store, Configuration, Seen, Finished, Stuck, Next, pick, with_some, deeper, read, with_temporary, with_temporaries, last_temporaries, at_label, forth, regions_at, regions_left, handlers, flag_of, begin_finally, run_finally, arrive, target_past, left_store, leave_region, unwind_body, unwind, target_of, accept, begin_filter, consult, search, raise, resumed, answered, answer, is_constant, operand, written, computed, compute, tested, waiting, begin_function, count_of, built_in, return, end_finally, end_funclet, end_body, not_landed, act, instruction_at, exec, CallsBuiltIn, IsNotAt}
+use Rattle.linear_machine.specs.Words.{Event, Ended, Exception, Instruction, Region, RegionKind, LinearProgram, depth_weight, BodyName, FunctionBody, FuncletBody, Handler, Target, Resumption, AfterCall, SameOperation, Item, Waits, Searches, Unwinds, Store, Configuration, Seen, Finished, Stuck, Next, pick, with_some, deeper, read, with_temporary, with_temporaries, last_temporaries, at_label, forth, regions_at, regions_left, handlers, flag_of, begin_finally, run_finally, arrive, target_past, left_store, leave_region, unwind_body, unwind, target_of, accept, begin_filter, consult, search, raise, resumed, answered, answer, is_constant, operand, written, computed, compute, tested, waiting, begin_function, count_of, built_in, return, end_finally, end_funclet, end_body, not_landed, act, instruction_at, exec, CallsBuiltIn, IsNotAt}
 use Rattle.seh_num.specs.declared.event.Event.TheVariants as events
 use Rattle.seh_num.specs.Widths.{low, signed}
 use Rattle.c_operations.specs.declared.built_in.BuiltIn.{BuiltIn}
@@ -267,7 +267,7 @@ module _ (program : LinearProgram) (relation : SeenRelation program) where
     act_keeps (instructions.Call k first count) c at =
         keeps_some c.events (last_temporaries c.frame.temporaries first count) _ _ λ arguments.
         keeps_some c.events (slice_get program.functions k) _ _ λ function.
-        keeps_deeper (weight function) c.frame.held c.store c.events _ _
+        keeps_deeper (depth_weight function) c.frame.held c.store c.events _ _
         (h (begin_function k function arguments c.frame.held
         (Waits (waiting c first).frame ∷ c.below) c.store c.events))
     act_keeps (instructions.CallBuiltIn b first) c at = keeps_some c.events

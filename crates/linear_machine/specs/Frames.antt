@@ -23,7 +23,7 @@ abbrev pub function_body : Option LinearFunction → Option LinearBody
 function_body None = None
 function_body (Some f) = Some f.body
 
--- the weight of a function, if there is one
+-- how many parts the frame of a function may have, if there is one
 abbrev pub weight_of : Option LinearFunction → ℕ
 weight_of None = 1
 weight_of (Some f) = weight f

@@ -18,7 +18,7 @@ use Rattle.linear_code.specs.declared.instruction.Instruction.{Instruction}
 use Rattle.linear_code.specs.declared.instruction.Instruction.TheVariants as instructions
 use Rattle.linear_code.specs.declared.program.FuncletKind.{FuncletKind}
 use Rattle.linear_code.specs.declared.program.FuncletKind.TheVariants.{Filter, Finally}
-use Rattle.linear_code.specs.Program.{LinearProgram, LinearFunction, weight}
+use Rattle.linear_code.specs.Program.{LinearProgram, LinearFunction, depth_weight}
 use Rattle.source_meaning.specs.declared.ended.Ended.TheVariants as ends
 use Rattle.source_meaning.specs.Source.{is_reserved}
 use Rattle.source_meaning.specs.State.{walk_events}
@@ -32,6 +32,7 @@ use Rattle.linear_machine.specs.Searching.{raise, answer}
 -- an operation that reads no operand
 abbrev pub is_constant : Operation → Bool
 is_constant (operations.Pure (Constant n)) = true
+is_constant (operations.Allocate n) = true
 is_constant o = false
 
 -- a constant reads no slot
@@ -77,7 +78,7 @@ jump_if_zero next slot label c =
 abbrev pub waiting : Configuration → ℕ → Configuration
 waiting c first = with_last (take first c.frame.temporaries) c
 
--- a function begins: its arguments are its first locals, and the others are 0; what it weighs above
+-- a function begins: its arguments are its first locals, and the others are 0; what it counts above
 -- 1 is held until it ends
 abbrev pub begin_function : ℕ → LinearFunction → List ℕ → ℕ → List Item → Store → List Event
     → Configuration
@@ -88,7 +89,7 @@ begin_function f function arguments held below store es = record {
         next = 0;
         activation = length store.activations;
         exception = no_exception;
-        held = held + function.surplus;
+        held = held + (function.surplus + function.data_surplus);
         temporaries = [];
         landed = None;
       };
@@ -106,7 +107,7 @@ abbrev pub call : LinearProgram → Next → ℕ → ℕ → ℕ → Configurati
 call program next f first count c =
     with_some c.events (last_temporaries c.frame.temporaries first count) (λ arguments.
     with_some c.events (slice_get program.functions f) (λ function.
-    deeper (weight function) c.frame.held c.store c.events
+    deeper (depth_weight function) c.frame.held c.store c.events
     (next (begin_function f function arguments c.frame.held
     (Waits (waiting c first).frame ∷ c.below) c.store c.events))))
 

@@ -6,7 +6,7 @@ unfoldable pub use Rattle.source_meaning.specs.State.{choose, with_value, and_th
 pub use Rattle.source_meaning.specs.Tasks.{Context}
 unfoldable pub use Rattle.source_meaning.specs.Tasks.{counted}
 pub use Rattle.source_meaning.specs.declared.ended.Ended.{Ended}
-pub use Rattle.linear_code.specs.Program.{LinearProgram, LinearFunction, weight}
+pub use Rattle.linear_code.specs.Program.{LinearProgram, LinearFunction, depth_weight}
 pub use Rattle.linear_code.specs.declared.instruction.Instruction.{Instruction}
 pub use Rattle.linear_code.specs.declared.program.Region.{Region}
 pub use Rattle.linear_code.specs.declared.program.RegionKind.{RegionKind}

@@ -8,7 +8,7 @@ use Rattle.c_operations.specs.declared.operation.Size.TheVariants.{Long}
 use Rattle.c_checked.specs.declared.expression.Conversion.{Conversion}
 use Rattle.c_checked.specs.declared.expression.Conversion.TheVariants.{Kept, Extend, Scale}
 use Rattle.c_checked.specs.Expression as nodes
-use Rattle.c_checked.specs.Expression.{Expression, On, Node, Lvalue, Local, Global, Indirection, Element, Arguments, Done, Next}
+use Rattle.c_checked.specs.Expression.{Expression, On, Node, Lvalue, Local, Global, Stacked, Indirection, Element, Arguments, Done, Next}
 use Rattle.linear_code.specs.declared.slot.Slot.TheVariants.{Temporary}
 use Rattle.linear_code.specs.declared.instruction.Instruction.{Instruction}
 use Rattle.linear_code.specs.declared.instruction.Instruction.TheVariants.{Jump, JumpIfZero, Call, CallBuiltIn}
@@ -47,6 +47,7 @@ pub address_length : (p : Lvalue) (d : ℕ) (located : List Instruction) (n : �
     → length (address_code p d located) ≡ address_size p n
 address_length (Local x) d located n e = refl
 address_length (Global access a) d located n e = e
+address_length (Stacked access base offset) d located n e = e
 address_length (Indirection access f) d located n e = e
 address_length (Element access f i) d located n e = e
 
@@ -82,6 +83,7 @@ mutual
       → length (locate_code names p d at) ≡ locate_size p
   locate_length names (Local x) d at = refl
   locate_length names (Global access a) d at = refl
+  locate_length names (Stacked access base offset) d at = refl
   locate_length names (Indirection access e) d at = expression_length names e d at
   locate_length names (Element access e i) d at =
       two (expression_code names e d at) (expression_code names i (d + 1) (at + expression_size e)
@@ -102,6 +104,7 @@ mutual
   pub node_length : (names : Names) (n : Node) (d at : ℕ)
       → length (node_code names n d at) ≡ node_size n
   node_length names (nodes.Constant z n) d at = refl
+  node_length names (nodes.StackedArray base offset) d at = refl
   node_length names (nodes.Read p) d at = two (locate_code names p d at) (read_code p d d)
       (locate_size p) (read_size p) (locate_length names p d at) (read_length p d d)
   node_length names (nodes.AddressOf p) d at = address_length p d (locate_code names p d at)

@@ -7,7 +7,7 @@ use Rattle.c_operations.specs.declared.field.Field.TheVariants as fields
 use Rattle.c_operations.specs.declared.operation.Operation.{Operation}
 use Rattle.c_operations.specs.declared.operation.Operation.TheVariants.{Pure, Divide, Load, Store}
 use Rattle.c_operations.specs.declared.operation.Pure.{Pure as Pure'}
-use Rattle.c_operations.specs.declared.operation.Pure.TheVariants.{Constant, First, Extend, Add, Subtract, Multiply}
+use Rattle.c_operations.specs.declared.operation.Pure.TheVariants.{Constant, First, Extend, Add, Subtract, MultiplyBy}
 use Rattle.c_operations.specs.declared.operation.Signedness.TheVariants.{Signed}
 use Rattle.c_operations.specs.declared.operation.Size.{Size}
 use Rattle.c_operations.specs.declared.operation.Size.TheVariants.{Int, Long}
@@ -17,7 +17,7 @@ use Rattle.c_checked.specs.declared.expression.Conversion.TheVariants as convers
 use Rattle.c_checked.specs.declared.expression.Fixity.{Fixity}
 use Rattle.c_checked.specs.declared.expression.Fixity.TheVariants.{Postfix, Prefix}
 use Rattle.c_checked.specs.Expression as nodes
-use Rattle.c_checked.specs.Expression.{Expression, On, Node, Lvalue, Global, Indirection, Element, Arguments, Done, Next}
+use Rattle.c_checked.specs.Expression.{Expression, On, Node, Lvalue, Global, Stacked, Indirection, Element, Arguments, Done, Next}
 use Rattle.linear_code.specs.declared.slot.Slot.{Slot}
 use Rattle.linear_code.specs.declared.slot.Slot.TheVariants.{Local, Temporary}
 use Rattle.linear_code.specs.declared.instruction.Instruction.{Instruction}
@@ -48,8 +48,7 @@ abbrev pub conversion_code : Conversion → ℕ → List Instruction
 conversion_code conversions.Kept d = []
 conversion_code (conversions.Extend s from size) d = change d (Pure (Extend s from size)) ∷ []
 conversion_code (conversions.Scale s from by) d =
-    change d (Pure (Extend s from Long)) ∷ constant (d + 1) by ∷ combine d (Pure (Multiply Long))
-    ∷ []
+    change d (Pure (Extend s from Long)) ∷ change d (Pure (MultiplyBy by)) ∷ []
 
 -- the size of the numbers that represent values of a type of this width
 abbrev pub size_of : Width → Size
@@ -91,6 +90,7 @@ load_code access address to =
 abbrev pub read_code : Lvalue → ℕ → ℕ → List Instruction
 read_code (nodes.Local x) address to = copy (Temporary to) (Local x) ∷ []
 read_code (Global access a) address to = load_code access address to
+read_code (Stacked access base offset) address to = load_code access address to
 read_code (Indirection access e) address to = load_code access address to
 read_code (Element access e i) address to = load_code access address to
 
@@ -103,12 +103,19 @@ store_code access address from to =
 abbrev pub write_code : Lvalue → ℕ → ℕ → ℕ → Instruction
 write_code (nodes.Local x) address from to = copy (Local x) (Temporary from)
 write_code (Global access a) address from to = store_code access address from to
+write_code (Stacked access base offset) address from to = store_code access address from to
 write_code (Indirection access e) address from to = store_code access address from to
 write_code (Element access e i) address from to = store_code access address from to
+
+-- where a variable on the data stack stands
+abbrev pub stacked_code : (base offset : ℕ) → ℕ → List Instruction
+stacked_code base offset d =
+    constant d offset ∷ Compute (Temporary d) (Pure (Add Long)) (Local base) (Temporary d) ∷ []
 
 abbrev pub address_code : Lvalue → ℕ → List Instruction → List Instruction
 address_code (nodes.Local x) d located = constant d 0 ∷ []
 address_code (Global access a) d located = located
+address_code (Stacked access base offset) d located = located
 address_code (Indirection access e) d located = located
 address_code (Element access e i) d located = located
 
@@ -130,6 +137,7 @@ abbrev mutual
   pub locate_code : Names → Lvalue → ℕ → ℕ → List Instruction
   locate_code names (nodes.Local x) d at = []
   locate_code names (Global access a) d at = constant d a ∷ []
+  locate_code names (Stacked access base offset) d at = stacked_code base offset d
   locate_code names (Indirection access e) d at = expression_code names e d at
   locate_code names (Element access e i) d at =
       expression_code names e d at ++ (expression_code names i (d + 1) (at + expression_size e)
@@ -142,6 +150,7 @@ abbrev mutual
 
   pub node_code : Names → Node → ℕ → ℕ → List Instruction
   node_code names (nodes.Constant z n) d at = constant d n ∷ []
+  node_code names (nodes.StackedArray base offset) d at = stacked_code base offset d
   node_code names (nodes.Read p) d at = locate_code names p d at ++ read_code p d d
   node_code names (nodes.AddressOf p) d at = address_code p d (locate_code names p d at)
   node_code names (nodes.Assign p e) d at =

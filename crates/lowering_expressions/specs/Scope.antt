@@ -1,5 +1,6 @@
 -- What is around a part of a program that is lowered.
-use Rattle.std.specs.Prelude.{ℕ, ◌+◌, None, Some}
+use Rattle.std.specs.Prelude.{ℕ, ◌+◌, Option, None, Some}
+use Rattle.c_checked.specs.declared.function.DataPart.{DataPart}
 use Rattle.lowering_expressions.specs.declared.scope.ExceptionSource.TheVariants.{NoException, OfFilter, KeptIn}
 use Rattle.lowering_expressions.specs.declared.scope.Names.{Names}
 use Rattle.lowering_expressions.specs.declared.scope.Way.{Way}
@@ -8,13 +9,16 @@ use Rattle.lowering_expressions.specs.declared.scope.LoweringContext.{LoweringCo
 
 -- in an `__except` block, in a filter, and in a `__finally` block
 abbrev pub except_names : Names → Names
-except_names n = record { exception = KeptIn n.free; abnormal = n.abnormal; free = n.free + 1 }
+except_names n =
+    record { exception = KeptIn n.free; abnormal = n.abnormal; free = n.free + 1; part = n.part }
 
 abbrev pub filter_names : Names → Names
-filter_names n = record { exception = OfFilter; abnormal = n.abnormal; free = n.free }
+filter_names n =
+    record { exception = OfFilter; abnormal = n.abnormal; free = n.free; part = n.part }
 
 abbrev pub finally_names : Names → Names
-finally_names n = record { exception = n.exception; abnormal = Some n.free; free = n.free + 1 }
+finally_names n =
+    record { exception = n.exception; abnormal = Some n.free; free = n.free + 1; part = n.part }
 
 -- out of the body of a `__try` with a `__finally` block
 abbrev pub unwound : Way → Way
@@ -23,10 +27,10 @@ unwound (Jumps label) = Unwinds label
 unwound (Unwinds label) = Unwinds label
 
 -- in a function whose first free local and exit are these
-abbrev pub function_scope : ℕ → ℕ → LoweringContext
-function_scope free exit =
+abbrev pub function_scope : Option DataPart → ℕ → ℕ → LoweringContext
+function_scope part free exit =
     record {
-      names = record { exception = NoException; abnormal = None; free = free };
+      names = record { exception = NoException; abnormal = None; free = free; part = part };
       exit = Jumps exit;
       loop_end = Nowhere;
       loop_next = Nowhere;

@@ -8,7 +8,7 @@ ghost use Rattle.lowering_expressions.specs.Appended.{Places};
 ghost use Rattle.lowering_expressions.specs.Expressions as spec;
 
 use crate::instructions::{
-    abnormal, choose, constant, convert, exception_code, information, put, read, unary,
+    abnormal, choose, constant, convert, exception_code, information, put, read, stacked, unary,
 };
 use crate::pieces::{
     after_place, assign, begin_compound, copy_down, end_compound, end_difference, increment,
@@ -57,6 +57,7 @@ fn locate(
     match place {
         Lvalue::Local(_) => Ok(()),
         Lvalue::Global { address, .. } => put(code, constant(d, *address)),
+        Lvalue::Stacked { base, offset, .. } => stacked(code, *base, *offset, d),
         Lvalue::Indirection { pointer, .. } => expression(code, names, pointer, d),
         Lvalue::Element { array, index, .. } => {
             expression(code, names, array, d)?;
@@ -109,6 +110,7 @@ fn address(
     match place {
         Lvalue::Local(_) => put(code, constant(d, 0)),
         Lvalue::Global { .. } => locate(code, names, place, d),
+        Lvalue::Stacked { .. } => locate(code, names, place, d),
         Lvalue::Indirection { .. } => locate(code, names, place, d),
         Lvalue::Element { .. } => locate(code, names, place, d),
     }
@@ -293,6 +295,7 @@ fn node(code: &mut Vec<Instruction>, names: Names, node: &Node, d: u64) -> Resul
 {
     match node {
         Node::Constant { value, .. } => put(code, constant(d, *value)),
+        Node::StackedArray { base, offset } => stacked(code, *base, *offset, d),
         Node::Read(place) => read_node(code, names, place, d),
         Node::AddressOf(place) => address(code, names, place, d),
         Node::Increment {

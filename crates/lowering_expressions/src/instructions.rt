@@ -83,6 +83,24 @@ pub fn combine(d: u64, other: u64, operation: Operation) -> Instruction
     }
 }
 
+/// Where a variable on the data stack stands, to a temporary.
+pub fn stacked(
+    code: &mut Vec<Instruction>,
+    base: u64,
+    offset: u64,
+    d: u64,
+) -> Result<(), AllocError>
+    ensures { OnOk result (Appends code.old code.new (spec.stacked_code base offset d)) }
+{
+    let above = Instruction::Compute {
+        to: Slot::Temporary(d),
+        operation: Operation::Pure(Pure::Add(Size::Long)),
+        first: Slot::Local(base),
+        second: Slot::Temporary(d),
+    };
+    put_all(code, &[constant(d, offset), above])
+}
+
 /// A number to the next temporary, and an operation on a temporary and that one.
 pub fn operate_by(
     code: &mut Vec<Instruction>,
@@ -130,8 +148,13 @@ pub fn convert(
             from,
             by,
         } => {
-            put(code, extend(d, signedness, from, Size::Long))?;
-            operate_by(code, d, by, Operation::Pure(Pure::Multiply(Size::Long)))
+            put_all(
+                code,
+                &[
+                    extend(d, signedness, from, Size::Long),
+                    change(d, Operation::Pure(Pure::MultiplyBy(by))),
+                ],
+            )
         }
     }
 }
@@ -244,6 +267,7 @@ pub fn read(
     match place {
         Lvalue::Local(local) => put(code, copy(Slot::Temporary(to), Slot::Local(*local))),
         Lvalue::Global { access, .. } => load(code, *access, address, to),
+        Lvalue::Stacked { access, .. } => load(code, *access, address, to),
         Lvalue::Indirection { access, .. } => load(code, *access, address, to),
         Lvalue::Element { access, .. } => load(code, *access, address, to),
     }
@@ -267,6 +291,7 @@ pub fn write(place: &Lvalue, address: u64, from: u64, to: u64) -> Instruction
     match place {
         Lvalue::Local(local) => copy(Slot::Local(*local), Slot::Temporary(from)),
         Lvalue::Global { access, .. } => store(*access, address, from, to),
+        Lvalue::Stacked { access, .. } => store(*access, address, from, to),
         Lvalue::Indirection { access, .. } => store(*access, address, from, to),
         Lvalue::Element { access, .. } => store(*access, address, from, to),
     }

@@ -3,6 +3,7 @@
 ghost use Rattle.std.specs.Prelude.{◌≡◌, ◌+◌, IfOk};
 ghost use Rattle.lowering_expressions.specs.Scope as spec;
 
+use c_checked::function::DataPart;
 use lowering_sizes::sums::sum;
 use std::alloc::AllocError;
 
@@ -17,15 +18,18 @@ pub enum ExceptionSource {
     KeptIn(u64),
 }
 
-/// What GetExceptionCode and AbnormalTermination mean.
+/// What GetExceptionCode and AbnormalTermination mean, and where the data stack's pointer is.
 #[derive(Clone, Copy)]
 pub struct Names {
     /// Where the code that GetExceptionCode answers is found.
     pub exception: ExceptionSource,
     /// The local of a `__finally` block's flag, or None outside of any.
     pub abnormal: Option<u64>,
-    /// The first local that is free for a code or a flag.
+    /// The first local that is free for a code, a flag, or the rest of an array.
     pub free: u64,
+    /// The function's part of the data stack, if it has one. The data stack's pointer is at the end
+    /// of the part while the function's own statements run.
+    pub part: Option<DataPart>,
 }
 
 /// How a label is reached.
@@ -61,6 +65,7 @@ pub fn except_names(names: Names) -> Result<Names, AllocError>
         exception: ExceptionSource::KeptIn(names.free),
         abnormal: names.abnormal,
         free,
+        part: names.part,
     })
 }
 
@@ -72,6 +77,7 @@ pub fn filter_names(names: Names) -> Names
         exception: ExceptionSource::OfFilter,
         abnormal: names.abnormal,
         free: names.free,
+        part: names.part,
     }
 }
 
@@ -85,6 +91,7 @@ pub fn finally_scope(names: Names) -> Result<LoweringContext, AllocError>
             exception: names.exception,
             abnormal: Some(names.free),
             free,
+            part: names.part,
         },
         exit: Way::Nowhere,
         loop_end: Way::Nowhere,

@@ -90,8 +90,8 @@ module _ (program : Program) (linear : LinearProgram) (rate body : ℕ)
         (prefix_less st.events _ (events.Filter (j + 1))
         (from_none linear zero begins)));
     call = λ k fn lf vs names info z shapes context site base pc temps st store steps h there len t
-        around kept held. call_runs program linear rate body zero bodies_zero k fn lf vs names info
-        z
+        around kept held. call_runs program linear rate body same_globals zero bodies_zero k fn lf
+        vs names info z
         shapes context site base pc temps st store (placed_at k fn lf h there) steps len t around
         kept
         held;
@@ -123,7 +123,8 @@ module _ (program : Program) (linear : LinearProgram) (rate body : ℕ)
         shapes context site base around k j e h f rest exc resumption pc temps st store steps
         fit.light t a fit kept held;
     call = λ k fn lf vs names info z shapes context site base pc temps st store steps h there len t
-        around kept held. call_runs program linear rate body (suc n) bodies k fn lf vs names info z
+        around kept held. call_runs program linear rate body same_globals (suc n) bodies k fn lf vs
+        names info z
         shapes context site base pc temps st store (placed_at k fn lf h there) steps len t around
         kept
         held;

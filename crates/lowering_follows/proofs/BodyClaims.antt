@@ -1,12 +1,11 @@
 -- What is claimed of statements: where they lead, what is around them, and which stores there may
 -- be.
-use Rattle.std.proofs.Common.{◌≡◌, ◌⊎◌, inl, inr, ◌≤◌, ℕ, ◌+◌, List, [], ◌∷◌, length, refl, ◌∙◌, arith}
+use Rattle.std.proofs.Common.{◌≡◌, ◌⊎◌, inl, inr, ◌<◌, ◌≤◌, ℕ, ◌+◌, List, [], ◌∷◌, length, refl, ◌∙◌, arith}
 use Rattle.std.proofs.lemmas.Bool.{or_left}
 use Rattle.std.specs.Prelude.{◌-◌, Bool, true, false, Option, Some, None}
-use Rattle.lowering_follows.specs.Words.{Expression, Statement, Statements, Program, State, Outcome, with_value, Context, Eval, Run, ForIteration, DoIteration, TryBody, RunFinally, no_exception, within, Temporary, Region, LinearProgram, BodyName, FuncletBody, body_of, Item, Store, Configuration, Seen, pick, deeper, holds, leads_to, stops, begin_finally, unwind_body, arrive, leave_region, end_finally, end_body, instruction_in, Names, LoweringContext, OfFilter, Nowhere, Jumps, expression_size, statement_size, statements_size, statement_notes, statements_notes, expression_code, ExpressionFits, expression_weight, optional_weight, statement_weight, statements_weight, HasAt, Placed, AllPlaced, ForPlaced, DoPlaced, FinallyPlaced, for_end, do_end}
+use Rattle.lowering_follows.specs.Words.{Expression, Statement, Statements, Program, State, Outcome, with_value, Context, DataPart, Eval, Run, ForIteration, DoIteration, TryBody, RunFinally, no_exception, within, Region, LinearProgram, FuncletBody, Item, Store, Configuration, Seen, pick, deeper, holds, leads_to, stops, begin_finally, unwind_body, arrive, leave_region, end_finally, Names, LoweringContext, OfFilter, Nowhere, Jumps, expression_size, statement_size, statements_size, statement_notes, statements_notes, expression_code, ExpressionFits, expression_weight, optional_weight, statement_weight, statements_weight, HasAt, Placed, AllPlaced, ForPlaced, DoPlaced, FinallyPlaced, for_end, do_end}
 use Rattle.linear_machine.specs.Frames.{Next}
 use Rattle.lowering_expressions.specs.declared.scope.Way.TheVariants.{Unwinds}
-use Rattle.linear_code.specs.declared.instruction.Instruction.TheVariants as instructions
 use Rattle.linear_machine.specs.Frames as machine
 use Rattle.lowering_follows.proofs.Lemmas.{at, Site, conf, Way, Never, To, Out, Ways, Price, price, Join, Claim, value_ways, normal_ways, then_value, claim_kept, Around, around_part, IsExcept, except_left, lands}
 use Rattle.linear_machine.proofs.Stretch.{Kept, unwound}
@@ -29,38 +28,24 @@ JumpFits rs hi Nowhere = Unit {0}
 JumpFits rs hi (Jumps label) = (hi ≤ label) × Lands rs label
 JumpFits rs hi (Unwinds label) = hi ≤ label
 
-abbrev pub ExitFits : LinearProgram → BodyName → List Region → ℕ → jumps.Way → Type 0
-ExitFits linear b rs hi Nowhere = Unit {0}
-ExitFits linear b rs hi (Jumps label) = (hi ≤ label) × Lands rs label
-    × (instruction_in (body_of linear b) label ≡ Some (instructions.Return (Temporary 0)))
-ExitFits linear b rs hi (Unwinds label) = hi ≤ label
-
 pub jump_part : (rs : List Region) (hi hi' : ℕ) (way : jumps.Way) → hi' ≤ hi → JumpFits rs hi way
     → JumpFits rs hi' way
 jump_part rs hi hi' Nowhere le f = tt
 jump_part rs hi hi' (Jumps label) le f = let a = f.0 in (omega arith, f.1)
 jump_part rs hi hi' (Unwinds label) le f = omega arith
 
-pub exit_part : (linear : LinearProgram) (b : BodyName) (rs : List Region) (hi hi' : ℕ)
-    (way : jumps.Way) → hi' ≤ hi → ExitFits linear b rs hi way → ExitFits linear b rs hi' way
-exit_part linear b rs hi hi' Nowhere le f = tt
-exit_part linear b rs hi hi' (Jumps label) le f = let a = f.0 in (omega arith, f.1, f.2)
-exit_part linear b rs hi hi' (Unwinds label) le f = omega arith
-
 -- a part of a body is inside its regions, and its ways out lead outside
-pub record Inner (linear : LinearProgram) (b : BodyName) (scope : LoweringContext)
-    (rs : List Region) (lo hi : ℕ) : Type 0 where
+pub record Inner (scope : LoweringContext) (rs : List Region) (lo hi : ℕ) : Type 0 where
   pub around : Around rs lo hi
-  pub exit : ExitFits linear b rs hi scope.exit
+  pub exit : JumpFits rs hi scope.exit
   pub loop_end : JumpFits rs hi scope.loop_end
   pub loop_next : JumpFits rs hi scope.loop_next
 
-pub inner_part : (linear : LinearProgram) (b : BodyName) (scope : LoweringContext)
-    (rs : List Region) (lo hi lo' hi' : ℕ) → lo ≤ lo' → hi' ≤ hi → Inner linear b scope rs lo hi
-    → Inner linear b scope rs lo' hi'
-inner_part linear b scope rs lo hi lo' hi' l h f = record {
+pub inner_part : (scope : LoweringContext) (rs : List Region) (lo hi lo' hi' : ℕ) → lo ≤ lo'
+    → hi' ≤ hi → Inner scope rs lo hi → Inner scope rs lo' hi'
+inner_part scope rs lo hi lo' hi' l h f = record {
   around = around_part rs lo hi lo' hi' l h f.around;
-  exit = exit_part linear b rs hi hi' scope.exit h f.exit;
+  exit = jump_part rs hi hi' scope.exit h f.exit;
   loop_end = jump_part rs hi hi' scope.loop_end h f.loop_end;
   loop_next = jump_part rs hi hi' scope.loop_next h f.loop_next;
 }
@@ -105,9 +90,8 @@ finally_site j below held = record {
 module _ (program : Program) (linear : LinearProgram) (rate body : ℕ) where
   abbrev pub exit_way : Context → Site → jumps.Way → ℕ → Way
   exit_way context site Nowhere v = Never
-  exit_way context site (Jumps label) v = Out
-      (λ st store pc next. end_body linear next site.body v
-      (conf context site pc (v ∷ []) st store))
+  exit_way context site (Jumps label) v =
+      To (λ st store. at (conf context site label (v ∷ []) st store))
   exit_way context site (Unwinds label) v = Out
       (λ st store pc. unwound linear rate context site (own_target site label) (v ∷ []) st store pc)
 
@@ -140,6 +124,11 @@ module _ (program : Program) (linear : LinearProgram) (rate body : ℕ) where
   Stays names shapes context base = KeptFrom program linear rate body
       (below_slot context.activation names.free) shapes base
 
+  -- the base of a part of the data stack is a local of the source
+  abbrev pub BaseFits : ℕ → Option DataPart → Type 0
+  BaseFits own None = Unit {0}
+  BaseFits own (Some part) = part.base < own
+
   -- what is around statements, with room for so many codes and flags
   pub record Surroundings (names : Names) (z : Shape) (shapes : List Shape) (context : Context)
       (site : Site) (base : Store) (notes : ℕ) : Type 0 where
@@ -148,13 +137,24 @@ module _ (program : Program) (linear : LinearProgram) (rate body : ℕ) where
     pub past : z.own ≤ names.free
     pub room : names.free + notes ≤ z.all
     pub plain : names.exception ≡ OfFilter → ⊥
+    pub part : names.part ≡ context.data_part
+    pub base_fits : BaseFits z.own context.data_part
+    pub globals : linear.globals ≡ program.globals
 
   pub surroundings_less : (names : Names) (z : Shape) (shapes : List Shape) (context : Context)
       (site : Site) (base : Store) (notes notes' : ℕ) → notes' ≤ notes
       → Surroundings names z shapes context site base notes
       → Surroundings names z shapes context site base notes'
   surroundings_less names z shapes context site base notes notes' le s = let r = s.room in
-      record { env = s.env; past = s.past; room = omega arith; plain = s.plain }
+      record {
+        env = s.env;
+        past = s.past;
+        room = omega arith;
+        plain = s.plain;
+        part = s.part;
+        base_fits = s.base_fits;
+        globals = s.globals;
+      }
 
   -- what is claimed of each kind of task of statements, inside at most n others
   pub record BodyRuns (n : ℕ) : Type 0 where
@@ -162,7 +162,7 @@ module _ (program : Program) (linear : LinearProgram) (rate body : ℕ) where
         (context : Context) (site : Site) (base : Store) (pc : ℕ) (st : State) (store : Store)
         → st.steps_left ≤ n → statement_weight s + body + 4 ≤ rate
         → Placed program linear rate body z.own site.body scope s site.regions pc
-        → Inner linear site.body scope site.regions pc (pc + statement_size s)
+        → Inner scope site.regions pc (pc + statement_size s)
         → Surroundings scope.names z shapes context site base (statement_notes s)
         → Stays scope.names shapes context base st store → st.held ≡ site.held
         → Claim linear rate (at (conf context site pc [] st store)) st
@@ -174,7 +174,7 @@ module _ (program : Program) (linear : LinearProgram) (rate body : ℕ) where
         (store : Store)
         → st.steps_left ≤ n → 1 + optional_weight c + statement_weight s + optional_weight next
         + body + 4 ≤ rate → ForPlaced program linear rate body z.own site.body scope c next s
-        site.regions pc → Inner linear site.body scope site.regions pc (for_end c next s pc)
+        site.regions pc → Inner scope site.regions pc (for_end c next s pc)
         → Surroundings scope.names z shapes context site base (statement_notes s)
         → Stays scope.names shapes context base st store → st.held ≡ site.held
         → Claim linear rate (at (conf context site pc [] st store)) st
@@ -187,7 +187,7 @@ module _ (program : Program) (linear : LinearProgram) (rate body : ℕ) where
         (store : Store)
         → st.steps_left ≤ n → 1 + statement_weight s + expression_weight c + body + 4 ≤ rate
         → DoPlaced program linear rate body z.own site.body scope s c site.regions pc
-        → Inner linear site.body scope site.regions pc (do_end s c pc)
+        → Inner scope site.regions pc (do_end s c pc)
         → Surroundings scope.names z shapes context site base (statement_notes s)
         → Stays scope.names shapes context base st store → st.held ≡ site.held
         → Claim linear rate (at (conf context site pc [] st store)) st
@@ -199,7 +199,7 @@ module _ (program : Program) (linear : LinearProgram) (rate body : ℕ) where
         (context : Context) (site : Site) (base : Store) (pc : ℕ) (st : State) (store : Store)
         → st.steps_left ≤ n → 1 + statements_weight ss + body + 4 ≤ rate
         → AllPlaced program linear rate body z.own site.body scope ss site.regions pc
-        → Inner linear site.body scope site.regions pc (pc + statements_size ss)
+        → Inner scope site.regions pc (pc + statements_size ss)
         → Surroundings scope.names z shapes context site base (statements_notes ss)
         → Stays scope.names shapes context base st store → st.held ≡ site.held
         → Claim linear rate (at (conf context site pc [] st store)) st

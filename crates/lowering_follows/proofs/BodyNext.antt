@@ -1,22 +1,36 @@
 -- What is claimed of statements holds one step deeper.
 use Rattle.std.proofs.Common.{◌≡◌, ◌≤◌, ℕ, zero, suc, ◌+◌, List, [], ◌∷◌, ◌++◌, length, refl, ap, sym, subst, ◌∙◌, arith}
-use Rattle.std.specs.Prelude.{◌-◌, Bool, None}
+use Rattle.std.specs.Prelude.{◌-◌, Bool, true, false, Option, Some, None}
 use Rattle.seh_num.specs.declared.event.Event.TheVariants as events
-use Rattle.lowering_follows.specs.Words.{Statements, Program, State, Normal, Target, Outcome, Gives, emit, hold, let_go, and_then, Context, Run, ForIteration, DoIteration, TryBody, RunFinally, of_test, no_exception, all, perform, within, LinearProgram, FuncletBody, Item, Store, Configuration, with_some, set_local, local_of, deeper, begin_finally, end_funclet, end_finally, exec, Names, finally_names, finally_scope, statement_size, statements_size, statements_notes, expression_weight, optional_weight, statement_weight, statements_weight, HasAt, HasFunclet, FinallyPlaced, for_end, do_end}
+use Rattle.lowering_follows.specs.Words.{Statements, Program, State, Normal, Target, Outcome, Gives, emit, hold, let_go, and_then, Context, DataPart, reset_pointer_if, Run, ForIteration, DoIteration, TryBody, RunFinally, of_test, no_exception, all, perform, within, LinearProgram, FuncletBody, Item, Store, Configuration, with_some, set_local, local_of, deeper, begin_finally, end_funclet, end_finally, exec, Names, finally_names, finally_scope, statement_size, statements_size, statements_notes, expression_weight, optional_weight, statement_weight, statements_weight, HasAt, finally_begin, HasFunclet, FinallyPlaced, for_end, do_end}
 use Rattle.linear_code.specs.declared.slot.Slot.TheVariants.{Local}
 use Rattle.linear_code.specs.declared.instruction.Instruction.TheVariants as instructions
 use Rattle.linear_code.specs.declared.program.FuncletKind.TheVariants as kinds
-use Rattle.lowering_follows.proofs.Lemmas.{Part, at, Site, conf, Ways, price, Targets, Claim, normal_ways, more, attains_out, reaches_after, targets_more, stepped, fetch, sooner, counted_claim, deep_claim, shown_deep, prefix_self, prefix_less, from_none}
+use Rattle.lowering_follows.proofs.Lemmas.{Part, at, Site, conf, Ways, price, Targets, Claim, normal_ways, more, after, attains_out, reaches_after, targets_more, stepped, fetch, sooner, counted_claim, deep_claim, shown_deep, prefix_self, prefix_less, from_none}
 use Rattle.linear_machine.proofs.Stretch.{Kept}
-use Rattle.lowering_follows.proofs.Stores.{Shape}
-use Rattle.lowering_follows.proofs.Places.{has_at}
+use Rattle.lowering_follows.proofs.Stores.{Shape, note_read}
 use Rattle.lowering_follows.proofs.TaskClaims.{Runs}
 use Rattle.lowering_follows.proofs.Raises.{targets_out, IsFunclet}
 use Rattle.lowering_follows.proofs.BodyClaims.{finally_site, statement_ways, Stays, Surroundings, BodyRuns}
 use Rattle.lowering_follows.proofs.BodySequences.{all_runs}
 use Rattle.lowering_follows.proofs.BodySteps.{for_runs, do_runs}
 use Rattle.lowering_follows.proofs.BodyStatements.{statement_runs}
+use Rattle.lowering_follows.proofs.StackPointers.{reset_store_if, reset_stays_if, finally_reach}
 use Rattle.lowering_follows.proofs.Tries.{surroundings_finally, noted_kept, noted_stays, stays_out}
+
+reset_asked : (flag : Bool) (part : Option DataPart) (activation k : ℕ) (st : State)
+    → reset_pointer_if flag part activation (emit (events.Finally k flag) (hold st))
+    ≡ emit (events.Finally k flag) (hold (reset_pointer_if flag part activation st))
+reset_asked false part activation k st = refl
+reset_asked true None activation k st = refl
+reset_asked true (Some part) activation k st = refl
+
+reset_keeps : (flag : Bool) (part : Option DataPart) (activation k : ℕ) (st : State)
+    → let asked = emit (events.Finally k flag) (hold (reset_pointer_if flag part activation st)) in
+    (asked.held ≡ st.held + 2) × (asked.steps_left ≡ st.steps_left)
+reset_keeps false part activation k st = (refl, refl)
+reset_keeps true None activation k st = (refl, refl)
+reset_keeps true (Some part) activation k st = (refl, refl)
 
 module _ (program : Program) (linear : LinearProgram) (rate body : ℕ) where
   -- ---- the end of a `__finally` block
@@ -141,6 +155,10 @@ module _ (program : Program) (linear : LinearProgram) (rate body : ℕ) where
         (1 + statements_notes last) (of_test flag) store standing kept.1 in
         let out = stays_out program linear rate body names names' shapes context base base' refl
         stays in
+        let room = standing.room in
+        let noted : local_of base' context.activation names.free ≡ of_test flag =
+        note_read z store context.activation names.free (of_test flag) shapes st.memory st.frames
+        standing.env.shape (omega arith) kept.0 in
         let deep : length store.activations ≡ length st.frames = kept.0.activations
         ∙ sym kept.0.count in
         counted_claim linear rate (λ next. deeper 2 held store st.events (next begins)) w st 0 y y
@@ -151,31 +169,49 @@ module _ (program : Program) (linear : LinearProgram) (rate body : ℕ) where
         (from_none linear zero begins)))
         (λ m less.
         let low : State = record st { steps_left = m } in
-        let asked : State = emit (events.Finally k flag) (hold low) in
+        let first_asked : State = emit (events.Finally k flag) (hold low) in
+        let asked : State = emit (events.Finally k flag)
+        (hold (reset_pointer_if flag context.data_part context.activation low)) in
+        let asked' : State = reset_pointer_if flag context.data_part context.activation first_asked
+        in
+        let store' = reset_store_if flag context.data_part context.activation base' in
+        let reset_is : asked' ≡ asked = reset_asked flag context.data_part context.activation k low
+        in
+        let same_left = reset_keeps flag context.data_part context.activation k low in
+        let held_is : asked.held ≡ held + 2 = same_left.0 ∙ ap (λ h. h + 2) same_held in
         let o = and_then (all (within program n) last inner asked)
         (λ st. Gives Normal (let_go st)) in
         deep_claim linear rate 2 held store (at (place (j + 1))) low (price 16 1 y y) w
         (λ st. and_then (all (within program n) last inner
-        (emit (events.Finally k flag) (hold st))) (λ st. Gives Normal (let_go st))) deep same_held
-        (sooner linear rate (at (place (j + 1))) low asked (price 16 1 y y) w o refl
+        (emit (events.Finally k flag)
+        (hold (reset_pointer_if flag context.data_part context.activation st))))
+        (λ st. Gives Normal (let_go st))) deep same_held
+        (sooner linear rate (at (place (j + 1))) low first_asked (price 16 1 y y) w o refl
         (events.Finally k flag ∷ [], refl)
-        (subst (λ c. Claim linear rate (at c) asked (price 16 1 y y) w o) same
-        (more linear rate (at (place k)) asked (price 1 0 x x) (price 16 1 y y) w o
-        (omega arith, omega arith, omega arith)
+        (subst (λ c. Claim linear rate (at c) first_asked (price 16 1 y y) w o) same
+        (after linear rate (at (place k)) (at (conf inner fsite 3 [] asked' store')) first_asked
+        asked' 3 0 0 (price 1 0 x x) (price 16 1 y y) w o (omega arith, omega arith, omega arith)
+        (finally_reach program linear rate body inner fsite flag context.data_part names.free
+        first_asked base' noted
+        (subst (λ part. HasAt linear (FuncletBody j) [] 0 (finally_begin part names.free))
+        standing.part placed.begins))
+        (subst (λ q. Claim linear rate (at (conf inner fsite 3 [] q store')) q (price 1 0 x x) w o)
+        (sym reset_is)
         (final_end j names below held flag context site pc temps
         (Stays program linear rate body names' shapes inner base')
-        (Stays program linear rate body names shapes context base) (0 + statements_size last) out
-        (λ st store p. out st store p) placed.funclet
-        (has_at linear (FuncletBody j) [] (statements_size last) (0 + statements_size last)
-        (instructions.Return (Local names.free) ∷ []) (omega arith) placed.returns) isf
-        (at (place k)) asked x (all (within program n) last inner asked)
+        (Stays program linear rate body names shapes context base) (3 + statements_size last) out
+        (λ st store p. out st store p) placed.funclet placed.returns isf
+        (at (conf inner fsite 3 [] asked store')) asked x (all (within program n) last inner asked)
         (all_runs program linear rate body n bih (finally_scope names) z shapes inner fsite base'
-        last 0 asked base' (omega arith) (omega arith) placed.code
+        last 3 asked store' (omega (arith, same_left.1)) (omega arith) placed.code
         (record { around = tt; exit = tt; loop_end = tt; loop_next = tt })
         (surroundings_finally program linear rate body names z shapes context site fsite base
         (statements_notes last) flag st store standing kept isf.same_found isf.same_functions)
+        (subst (λ q. Stays program linear rate body names' shapes inner base' q store') reset_is
+        (reset_stays_if program linear rate body flag names' shapes inner base' z
+        context.data_part first_asked base' standing.env.shape standing.base_fits
         (noted_kept program linear rate body names names' z shapes context base (of_test flag) st
-        store refl standing.env.shape standing.past kept) (ap (λ h. h + 2) same_held)))))))
+        store refl standing.env.shape standing.past kept))) held_is)))))))
 
     pub body_next : BodyRuns program linear rate body (suc n)
     body_next = record {

@@ -3,13 +3,12 @@ use Rattle.std.proofs.Common.{◌≡◌, ◌<◌, ◌≤◌, ℕ, zero, suc, ◌
 use Rattle.std.specs.Prelude.{set, Option, Some, None}
 use Rattle.c_operations.specs.declared.operation.Operation.TheVariants as operations
 use Rattle.c_operations.specs.declared.operation.Pure.TheVariants as pures
-use Rattle.lowering_follows.specs.Words.{Expression, Program, State, Value, Normal, Broke, Continued, Outcome, Gives, Context, optional, declare, within, Temporary, Compute, Separator, LocalUnwind, LinearProgram, Store, with_some, set_local, end_body, exec, LoweringContext, Nowhere, Jumps, expression_size, discarded_size, declared_size, copy, expression_code, jump_code, return_code, leave_code, discarded_code, expression_weight, optional_weight, HasAt, IsWay, IsPlace, OptionalFits, DeclaredPlaced}
+use Rattle.lowering_follows.specs.Words.{Expression, Program, State, Value, Normal, Broke, Continued, Outcome, Gives, Context, optional, declare, within, Temporary, Compute, Separator, LocalUnwind, LinearProgram, Store, with_some, set_local, exec, LoweringContext, Nowhere, Jumps, expression_size, discarded_size, declared_size, copy, expression_code, jump_code, return_code, leave_code, discarded_code, expression_weight, optional_weight, HasAt, IsWay, IsPlace, OptionalFits, DeclaredPlaced}
 use Rattle.source_meaning.specs.Statements.{in_loop}
 use Rattle.linear_code.specs.declared.slot.Slot.TheVariants.{Local}
 use Rattle.lowering_expressions.specs.declared.scope.Way.TheVariants.{Unwinds}
 use Rattle.source_meaning.specs.State as model
-use Rattle.linear_code.specs.declared.instruction.Instruction.TheVariants as instructions
-use Rattle.lowering_follows.proofs.Lemmas.{Part, at, Site, conf, Ways, Price, price, Join, Arrives, Claim, first_ways, joins, Passes, Joined, more, attains_more, after, arrives_more, reaches_after, first, stepped, still, fetch, prefix_self}
+use Rattle.lowering_follows.proofs.Lemmas.{Part, at, Site, conf, Ways, Price, price, Join, Arrives, Claim, first_ways, joins, Passes, Joined, more, attains_more, after, arrives_more, first, stepped, still, fetch, prefix_self}
 use Rattle.lowering_expressions.specs.declared.scope.Way as jumps
 use Rattle.lowering_expressions.specs.Scope as scopes
 use Rattle.lowering_follows.proofs.Stores.{Shape, at_list, below_slot, local_set_alike, kept_set, kept_through}
@@ -18,7 +17,7 @@ use Rattle.lowering_follows.proofs.Lengths.{expression_length}
 use Rattle.lowering_follows.proofs.TaskClaims.{Runs}
 use Rattle.lowering_follows.proofs.Turns.{put_local_turn, jump_turn}
 use Rattle.lowering_follows.proofs.Raises.{unwound_is}
-use Rattle.lowering_follows.proofs.BodyClaims.{ExitFits, own_target, exit_way, jump_way, leave_way, statement_ways, Stays, Surroundings, BodyRuns, statement_eval}
+use Rattle.lowering_follows.proofs.BodyClaims.{own_target, exit_way, jump_way, leave_way, statement_ways, Stays, Surroundings, BodyRuns, statement_eval}
 
 set_again : (xs : List ℕ) (x v : ℕ) → set (set xs x v) x v ≡ set xs x v
 set_again [] x v = refl
@@ -147,44 +146,32 @@ module _ (program : Program) (linear : LinearProgram) (rate body : ℕ) where
 
       -- ---- ways out
 
-      -- to the function's exit, and out of it from there
-      pub leaves_by : (way : jumps.Way) (hi pc v : ℕ) (st : State) (store : Store) (p : Price)
-          → 2 ≤ p.turns → p.extra ≤ rate + p.slack → IsWay way
-          → ExitFits linear site.body site.regions hi way
+      -- to the function's exit
+      pub leaves_by : (way : jumps.Way) (pc v : ℕ) (st : State) (store : Store) (p : Price)
+          → 1 ≤ p.turns → p.extra ≤ rate + p.slack → IsWay way
           → HasAt linear site.body site.regions pc (return_code way) → Ks st store
           → st.held ≡ site.held
           → Arrives linear rate (at (conf context site pc (v ∷ []) st store)) st p Ks site.held st
           (exit_way program linear rate body context site way v)
-      unfolding with_some
-      leaves_by Nowhere hi pc v st store p lr le is exits has kept held = absurd is
-      leaves_by (Jumps label) hi pc v st store p lr le is exits has kept held =
-          let c0 = conf context site pc (v ∷ []) st store in
-          let c1 = conf context site label (v ∷ []) st store in
-          let out : Part = λ next. end_body linear next site.body v c1 in (
-            label,
-            record {
-              store = store;
-              fits = kept;
-              same = held;
-              reaches = reaches_after linear rate (at c0) (at c1) out st st st 1 rate 0 1 0 0
-                  p.turns p.extra p.slack lr (omega arith)
-                  (stepped linear rate c0 (at c1) st st 1 rate 0 refl (omega arith) (omega arith)
-                  refl (prefix_self st.events)
-                  (λ k. jump_turn linear rate context site label pc (v ∷ []) st store k
-                  (has.0, has.1, tt)))
-                  (stepped linear rate c1 out st st 1 0 0 refl (omega arith) (omega arith) refl
-                  (prefix_self st.events)
-                  (λ k. fetch linear rate c1 (instructions.Return (Temporary 0)) k exits.2));
-            },
-          )
-      leaves_by (Unwinds label) hi pc v st store p lr le is exits has kept held = (
+      leaves_by Nowhere pc v st store p lr le is has kept held = absurd is
+      leaves_by (Jumps label) pc v st store p lr le is has kept held = record {
+        store = store;
+        fits = kept;
+        same = held;
+        reaches = stepped linear rate (conf context site pc (v ∷ []) st store)
+            (at (conf context site label (v ∷ []) st store)) st st p.turns p.extra p.slack refl lr
+            le refl (prefix_self st.events)
+            (λ k. jump_turn linear rate context site label pc (v ∷ []) st store k
+            (has.0, has.1, tt));
+      }
+      leaves_by (Unwinds label) pc v st store p lr le is has kept held = (
         pc,
         record {
           store = store;
           fits = kept;
           same = held;
           reaches = stepped linear rate (conf context site pc (v ∷ []) st store) _ st st p.turns
-              p.extra p.slack refl (omega arith) le refl (prefix_self st.events)
+              p.extra p.slack refl lr le refl (prefix_self st.events)
               (λ k. fetch linear rate (conf context site pc (v ∷ []) st store) (LocalUnwind label) k
               has.0 ∙ unwound_is program linear rate body (own_target site label) context site pc
               (v ∷ []) st store (exec linear k) has.1);
@@ -311,12 +298,13 @@ module _ (program : Program) (linear : LinearProgram) (rate body : ℕ) where
       pub declared_runs : (x : ℕ) (value : Option Expression) (notes pc : ℕ) (st : State)
           (store : Store) → st.steps_left ≤ n → 1 + optional_weight value + body + 4 ≤ rate
           → DeclaredPlaced program linear rate body z.own site.body scope.names
-          (record { local = x; value = value }) site.regions pc
+          (record { local = x; stacked = None; value = value }) site.regions pc
           → Surroundings program linear rate body scope.names z shapes context site base notes
           → Ks st store → st.held ≡ site.held
           → G pc [] st store (price 16 1 (1 + optional_weight value) (1 + optional_weight value))
-          (pc + declared_size (record { local = x; value = value }))
-          (declare (within program n) (record { local = x; value = value }) context st)
+          (pc + declared_size (record { local = x; stacked = None; value = value }))
+          (declare program (within program n) (record { local = x; stacked = None; value = value })
+          context st)
       declared_runs x None notes pc st store steps light has standing kept held =
           let cleared : State = model.set_local st context.activation x 0 in
           let store' = set_local store context.activation x 0 in
@@ -331,7 +319,7 @@ module _ (program : Program) (linear : LinearProgram) (rate body : ℕ) where
             reaches = stepped linear rate (conf context site pc [] st store)
                 (at (conf context site (pc + 1) [] cleared store')) st cleared 16 1 1 refl
                 (omega arith) (omega arith) refl (prefix_self st.events)
-                (λ k. clear_turn x pc [] st store k (has.2.0, has.2.1, tt));
+                (λ k. clear_turn x pc [] st store k (has.3.0, has.3.1, tt));
           })
       declared_runs x (Some e) notes pc st store steps light has standing kept held =
           let a = context.activation in
@@ -343,7 +331,7 @@ module _ (program : Program) (linear : LinearProgram) (rate body : ℕ) where
           let pc2 = pc1 + expression_size e in
           let last = has_after linear site.body site.regions pc1 (expression_size e) code
           (copy (Local x) (Temporary 0) ∷ Separator ∷ []) (expression_length scope.names e 0 pc1)
-          has.2.2 in
+          has.3.2 in
           let done = pc + (1 + (expression_size e + 2)) in
           let end : pc2 + 1 + 1 ≡ done = omega arith in
           let f : ℕ → State → Outcome = λ v st. Gives Normal (model.set_local st a x v) in
@@ -352,13 +340,13 @@ module _ (program : Program) (linear : LinearProgram) (rate body : ℕ) where
           (at (conf context site pc1 [] cleared store')) st cleared (price 15 0 (1 + w) (1 + w))
           (price 16 1 (1 + w) (1 + w)) (S done) o (omega arith, omega arith, omega arith) refl
           refl (prefix_self st.events)
-          (λ k. clear_turn x pc [] st store k (has.2.0, has.2.1, tt))
+          (λ k. clear_turn x pc [] st store k (has.3.0, has.3.1, tt))
           (statement_eval program linear rate body n ih e scope.names z shapes context site base
           notes pc1 cleared store' (price 2 0 0 0) (price 15 0 (1 + w) (1 + w)) (S done) f steps
           (omega arith)
           (joins (omega arith) (omega arith) (omega arith) (omega arith)) has.1
           (has_front linear site.body site.regions pc1 code
-          (copy (Local x) (Temporary 0) ∷ Separator ∷ []) has.2.2) standing
+          (copy (Local x) (Temporary 0) ∷ Separator ∷ []) has.3.2) standing
           (stays_set x 0 notes st store has.0 standing kept) held
           (λ v mid after steps kept held.
           let put : State = model.set_local mid a x v in

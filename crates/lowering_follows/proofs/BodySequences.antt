@@ -31,7 +31,7 @@ module _ (program : Program) (linear : LinearProgram) (rate body : ℕ) (n : ℕ
     pub all_runs : (ss : Statements) (pc : ℕ) (st : State) (store : Store) → st.steps_left ≤ n
         → statements_weight ss + body + 4 ≤ rate
         → AllPlaced program linear rate body z.own site.body scope ss site.regions pc
-        → Inner linear site.body scope site.regions pc (pc + statements_size ss)
+        → Inner scope site.regions pc (pc + statements_size ss)
         → Surroundings program linear rate body scope.names z shapes context site base
         (statements_notes ss) → Ks st store → st.held ≡ site.held
         → G pc [] st store (price 0 0 (statements_weight ss) (statements_weight ss))
@@ -63,14 +63,14 @@ module _ (program : Program) (linear : LinearProgram) (rate body : ℕ) (n : ℕ
         (λ st. all (within program n) ss context st)
         (joins (omega arith) (omega arith) (omega arith) (omega arith)) (omega arith)
         (bih.run s scope z shapes context site base pc st store steps (omega arith) has.0
-        (inner_part linear site.body scope site.regions pc hi pc pc1 (omega arith) (omega arith)
+        (inner_part scope site.regions pc hi pc pc1 (omega arith) (omega arith)
         inner)
         (surroundings_less program linear rate body scope.names z shapes context site base
         (max (statement_notes s) (statements_notes ss)) (statement_notes s)
         (max_left (statement_notes s) (statements_notes ss)) standing) kept held)
         (λ mid after low kept held.
         all_runs ss pc1 mid after (omega arith) (omega arith) has.1
-        (inner_part linear site.body scope site.regions pc hi pc1 done (omega arith) (omega arith)
+        (inner_part scope site.regions pc hi pc1 done (omega arith) (omega arith)
         inner)
         (surroundings_less program linear rate body scope.names z shapes context site base
         (max (statement_notes s) (statements_notes ss)) (statements_notes ss)

@@ -1,25 +1,27 @@
 -- Statements, after their step.
 use Rattle.std.proofs.Common.{◌∙◌, ◌≡◌, ◌≤◌, ℕ, ◌+◌, List, [], ◌∷◌, length, refl, sym, subst, arith}
 use Rattle.std.specs.Prelude.{◌-◌, max, nat_eq, Option, Some, None}
-use Rattle.lowering_follows.specs.Words.{Expression, Declared, Filter, Statement, Declare, Block, Evaluate, If, IfElse, For, DoWhile, Break, Continue, Leave, TryExcept, TryFinally, Statements, Program, Exception, State, Normal, Returned, Outcome, Gives, choose, and_then, Context, Handler, Run, ForIteration, DoIteration, TryBody, RunFinally, all, optional, landing, finally_after, declare_each, statement, within, Temporary, Jump, JumpIfZero, Region, LinearProgram, BodyName, Store, set_local, LoweringContext, except_names, in_try, in_except, in_guarded, expression_size, discarded_size, declared_size, all_declared_size, returned_size, statement_size, statements_size, statement_notes, statements_notes, except_kind, region, expression_code, expression_weight, optional_weight, statement_weight, statements_weight, declared_weight, all_declared_weight, HasAt, AllDeclaredPlaced, Placed, for_end, do_end, Return}
+use Rattle.lowering_follows.specs.Words.{Expression, StackedVariable, Declared, Filter, Statement, Declare, Block, Evaluate, If, IfElse, For, DoWhile, Break, Continue, Leave, TryExcept, TryFinally, Statements, Program, Exception, State, Normal, Returned, Outcome, Gives, choose, and_then, Context, Handler, Run, ForIteration, DoIteration, TryBody, RunFinally, all, optional, declare_at, landing, finally_after, declare_each, reset_pointer, statement, within, Temporary, Jump, JumpIfZero, Region, LinearProgram, Store, set_local, LoweringContext, except_names, in_try, in_except, in_guarded, expression_size, discarded_size, declared_size, declared_at_size, all_declared_size, returned_size, statement_size, statements_size, statement_notes, statements_notes, stacked_notes, declared_notes, except_kind, region, expression_code, expression_weight, optional_weight, statement_weight, statements_weight, declared_weight, all_declared_weight, HasAt, reset_code, DeclaredPlaced, AllDeclaredPlaced, Placed, for_end, do_end, Return}
 use Rattle.linear_code.specs.declared.program.RegionKind.TheVariants as regions
-use Rattle.lowering_follows.proofs.Lemmas.{at, Site, conf, Ways, Price, price, found, joins, more, then_normal, chosen}
+use Rattle.lowering_follows.proofs.Lemmas.{at, Site, conf, Claim, Ways, Price, price, found, joins, more, then_normal, chosen}
 use Rattle.lowering_follows.proofs.Stores.{Shape, Alike, below_slot}
 use Rattle.lowering_follows.proofs.Places.{has_front, has_after}
 use Rattle.lowering_follows.proofs.Lengths.{expression_length}
 use Rattle.lowering_follows.proofs.Turns.{constant_turn, jump_turn, test_turn}
 use Rattle.lowering_follows.proofs.TaskClaims.{Runs}
 use Rattle.lowering_follows.proofs.Environments.{same_length}
-use Rattle.lowering_follows.proofs.BodyClaims.{Inner, inner_part, Stays, Surroundings, surroundings_less, BodyRuns, statement_eval}
+use Rattle.lowering_follows.proofs.BodyClaims.{Inner, inner_part, statement_ways, Stays, Surroundings, surroundings_less, BodyRuns, statement_eval}
 use Rattle.lowering_follows.proofs.BodySequences.{max_left, max_right, all_runs}
+use Rattle.lowering_follows.proofs.StackPointers.{reset_store, reset_stays, reset_claim}
 use Rattle.lowering_follows.proofs.BodyParts.{Ks, S, G, ends_at, continue_from, here, normal_then, discard_then, leaves_by, breaks_by, ends_try, loop_lands, declared_runs}
+use Rattle.lowering_follows.proofs.StackedVariables.{stacked_declared}
 use Rattle.lowering_follows.proofs.Tries.{inside_except, inside_finally, within_region, noted_stays, surroundings_except, noted_kept, stays_out, surroundings_try, surroundings_guarded, block_claim}
 use Rattle.lowering_follows.proofs.TryEnds.{except_ends}
 use Rattle.lowering_follows.proofs.FinallyEnds.{finally_ends}
 
-inner_except : (linear : LinearProgram) (b : BodyName) (scope : LoweringContext) (rs : List Region)
-    (lo hi : ℕ) → Inner linear b scope rs lo hi → Inner linear b (in_except scope) rs lo hi
-inner_except linear b scope rs lo hi f = record {
+inner_except : (scope : LoweringContext) (rs : List Region) (lo hi : ℕ) → Inner scope rs lo hi
+    → Inner (in_except scope) rs lo hi
+inner_except scope rs lo hi f = record {
   around = f.around;
   exit = f.exit;
   loop_end = f.loop_end;
@@ -44,10 +46,10 @@ module _ (program : Program) (linear : LinearProgram) (rate body : ℕ) (roomy :
     Sd notes = Surroundings program linear rate body scope.names z shapes context site base notes
 
     abbrev In : ℕ → ℕ → Type 0
-    In lo hi = Inner linear site.body scope site.regions lo hi
+    In lo hi = Inner scope site.regions lo hi
 
     part_in : (lo hi lo' hi' : ℕ) → lo ≤ lo' → hi' ≤ hi → In lo hi → In lo' hi'
-    part_in lo hi lo' hi' l h f = inner_part linear site.body scope site.regions lo hi lo' hi' l h f
+    part_in lo hi lo' hi' l h f = inner_part scope site.regions lo hi lo' hi' l h f
 
     fewer : (notes notes' : ℕ) → notes' ≤ notes → Sd notes → Sd notes'
     fewer notes notes' le s = surroundings_less program linear rate body scope.names z shapes
@@ -56,7 +58,8 @@ module _ (program : Program) (linear : LinearProgram) (rate body : ℕ) (roomy :
     declares_runs : (ds : List Declared) (pc : ℕ) (st : State) (store : Store) → st.steps_left ≤ n
         → all_declared_weight ds + body + 4 ≤ rate
         → AllDeclaredPlaced program linear rate body z.own site.body scope.names ds site.regions pc
-        → In pc (pc + all_declared_size ds) → Sd 0 → K st store → st.held ≡ site.held
+        → In pc (pc + all_declared_size ds) → Sd (declared_notes ds) → K st store → st.held
+        ≡ site.held
         → C pc [] st store (price 0 0 (all_declared_weight ds) (all_declared_weight ds))
         (pc + all_declared_size ds) (declare_each (within program n) ds context st)
     declares_runs [] pc st store steps light has inner standing kept held = here program linear rate
@@ -80,9 +83,13 @@ module _ (program : Program) (linear : LinearProgram) (rate body : ℕ) (roomy :
         (λ st. declare_each (within program n) ds context st)
         (joins (omega arith) (omega arith) (omega arith) (omega arith)) (omega arith)
         (bih.run (Declare d) scope z shapes context site base pc st store steps (omega arith) has.0
-        (part_in pc hi pc pc1 (omega arith) (omega arith) inner) standing kept held)
+        (part_in pc hi pc pc1 (omega arith) (omega arith) inner)
+        (fewer (declared_notes (d ∷ ds)) (stacked_notes d.stacked)
+        (max_left (stacked_notes d.stacked) (declared_notes ds)) standing) kept held)
         (λ mid after low kept held. declares_runs ds pc1 mid after (omega arith) (omega arith) has.1
-        (part_in pc hi pc1 done (omega arith) (omega arith) inner) standing kept held))
+        (part_in pc hi pc1 done (omega arith) (omega arith) inner)
+        (fewer (declared_notes (d ∷ ds)) (declared_notes ds)
+        (max_right (stacked_notes d.stacked) (declared_notes ds)) standing) kept held))
 
     -- a statement at an earlier place, whose end is another's
     sub_run : (s : Statement) (pc done : ℕ) (st : State) (store : Store) (r : Price)
@@ -144,8 +151,8 @@ module _ (program : Program) (linear : LinearProgram) (rate body : ℕ) (roomy :
         (λ k. constant_turn linear rate context site 0 0 (0 ∷ []) pc [] st store k (omega arith)
         has.computes refl)
         (leaves_by program linear rate body roomy n ih bih scope z shapes context site base
-        scope.exit (pc + (1 + 2)) (pc + 1) 0 st store (price 2 0 0 0) (omega arith) (omega arith)
-        has.leads inner.exit has.returns kept held)
+        scope.exit (pc + 1) 0 st store (price 2 0 0 0) (omega arith) (omega arith) has.leads
+        has.returns kept held)
     return_runs (Some e) notes pc st store steps light has inner standing kept held =
         let w = expression_weight e in
         let done = pc + (expression_size e + 2) in
@@ -155,8 +162,8 @@ module _ (program : Program) (linear : LinearProgram) (rate body : ℕ) (roomy :
         (joins (omega arith) (omega arith) (omega arith) (omega arith)) has.value has.computes
         standing kept held
         (λ v mid after steps kept held. leaves_by program linear rate body roomy n ih bih scope z
-        shapes context site base scope.exit done (pc + expression_size e) v mid after
-        (price 2 0 0 0) (omega arith) (omega arith) has.leads inner.exit has.returns kept held)
+        shapes context site base scope.exit (pc + expression_size e) v mid after (price 2 0 0 0)
+        (omega arith) (omega arith) has.leads has.returns kept held)
 
     except_runs : (ss : Statements) (filter : Filter) (block : Statements) (pc : ℕ) (st : State)
         (store : Store) → st.steps_left ≤ n → statement_weight (TryExcept ss filter block) + body +
@@ -168,14 +175,14 @@ module _ (program : Program) (linear : LinearProgram) (rate body : ℕ) (roomy :
         → C pc [] st store (price 16 1 (statement_weight (TryExcept ss filter block))
         (statement_weight (TryExcept ss filter block)))
         (pc + statement_size (TryExcept ss filter block))
-        (statement (within program n) (TryExcept ss filter block) context st)
+        (statement program (within program n) (TryExcept ss filter block) context st)
     except_runs ss filter block pc st store steps light has inner standing kept held =
         let x = 1 + statements_weight ss in
         let y = statements_weight block in
         let w = statement_weight (TryExcept ss filter block) in
         let pcj = pc + statements_size ss in
         let target = pcj + 1 in
-        let done = target + 1 + statements_size block in
+        let done = target + 2 + statements_size block in
         let hi = pc + statement_size (TryExcept ss filter block) in
         let end : done ≡ hi = omega arith in
         let notes = statement_notes (TryExcept ss filter block) in
@@ -188,39 +195,56 @@ module _ (program : Program) (linear : LinearProgram) (rate body : ℕ) (roomy :
         let inside = within_region (region pc target (except_kind filter target)) site in
         let body_out = within program n (TryBody ss) within_it st in
         let go : Exception → State → Outcome = λ exc st. all (within program n) block
-        (record context { exception = exc }) st in
+        (record context { exception = exc })
+        (reset_pointer context.data_part context.activation st) in
         let here_surrounded = fewer notes (1 + statements_notes block)
         (max_right (statements_notes ss) (1 + statements_notes block)) standing in
         let o : ℕ → Outcome = λ h. landing (length context.handlers) h body_out go in
         subst (λ h. C pc [] st store (price 16 1 w w) hi (o h)) (sym held)
         (ends_at program linear rate body roomy n ih bih scope z shapes context site base pc [] st
         store (price 16 1 w w) done hi (o site.held) end
-        (more linear rate (at (conf context site pc [] st store)) st (price 2 0 (x + y) (x + y))
+        (more linear rate (at (conf context site pc [] st store)) st (price 3 0 (x + y) (x + y))
         (price 16 1 w w) (W done) (o site.held) (omega arith, omega arith, omega arith)
         (except_ends program linear rate body filter pc target hi (omega arith) (omega arith)
         context site K done x y pc scope.names.free scope.names scope z shapes base notes
         (at (conf context site pc [] st store)) st pcj body_out go inner
         (same_length program linear rate body (below_slot context.activation scope.names.free)
         shapes base context.handlers (found linear rate context site) standing.env.handlers)
-        has.end has.landing
+        has.end (has.landing.0, has.landing.1, tt)
         (λ exc mid after low kept held.
         let base' = set_local after context.activation scope.names.free exc.code in
         let names' = except_names scope.names in
         let context' : Context = record context { exception = exc } in
         let stays = noted_stays program linear rate body scope.names z shapes context site base
         (1 + statements_notes block) exc.code after here_surrounded kept.1 in
+        let k = context.activation in
+        let reset = reset_pointer context.data_part k mid in
+        let store' = reset_store context.data_part k base' in
+        let first_pc = target + 1 + 1 in
+        let e_pc : target + 2 ≡ first_pc = omega arith in
         block_claim program linear rate body (at (conf context site (target + 1) [] mid base')) mid
-        (price 0 0 y y) scope context context.handlers exc site
+        (price 1 0 y y) scope context context.handlers exc site
         (Stays program linear rate body names' shapes context' base') K done (go exc mid)
         (stays_out program linear rate body scope.names names' shapes context base base' refl stays)
+        (reset_claim program linear rate body context' site context.data_part (target + 1) mid base'
+        (subst (λ part. HasAt linear site.body site.regions (target + 1) (reset_code part ∷ []))
+        standing.part has.landing.2)
+        (price 0 0 y y) (price 1 0 y y) (statement_ways program linear rate body (in_except scope)
+        context' site (Stays program linear rate body names' shapes context' base') done)
+        (go exc mid) (omega arith, omega arith, omega arith)
+        (subst (λ q. Claim linear rate (at (conf context' site q [] reset store')) reset
+        (price 0 0 y y) (statement_ways program linear rate body (in_except scope) context' site
+        (Stays program linear rate body names' shapes context' base') done) (go exc mid)) e_pc
         (all_runs program linear rate body n bih (in_except scope) z shapes context' site base'
-        block (target + 1) mid base' (omega arith) (omega arith) has.block
-        (inner_except linear site.body scope site.regions (target + 1) done
-        (part_in pc hi (target + 1) done (omega arith) (omega arith) inner))
+        block (target + 2) reset store' (omega arith) (omega arith) has.block
+        (inner_except scope site.regions (target + 2) done
+        (part_in pc hi (target + 2) done (omega arith) (omega arith) inner))
         (surroundings_except program linear rate body scope.names z shapes context site base
         (statements_notes block) exc mid after here_surrounded kept)
+        (reset_stays program linear rate body names' shapes context' base' z
+        context.data_part mid base' standing.env.shape standing.base_fits
         (noted_kept program linear rate body scope.names names' z shapes context base exc.code mid
-        after refl standing.env.shape standing.past kept) held))
+        after refl standing.env.shape standing.past kept)) held))))
         (λ e store k f m fr fn. (
           subst (λ fs. Alike shapes f.memory fs store) (sym fr)
               (subst (λ mm. Alike shapes mm e.frames store) (sym m) k.0),
@@ -229,7 +253,7 @@ module _ (program : Program) (linear : LinearProgram) (rate body : ℕ) (roomy :
         ))
         (bih.try_run ss (in_try done scope) z shapes within_it inside base pc st store steps
         (omega arith) has.body
-        (inside_except linear site.body scope filter target done site.regions pc hi pcj
+        (inside_except scope filter target done site.regions pc hi pcj
         (omega arith) (omega arith) inner)
         (surroundings_try program linear rate body filter scope.names z shapes context site base pc
         target (statements_notes ss) has.filter
@@ -244,7 +268,7 @@ module _ (program : Program) (linear : LinearProgram) (rate body : ℕ) (roomy :
         → Sd (statement_notes (TryFinally ss k last)) → K st store → st.held ≡ site.held
         → C pc [] st store (price 16 1 (statement_weight (TryFinally ss k last))
         (statement_weight (TryFinally ss k last))) (pc + statement_size (TryFinally ss k last))
-        (statement (within program n) (TryFinally ss k last) context st)
+        (statement program (within program n) (TryFinally ss k last) context st)
     guarded_runs ss k last pc st store steps light has inner standing kept held =
         let x = 1 + statements_weight ss in
         let y = 1 + statements_weight last in
@@ -269,12 +293,28 @@ module _ (program : Program) (linear : LinearProgram) (rate body : ℕ) (roomy :
         pc x (at (conf context site pc [] st store)) st body_out steps inner has.end has.calls
         (bih.try_run ss (in_guarded e0 scope) z shapes context inside base pc st store steps
         (omega arith) has.body
-        (inside_finally linear site.body scope (k - 1) (e0 + 1) e0 site.regions pc hi e0
+        (inside_finally scope (k - 1) (e0 + 1) e0 site.regions pc hi e0
         (omega arith) (omega arith) inner)
         (surroundings_guarded program linear rate body scope.names z shapes context site base pc
         (e0 + 1) (k - 1) (statements_notes ss)
         (fewer notes (statements_notes ss) (max_left (statements_notes ss)
         (1 + statements_notes last)) standing)) kept held)))
+
+    declares_at : (stacked : Option StackedVariable) (x : ℕ) (value : Option Expression) (pc : ℕ)
+        (st : State) (store : Store) → st.steps_left ≤ n
+        → 1 + optional_weight value + body + 4 ≤ rate
+        → DeclaredPlaced program linear rate body z.own site.body scope.names
+        (record { local = x; stacked = stacked; value = value }) site.regions pc
+        → Sd (stacked_notes stacked) → K st store → st.held ≡ site.held
+        → C pc [] st store (price 16 1 (1 + optional_weight value) (1 + optional_weight value))
+        (pc + declared_at_size stacked value)
+        (declare_at program (within program n) stacked x value context st)
+    declares_at None x value pc st store steps light has standing kept held = declared_runs program
+        linear rate body roomy n ih bih scope z shapes context site base x value 0 pc st store steps
+        light has standing kept held
+    declares_at (Some v) x value pc st store steps light has standing kept held =
+        stacked_declared program linear rate body roomy n ih bih scope z shapes context site base v
+        v.elements value pc st store steps light has.1 has.2.0 has.2.1 has.3 standing kept held
 
     pub statement_runs : (s : Statement) (pc : ℕ) (st : State) (store : Store) → st.steps_left ≤ n
         → statement_weight s + body + 4 ≤ rate → Placed program linear rate body z.own site.body
@@ -282,11 +322,9 @@ module _ (program : Program) (linear : LinearProgram) (rate body : ℕ) (roomy :
         s site.regions pc → In pc (pc + statement_size s) → Sd (statement_notes s) → K st store
         → st.held ≡ site.held
         → C pc [] st store (price 16 1 (statement_weight s) (statement_weight s))
-        (pc + statement_size s) (statement (within program n) s context st)
-    statement_runs (Declare d) pc st store steps light has inner standing kept held = declared_runs
-        program linear rate body roomy n ih bih scope z shapes context site base d.local d.value 0
-        pc
-        st store steps light has standing kept held
+        (pc + statement_size s) (statement program (within program n) s context st)
+    statement_runs (Declare d) pc st store steps light has inner standing kept held =
+        declares_at d.stacked d.local d.value pc st store steps light has standing kept held
     statement_runs (Block ss) pc st store steps light has inner standing kept held =
         let w = statements_weight ss in
         more linear rate (at (conf context site pc [] st store)) st (price 0 0 w w)
@@ -382,6 +420,9 @@ module _ (program : Program) (linear : LinearProgram) (rate body : ℕ) (roomy :
         let end : last + 1 ≡ hi = omega arith in
         let f : ℕ → State → Outcome = λ v st. within program n (ForIteration c next s) context st in
         let g : State → Outcome = λ st. optional (within program n) 0 first context st f in
+        let notes = statement_notes (For ds first c next s) in
+        let body_standing = fewer notes (statement_notes s)
+        (max_right (declared_notes ds) (statement_notes s)) standing in
         loop_lands program linear rate body roomy n ih bih scope z shapes context site base
         (at (conf context site pc [] st store)) last hi st wl w
         (and_then (declare_each (within program n) ds context st) g) (omega arith) end
@@ -393,15 +434,16 @@ module _ (program : Program) (linear : LinearProgram) (rate body : ℕ) (roomy :
         (joins (omega arith) (omega arith) (omega arith) (omega arith)) (omega arith)
         (declares_runs ds pc st store steps (omega arith) has.declared
         (part_in pc hi pc begin (omega arith) (omega arith) inner)
-        (fewer (statement_notes s) 0 (omega arith) standing) kept held)
+        (fewer notes (declared_notes ds) (max_left (declared_notes ds) (statement_notes s))
+        standing) kept held)
         (λ mid after low kept held.
         discard_then program linear rate body roomy n ih bih scope z shapes context site base first
         0 (statement_notes s) begin mid after (price 0 0 wi wi) (price 1 0 (wf + wi) (wf + wi))
         last f (omega arith) (omega arith) (joins (omega arith) (omega arith) (omega arith)
-        (omega arith)) has.first has.begins standing kept held
+        (omega arith)) has.first has.begins body_standing kept held
         (λ v mid after steps kept held. bih.for_run c next s scope z shapes context site base
         iteration mid after steps (omega arith) has.iterations
-        (part_in pc hi iteration last (omega arith) (omega arith) inner) standing kept held)))
+        (part_in pc hi iteration last (omega arith) (omega arith) inner) body_standing kept held)))
     statement_runs (DoWhile s c) pc st store steps light has inner standing kept held =
         let wi = 1 + statement_weight s + expression_weight c in
         let w = 2 + statement_weight s + expression_weight c in

@@ -1,7 +1,7 @@
 -- Statements, and iterations of loops, after their step.
 use Rattle.std.proofs.Common.{◌≡◌, inl, ◌≤◌, ℕ, ◌+◌, List, [], ◌∷◌, refl, sym, arith}
 use Rattle.std.specs.Prelude.{nat_eq, Option, Some, None}
-use Rattle.lowering_follows.specs.Words.{Expression, Statement, Program, State, Normal, Outcome, Gives, choose, with_value, Context, Eval, Run, ForIteration, DoIteration, optional, for_iteration, do_iteration, within, Temporary, JumpIfZero, Region, LinearProgram, BodyName, Store, LoweringContext, expression_size, discarded_size, condition_size, statement_size, statement_notes, expression_code, expression_weight, optional_weight, statement_weight, ForPlaced, DoPlaced, for_end, do_end}
+use Rattle.lowering_follows.specs.Words.{Expression, Statement, Program, State, Normal, Outcome, Gives, choose, with_value, Context, Eval, Run, ForIteration, DoIteration, optional, for_iteration, do_iteration, within, Temporary, JumpIfZero, Region, LinearProgram, Store, LoweringContext, expression_size, discarded_size, condition_size, statement_size, statement_notes, expression_code, expression_weight, optional_weight, statement_weight, ForPlaced, DoPlaced, for_end, do_end}
 use Rattle.source_meaning.specs.Statements.{in_loop}
 use Rattle.lowering_follows.proofs.Lemmas.{at, Site, conf, Ways, Price, price, joins, more, chosen, Around, around_part, holds_yes}
 use Rattle.lowering_expressions.specs.Scope as scopes
@@ -10,7 +10,7 @@ use Rattle.lowering_follows.proofs.Places.{has_front, has_after}
 use Rattle.lowering_follows.proofs.Lengths.{expression_length}
 use Rattle.lowering_follows.proofs.Turns.{jump_turn, test_turn}
 use Rattle.lowering_follows.proofs.TaskClaims.{Runs}
-use Rattle.lowering_follows.proofs.BodyClaims.{Lands, Inner, exit_part, Surroundings, BodyRuns, statement_eval}
+use Rattle.lowering_follows.proofs.BodyClaims.{Lands, Inner, jump_part, Surroundings, BodyRuns, statement_eval}
 use Rattle.lowering_follows.proofs.BodyParts.{Ks, S, G, starts_at, continue_from, separator_turn, here, discard_then, loop_ends}
 
 lands_around : (rs : List Region) (lo hi label : ℕ) → Around rs lo hi → lo ≤ label → label ≤ hi
@@ -20,12 +20,12 @@ lands_around (r ∷ rs) lo hi label a l h = let x = a.0 in
     inl (holds_yes r label (omega arith) (omega arith))
 
 -- the body of a loop
-inside_loop : (linear : LinearProgram) (b : BodyName) (scope : LoweringContext) (rs : List Region)
+inside_loop : (scope : LoweringContext) (rs : List Region)
     (lo hi start again : ℕ) → lo ≤ start → start ≤ again → again ≤ hi
-    → Inner linear b scope rs lo hi → Inner linear b (scopes.in_loop hi again scope) rs start again
-inside_loop linear b scope rs lo hi start again l m h f = record {
+    → Inner scope rs lo hi → Inner (scopes.in_loop hi again scope) rs start again
+inside_loop scope rs lo hi start again l m h f = record {
   around = around_part rs lo hi start again l h f.around;
-  exit = exit_part linear b rs hi again scope.exit h f.exit;
+  exit = jump_part rs hi again scope.exit h f.exit;
   loop_end = (h, lands_around rs lo hi hi f.around (omega arith) (omega arith));
   loop_next = (omega arith, lands_around rs lo hi again f.around (omega arith) h);
 }
@@ -48,7 +48,7 @@ module _ (program : Program) (linear : LinearProgram) (rate body : ℕ) (roomy :
     Sd notes = Surroundings program linear rate body scope.names z shapes context site base notes
 
     abbrev In : ℕ → ℕ → Type 0
-    In lo hi = Inner linear site.body scope site.regions lo hi
+    In lo hi = Inner scope site.regions lo hi
 
     -- ---- loops
 
@@ -114,7 +114,7 @@ module _ (program : Program) (linear : LinearProgram) (rate body : ℕ) (roomy :
         (λ mid after low kept held. for_tail c next s pc mid after (omega arith) light has inner
         standing kept held)
         (bih.run s (scopes.in_loop end again scope) z shapes context site base start st store steps
-        (omega arith) has.body (inside_loop linear site.body scope site.regions pc end start again
+        (omega arith) has.body (inside_loop scope site.regions pc end start again
         (omega arith) (omega arith) (omega arith) inner) standing kept held)
 
     pub for_runs : (c next : Option Expression) (s : Statement) (pc : ℕ) (st : State)
@@ -240,5 +240,5 @@ module _ (program : Program) (linear : LinearProgram) (rate body : ℕ) (roomy :
         (λ mid after low kept held. do_tail s c pc mid after (omega arith) light has inner standing
         kept held)
         (bih.run s (scopes.in_loop end again scope) z shapes context site base pc st store steps
-        (omega arith) has.body (inside_loop linear site.body scope site.regions pc end pc again
+        (omega arith) has.body (inside_loop scope site.regions pc end pc again
         (omega arith) (omega arith) (omega arith) inner) standing kept held)

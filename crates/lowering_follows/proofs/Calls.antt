@@ -5,7 +5,7 @@ use Rattle.std.proofs.lemmas.List.{length_push, take_at, drop_at}
 use Rattle.std.specs.Prelude.{Bool, take, nat_eq, get_or, slice_get, if◌then◌else◌, Some, None}
 use Rattle.std.specs.Prelude.{is_some, reverse}
 use Rattle.lowering_follows.specs.Words.{W64, W32, Arguments, Done, Program, Function, State, Value, Outcome, Gives, Exception, set_memory, emit, and_then, Context, Raise, of_test, enter, raised, each, call_built_in, within, Instruction, LinearProgram, LinearFunction, Store, Seen, Waits, deeper, with_some, AfterCall, last_temporaries, exec, Names, expression_size, arguments_size, expression_code, node_code, argument_count, arguments_code, NodeFits, ArgumentsFit, expression_weight, node_weight, arguments_weight, HasAt, signed, BuiltIn, Put, Protect, RaiseException, Walk, raise, count_of, begin_function, waiting, built_in, protected, rights_asked, Call, CallBuiltIn, Next}
-use Rattle.linear_code.specs.Program.{weight}
+use Rattle.linear_code.specs.Program.{depth_weight}
 use Rattle.c_checked.specs.Expression as nodes
 use Rattle.lowering_follows.proofs.Lemmas.{Part, Site, conf, price, joins, frame_of, more, then_plain, fetch, first, stepped, prefix_self}
 use Rattle.lowering_follows.proofs.Stores.{Shape}
@@ -13,7 +13,7 @@ use Rattle.lowering_follows.proofs.Places.{has_at, has_front, has_after}
 use Rattle.lowering_follows.proofs.Lengths.{expression_length}
 use Rattle.lowering_follows.proofs.TaskClaims.{pushed, Around, Runs}
 use Rattle.lowering_follows.proofs.NodeParts.{Kp, Wv, From, from_at, here_value}
-use Rattle.lowering_follows.proofs.Nodes.{NodeRuns, operand_runs}
+use Rattle.lowering_follows.proofs.Nodes.{RunsIn, NodeRuns, operand_runs}
 use Rattle.seh_num.specs.declared.event.Event.TheVariants as events
 use Rattle.lowering_follows.proofs.Stores.{memory_alike}
 use Rattle.lowering_follows.proofs.Environments.{functions_at as functions_here}
@@ -113,14 +113,14 @@ module _ (program : Program) (linear : LinearProgram) (rate body : ℕ)
         (store : Store) (k : ℕ) → At pc (Call f (length temps) count ∷ []) → length vs ≡ count
         → slice_get linear.functions f ≡ Some lf
         → exec linear (suc k) (conf context site pc (temps ++ vs) st store)
-        ≡ deeper (weight lf) site.held store st.events (exec linear k
+        ≡ deeper (depth_weight lf) site.held store st.events (exec linear k
         (begin_function f lf vs site.held (Waits (frame_of context site pc temps) ∷ site.below)
         store st.events))
     unfolding with_some
     call_turn f count pc temps vs lf st store k has len there =
         let d = length temps in
         let begins : List ℕ → List ℕ → LinearFunction
-        → Seen = λ ts vs lf. deeper (weight lf) site.held store st.events
+        → Seen = λ ts vs lf. deeper (depth_weight lf) site.held store st.events
         (exec linear k (begin_function f lf vs site.held
         (Waits (frame_of context site pc ts) ∷ site.below) store st.events)) in
         fetch linear rate (conf context site pc (temps ++ vs) st store) (Call f d count) k has.0
@@ -133,18 +133,18 @@ module _ (program : Program) (linear : LinearProgram) (rate body : ℕ)
         (store : Store) (x o : ℕ) → slice_get program.functions f ≡ Some fn → length vs ≡ count
         → count ≡ length fn.parameters → st.steps_left ≤ n → o + 1 + body + 3 ≤ rate → x ≤ o
         → At pc (Call f (length temps) count ∷ []) → Km st store → st.held ≡ site.held
-        → G pc (temps ++ vs) st store 13 x o o (pushed context site (pc + 1) temps)
-        (enter (within program n) f (Some fn) vs context st)
+        → G pc (temps ++ vs) st store 14 x o o (pushed context site (pc + 1) temps)
+        (enter program (within program n) f (Some fn) vs context st)
     called_runs f fn count pc temps vs st store x o there len same steps light le has kept held =
         let lf = functions_at f fn there in
         first linear rate (conf context site pc (temps ++ vs) st store)
-        (λ next. deeper (weight lf.0) site.held store st.events
+        (λ next. deeper (depth_weight lf.0) site.held store st.events
         (next (begin_function f lf.0 vs site.held
         (Waits (frame_of context site pc temps) ∷ site.below) store st.events))) st st
-        (price 3 0 body body) (price 13 x o o)
+        (price 13 0 body body) (price 14 x o o)
         (Wv program linear rate body same_globals roomy n ih names info z shapes context site base
         around (pushed context site (pc + 1) temps))
-        (enter (within program n) f (Some fn) vs context st)
+        (enter program (within program n) f (Some fn) vs context st)
         (omega arith, omega arith, omega arith) refl refl (prefix_self st.events)
         (λ k. call_turn f count pc temps vs lf.0 st store k has len lf.1)
         (ih.call f fn lf.0 vs names info z shapes context site base pc temps st store steps there
@@ -154,8 +154,8 @@ module _ (program : Program) (linear : LinearProgram) (rate body : ℕ)
         → st.steps_left ≤ n → 1 + node_weight (nodes.Call f es) + body + 4 ≤ rate
         → NodeFits program z.own info (nodes.Call f es)
         → At pc (node_code names (nodes.Call f es) (length temps) pc)
-        → Km st store → st.held ≡ site.held → NodeRuns program linear rate body same_globals roomy n
-        ih names info z shapes context site base around (nodes.Call f es) pc temps st store
+        → Km st store → st.held ≡ site.held → RunsIn program linear rate body same_globals roomy n
+        ih names info z shapes context site base around 14 (nodes.Call f es) pc temps st store
     call_node f es pc temps st store steps light fits has kept held =
         let d = length temps in
         let w = 1 + arguments_weight es in
@@ -163,14 +163,14 @@ module _ (program : Program) (linear : LinearProgram) (rate body : ℕ)
         let fn = fits.1.function in
         let end : pc1 + 1 ≡ pc + (arguments_size es + 1) = omega arith in
         let part = pushed context site (pc + (arguments_size es + 1)) temps in
-        arguments_runs es (Call f d (argument_count es) ∷ []) pc temps st store 13 1 w part
-        (λ vs st. enter (within program n) f (slice_get program.functions f) vs context st) steps
-        (omega arith) (omega arith) fits.0 has kept held
+        arguments_runs es (Call f d (argument_count es) ∷ []) pc temps st store 14 1 w part
+        (λ vs st. enter program (within program n) f (slice_get program.functions f) vs context st)
+        steps (omega arith) (omega arith) fits.0 has kept held
         (λ vs mid after len steps kept held last.
-        subst (λ q. G pc1 (temps ++ vs) mid after 13 w w w (pushed context site q temps)
-        (enter (within program n) f (slice_get program.functions f) vs context mid)) end
-        (subst (λ o. G pc1 (temps ++ vs) mid after 13 w w w (pushed context site (pc1 + 1) temps)
-        (enter (within program n) f o vs context mid)) (sym fits.1.there)
+        subst (λ q. G pc1 (temps ++ vs) mid after 14 w w w (pushed context site q temps)
+        (enter program (within program n) f (slice_get program.functions f) vs context mid)) end
+        (subst (λ o. G pc1 (temps ++ vs) mid after 14 w w w (pushed context site (pc1 + 1) temps)
+        (enter program (within program n) f o vs context mid)) (sym fits.1.there)
         (called_runs f fn (argument_count es) pc1 temps vs mid after w w fits.1.there len
         fits.1.takes steps (omega arith) (omega arith) last kept held)))
 

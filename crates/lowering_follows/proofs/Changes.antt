@@ -2,7 +2,7 @@
 use Rattle.std.proofs.Common.{◌≡◌, ◌≤◌, ℕ, ◌+◌, List, [], ◌∷◌, ◌++◌, length, refl, ap, sym, subst, ◌∙◌, arith, append_assoc}
 use Rattle.std.proofs.lemmas.List.{length_push}
 use Rattle.std.specs.Prelude.{Bool, Some}
-use Rattle.lowering_follows.specs.Words.{Operation, Conversion, Expression, Lvalue, Global, Indirection, Element, Program, State, Value, Outcome, Gives, with_value, Context, Eval, converted, operate, read, write, incremented_value, within, Temporary, Instruction, LinearProgram, Store, with_temporary, Names, address_count, read_size, conversion_size, expression_size, locate_size, node_size, constant, combine, copy, conversion_code, expression_code, read_code, write_code, locate_code, node_code, chosen_of, NodeFits, expression_weight, lvalue_weight, node_weight, HasAt, Local}
+use Rattle.lowering_follows.specs.Words.{Operation, Conversion, Expression, Lvalue, Global, Stacked, Indirection, Element, Program, State, Value, Outcome, Gives, with_value, Context, Eval, converted, operate, read, write, incremented_value, within, Temporary, Instruction, LinearProgram, Store, with_temporary, Names, address_count, read_size, conversion_size, expression_size, locate_size, node_size, constant, combine, copy, conversion_code, expression_code, read_code, write_code, locate_code, node_code, chosen_of, NodeFits, expression_weight, lvalue_weight, node_weight, HasAt, Local}
 use Rattle.c_operations.specs.declared.operation.Pure.TheVariants as pures
 use Rattle.c_checked.specs.declared.expression.Fixity.{Fixity}
 use Rattle.c_checked.specs.declared.expression.Fixity.TheVariants.{Postfix, Prefix}
@@ -104,14 +104,14 @@ module _ (program : Program) (linear : LinearProgram) (rate body : ℕ)
         (λ x mid after_read steps kept held.
         let x' = converted before x in
         conversion_then program linear rate body same_globals roomy n ih names info z shapes context
-        site base around before x ts pc2 mid after_read 8 0 w w part
+        site base around before x ts pc2 mid after_read 9 0 w w part
         (with_value (within program n (Eval e) context mid)
         (λ y st. with_value (operate program (within program n) o x' y context st)
         (λ u st. write program (within program n) p a (converted after u) context st)))
         (has_front linear site.body site.regions pc2 (conversion_code before l) (from_value l pc3)
         h2)
         (sub_eval program linear rate body same_globals roomy n ih names info z shapes context site
-        base around e pc3 (ts ++ x' ∷ []) mid after_read 8 0 w w part
+        base around e pc3 (ts ++ x' ∷ []) mid after_read 9 0 w w part
         (λ y st. with_value (operate program (within program n) o x' y context st)
         (λ u st. write program (within program n) p a (converted after u) context st))
         steps (omega arith) (omega arith) fits.1
@@ -120,20 +120,20 @@ module _ (program : Program) (linear : LinearProgram) (rate body : ℕ)
         (λ y mid after_value steps kept held.
         sub_operate program linear rate body same_globals roomy n ih names info z shapes context
         site base around o x' y l l (l + 1) x' y (λ v. ts ++ v ∷ []) pc4
-        ((ts ++ x' ∷ []) ++ y ∷ []) mid after_value 7 (0 + we) w w part
+        ((ts ++ x' ∷ []) ++ y ∷ []) mid after_value 8 (0 + we) w w part
         (λ u st. write program (within program n) p a (converted after u) context st)
         fits.2 steps (omega arith) (omega arith) (h4.0, h4.1, tt) (combining ts x' y) (λ m. refl)
         kept held
         (λ u mid after_operation steps kept held.
         let u' = converted after u in
         conversion_then program linear rate body same_globals roomy n ih names info z shapes context
-        site base around after u ts (pc4 + 1) mid after_operation 4 0 w w part
+        site base around after u ts (pc4 + 1) mid after_operation 6 0 w w part
         (write program (within program n) p a u' context mid)
         (has_front linear site.body site.regions (pc4 + 1) (conversion_code after l)
         (write_code p d l d ∷ []) h4.2)
-        (subst (λ q. G' pc6 (ts ++ u' ∷ []) mid after_operation 4 0 w w
+        (subst (λ q. G' pc6 (ts ++ u' ∷ []) mid after_operation 6 0 w w
         (pushed context site q temps) (write program (within program n) p a u' context mid)) end
-        (more linear rate _ mid (price 1 0 0 0) (price 4 0 w w)
+        (more linear rate _ mid (price 1 0 0 0) (price 6 0 w w)
         (Wv program linear rate body same_globals roomy n ih names info z shapes context site base
         around (pushed context site (pc6 + 1) temps))
         (write program (within program n) p a u' context mid)
@@ -166,6 +166,7 @@ module _ (program : Program) (linear : LinearProgram) (rate body : ℕ)
         (λ v. (located p temps a ++ x ∷ []) ++ v ∷ [])
     new_fits (Local y) a x v temps = (top_get (temps ++ x ∷ []) v, refl)
     new_fits (Global access g) a x v temps = new_memory a x v temps
+    new_fits (Stacked access b o) a x v temps = new_memory a x v temps
     new_fits (Indirection access e) a x v temps = new_memory a x v temps
     new_fits (Element access e i) a x v temps = new_memory a x v temps
 
@@ -182,6 +183,7 @@ module _ (program : Program) (linear : LinearProgram) (rate body : ℕ)
         ≡ Some (temps ++ v ∷ [])
     all_put (Local y) a x new temps v = (combining temps x new).writes v
     all_put (Global access g) a x new temps v = all_memory a x new temps v
+    all_put (Stacked access b o) a x new temps v = all_memory a x new temps v
     all_put (Indirection access e) a x new temps v = all_memory a x new temps v
     all_put (Element access e i) a x new temps v = all_memory a x new temps v
 
@@ -286,31 +288,31 @@ module _ (program : Program) (linear : LinearProgram) (rate body : ℕ)
         (λ k. pure_turn linear rate context site pures.First (l + 1) l l x x (λ v. us ++ v ∷ []) pc2
         us mid after_read k refl (h2.0, h2.1, tt) copied)
         (conversion_then program linear rate body same_globals roomy n ih names info z shapes
-        context site base around before x us pc3 mid after_read 7 0 w w part
+        context site base around before x us pc3 mid after_read 8 0 w w part
         (with_value (operate program (within program n) o x' amount context mid) operated)
         (has_front linear site.body site.regions pc3 (conversion_code before i)
         (constant (l + 2) amount ∷ combine i o ∷ tail i l) h3)
         (turn program linear rate body same_globals roomy n ih names info z shapes context site base
-        around pc4 (pc4 + 1) (us ++ x' ∷ []) ((us ++ x' ∷ []) ++ amount ∷ []) mid after_read 6 0 w
+        around pc4 (pc4 + 1) (us ++ x' ∷ []) ((us ++ x' ∷ []) ++ amount ∷ []) mid after_read 7 0 w
         w part (with_value (operate program (within program n) o x' amount context mid) operated)
         (λ k. constant_turn linear rate context site amount (l + 2) ((us ++ x' ∷ []) ++ amount ∷ [])
         pc4 (us ++ x' ∷ []) mid after_read k fits.1 (h4.0, h4.1, tt)
         (ap (λ j. with_temporary (us ++ x' ∷ []) j amount) two ∙ push_put (us ++ x' ∷ []) amount))
         (sub_operate program linear rate body same_globals roomy n ih names info z shapes context
         site base around o x' amount i i (i + 1) x' amount (λ v. us ++ v ∷ []) (pc4 + 1)
-        ((us ++ x' ∷ []) ++ amount ∷ []) mid after_read 5 0 w w part operated
+        ((us ++ x' ∷ []) ++ amount ∷ []) mid after_read 6 0 w w part operated
         fits.2 steps (omega arith) (omega arith) (h4.2.0, h4.2.1, tt) (combining us x' amount)
         (λ m. refl) kept held
         (λ u mid after_operation steps kept held.
         let u' = converted after u in
         conversion_then program linear rate body same_globals roomy n ih names info z shapes context
-        site base around after u us pc5 mid after_operation 2 0 w w part (operated u mid)
+        site base around after u us pc5 mid after_operation 4 0 w w part (operated u mid)
         (has_front linear site.body site.regions pc5 (conversion_code after i)
         (write_code p d i i ∷ copy (Temporary d) (Temporary (chosen_of m l)) ∷ []) h4.2.2)
         (then_value linear rate _ (λ v st store. at
         (conf context site (pc6 + 1) (us ++ v ∷ []) st store))
         (Wv program linear rate body same_globals roomy n ih names info z shapes context site base
-        around part) mid (price 1 0 0 0) (price 1 0 w w) (price 2 0 w w)
+        around part) mid (price 1 0 0 0) (price 3 0 w w) (price 4 0 w w)
         (write program (within program n) p a u' context mid)
         (λ new st. Gives (Value (incremented_value m x new)) st)
         (joins (omega arith) (omega arith) (omega arith) (omega arith))
@@ -320,11 +322,11 @@ module _ (program : Program) (linear : LinearProgram) (rate body : ℕ)
         (λ new mid after_write lower kept held.
         let v = incremented_value m x new in
         turn program linear rate body same_globals roomy n ih names info z shapes context site base
-        around (pc6 + 1) (pc6 + 1 + 1) (us ++ new ∷ []) (temps ++ v ∷ []) mid after_write 0 0 w w
+        around (pc6 + 1) (pc6 + 1 + 1) (us ++ new ∷ []) (temps ++ v ∷ []) mid after_write 2 0 w w
         part (Gives (Value v) mid)
         (λ k. pure_turn linear rate context site pures.First d (chosen_of m l) (chosen_of m l) v v
         (λ v. temps ++ v ∷ []) (pc6 + 1) (us ++ new ∷ []) mid after_write k refl h6.2
         (chosen_fits m p a x new temps))
         (here_other program linear rate body same_globals roomy n ih names info z shapes context
-        site base around (pc6 + 1 + 1) last_pc temps v mid after_write 0 0 w w end (omega arith)
+        site base around (pc6 + 1 + 1) last_pc temps v mid after_write 2 0 w w end (omega arith)
         kept held)))))))))

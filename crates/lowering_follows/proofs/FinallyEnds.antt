@@ -1,20 +1,19 @@
 -- A `__finally` block runs for every result of the body on its way out.
-use Rattle.std.proofs.Common.{◌≡◌, inl, inr, ◌<◌, ◌≤◌, ℕ, suc, ◌+◌, List, [], ◌∷◌, ◌++◌, length, refl, ap, sym, ◌∙◌, arith}
+use Rattle.std.proofs.Common.{◌≡◌, inl, inr, ◌<◌, ◌≤◌, ℕ, ◌+◌, List, [], ◌∷◌, ◌++◌, length, refl, ap, sym, ◌∙◌, arith}
 use Rattle.std.specs.Prelude.{◌-◌, Bool, true, false, Some, None}
-use Rattle.lowering_follows.specs.Words.{Statements, Program, State, Value, Normal, Returned, Broke, Continued, LeftTry, Target, End, Outcome, Gives, and_then, Result, Context, RunFinally, finally_after, within, Temporary, CallFinally, Separator, Region, LinearProgram, Item, Waits, Store, Configuration, Finished, with_some, deeper, Unwinds, handlers_in, handlers, begin_finally, target_past, unwind, flag_in, flag_of, run_finally, target_of, end_body, instruction_in, exec, Names, LoweringContext, Nowhere, Jumps, in_guarded, region, statements_notes, statements_weight, HasAt, HasFunclet, FinallyPlaced}
+use Rattle.lowering_follows.specs.Words.{Statements, Program, State, Value, Normal, Returned, Broke, Continued, LeftTry, Target, End, Outcome, Gives, and_then, Result, Context, RunFinally, finally_after, within, CallFinally, Separator, Region, LinearProgram, Item, Waits, Store, Configuration, Finished, with_some, deeper, Unwinds, handlers_in, handlers, begin_finally, target_past, unwind, flag_in, flag_of, run_finally, target_of, exec, Names, LoweringContext, Nowhere, Jumps, in_guarded, region, statements_notes, statements_weight, HasAt, HasFunclet, FinallyPlaced}
 use Rattle.linear_machine.specs.Frames.{Next}
-use Rattle.linear_code.specs.declared.instruction.Instruction.TheVariants as instructions
 use Rattle.linear_code.specs.declared.program.RegionKind.TheVariants as regions
 use Rattle.linear_code.specs.declared.program.FuncletKind.TheVariants as kinds
 use Rattle.linear_machine.specs.Frames as machine
-use Rattle.lowering_follows.proofs.Lemmas.{Part, at, Site, frame_of, conf, Way, Never, To, Out, Ways, Price, price, Join, found, Reaches, Arrives, Claim, normal_ways, joins, more, attains_out, after, reaches_after, finishes_more, stops_more, then_held, onto, still, stepped, first, fetch, prefix_self, Outward, starts}
+use Rattle.lowering_follows.proofs.Lemmas.{Part, at, Site, frame_of, conf, Way, Never, To, Out, Ways, Price, price, Join, found, Reaches, Arrives, Claim, normal_ways, joins, more, attains_out, after, finishes_more, stops_more, then_held, onto, still, stepped, first, fetch, prefix_self, Outward, starts}
 use Rattle.linear_machine.proofs.Stretch.{Kept, unwound}
 use Rattle.lowering_expressions.specs.declared.scope.Way.TheVariants.{Unwinds as UnwindsTo}
 use Rattle.lowering_expressions.specs.declared.scope.Way as jumps
 use Rattle.lowering_expressions.specs.Scope as scopes
 use Rattle.lowering_follows.proofs.Stores.{Shape}
 use Rattle.lowering_follows.proofs.Raises.{unwound_is, IsFunclet}
-use Rattle.lowering_follows.proofs.BodyClaims.{JumpFits, ExitFits, Inner, comes_there, own_target, finally_site, exit_way, jump_way, statement_ways, Stays, Surroundings, BodyRuns}
+use Rattle.lowering_follows.proofs.BodyClaims.{JumpFits, Inner, comes_there, own_target, finally_site, exit_way, jump_way, statement_ways, Stays, Surroundings, BodyRuns}
 use Rattle.lowering_follows.proofs.Tries.{within_region}
 use Rattle.lowering_follows.proofs.TryEnds.{outward}
 
@@ -181,17 +180,8 @@ module _ (program : Program) (linear : LinearProgram) (rate body : ℕ) where
         (λ j. fetch linear rate (conf context site end [] st store) Separator j parted.0)
         (called st store steps has kept held)
 
-    returns : (label v : ℕ) (mid : State) (store' : Store) (j : ℕ)
-        → instruction_in (machine.body_of linear site.body) label
-        ≡ Some (instructions.Return (Temporary 0))
-        → exec linear (suc j) (conf context site label (v ∷ []) mid store')
-        ≡ end_body linear (exec linear j) site.body v (conf context site label (v ∷ []) mid store')
-    unfolding with_some
-    returns label v mid store' j h = fetch linear rate (conf context site label (v ∷ []) mid store')
-        (instructions.Return (Temporary 0)) j h
-
     by_exit : (s : Part) (from : State) (x : ℕ) (way : jumps.Way) (v done : ℕ) (st : State)
-        → st.steps_left ≤ n → ExitFits linear site.body site.regions hi way
+        → st.steps_left ≤ n → JumpFits site.regions hi way
         → Arrives linear rate s from (price 0 0 x x) Kf site.held st
         (exit_way program linear rate body context inside (scopes.unwound way) v)
         → Claim linear rate s from (price 1 0 (x + y) (x + y))
@@ -206,32 +196,17 @@ module _ (program : Program) (linear : LinearProgram) (rate body : ℕ) where
         let far = f.0 in
         unwinds_on s from x p.0 (v ∷ []) to (Returned v) st p.1.store w steps p.1.same p.1.fits
         (inr (inl (omega arith))) p.1.reaches
-        (λ mid store' low kept held. (
-          label,
-          record {
-            store = store';
-            fits = kept;
-            same = held;
-            reaches =
-                reaches_after linear rate (unwound linear rate context site to (v ∷ []) mid store'
-                p.0) (at (conf context site label (v ∷ []) mid store'))
-                (λ next. end_body linear next site.body v
-                (conf context site label (v ∷ []) mid store')) mid mid mid 0 0 0 1 0 0 1 0 0
-                (omega arith) (omega arith)
-                (still linear rate (unwound linear rate context site to (v ∷ []) mid store' p.0)
-                (at (conf context site label (v ∷ []) mid store')) mid mid 0 0 0 refl
-                (omega arith) (prefix_self mid.events)
-                (λ j. comes_there linear (exec linear j) to
-                (λ store. unwind linear (exec linear j) (target_past site.body to) site.below None
-                mid.events store) site.regions (conf context site p.0 (v ∷ []) mid store') refl
-                f.1))
-                (stepped linear rate (conf context site label (v ∷ []) mid store')
-                (λ next. end_body linear next site.body v
-                (conf context site label (v ∷ []) mid store')) mid mid 1 0 0 refl (omega arith)
-                (omega arith) refl (prefix_self mid.events)
-                (λ j. returns label v mid store' j f.2));
-          },
-        ))
+        (λ mid store' low kept held. record {
+          store = store';
+          fits = kept;
+          same = held;
+          reaches = still linear rate (unwound linear rate context site to (v ∷ []) mid store' p.0)
+              (at (conf context site label (v ∷ []) mid store')) mid mid 1 0 0 refl (omega arith)
+              (prefix_self mid.events)
+              (λ j. comes_there linear (exec linear j) to
+              (λ store. unwind linear (exec linear j) (target_past site.body to) site.below None
+              mid.events store) site.regions (conf context site p.0 (v ∷ []) mid store') refl f.1);
+        })
     by_exit s from x (UnwindsTo label) v done st steps f p =
         let to = own_target site label in
         let w = statement_ways program linear rate body (record scope { exit = UnwindsTo label })
@@ -308,7 +283,7 @@ module _ (program : Program) (linear : LinearProgram) (rate body : ℕ) where
 
     -- the end of a `__try` with a `__finally`
     pub finally_ends : (lo x : ℕ) (s : Part) (from : State) (o : Outcome) → from.steps_left ≤ n
-        → Inner linear site.body scope site.regions lo hi
+        → Inner scope site.regions lo hi
         → HasAt linear site.body (R ∷ site.regions) end (Separator ∷ [])
         → HasAt linear site.body site.regions (end + 1) (CallFinally (k - 1) ∷ Separator ∷ [])
         → Claim linear rate s from (price 0 0 x x)

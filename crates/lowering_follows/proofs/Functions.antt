@@ -3,21 +3,23 @@ use Rattle.std.proofs.Common.{◌≡◌, ◌<◌, ◌≤◌, ℕ, zero, suc, ◌
 use Rattle.std.proofs.lemmas.List.{length-replicate}
 use Rattle.std.proofs.lemmas.Option.{slice_get_within}
 use Rattle.std.specs.Prelude.{◌-◌, Bool, false, take, replicate, get_or, slice_get, Option, Some, None}
-use Rattle.lowering_follows.specs.Words.{Filter, Always, Funclet, Program, Function, State, Value, Normal, Returned, Target, Outcome, Gives, Context, Handler, no_exception, all, ended_call, enter, within, Temporary, LinearProgram, LinearFunction, FunctionBody, Item, Waits, Store, with_some, deeper, regions_at, handlers_in, handlers, target_past, unwind, target_of, begin_function, exec, Names, LoweringContext, Nowhere, Jumps, statements_size, statements_notes, constant, own_locals, scope_of, statements_weight, HasAt, FunctionPlaced, with_activation, with_outermost, hold_surplus, let_go_surplus, count_steps, surplus}
-use Rattle.linear_code.specs.Program.{weight}
+use Rattle.lowering_follows.specs.Words.{Filter, Always, Funclet, Program, Function, DataFrame, part_of, close_part, open_frame, body_start, State, Value, Normal, Returned, Target, Outcome, Gives, Context, Handler, no_exception, all, ended_call, enter, within, Temporary, LinearProgram, LinearFunction, FunctionBody, Item, Waits, Store, with_some, deeper, regions_at, handlers_in, handlers, target_past, unwind, target_of, begin_function, exec, Names, LoweringContext, statements_size, statements_notes, own_locals, scope_of, statements_weight, HasAt, FunctionPlaced, with_activation, with_outermost, hold_surplus, let_go_surplus, count_steps, surplus}
+use Rattle.linear_code.specs.Program.{depth_weight}
 use Rattle.source_meaning.specs.State.{counting}
 use Rattle.linear_code.specs.declared.instruction.Instruction.TheVariants as instructions
 use Rattle.linear_machine.specs.Frames as machine
-use Rattle.lowering_follows.proofs.Lemmas.{Part, at, Site, frame_of, conf, Picked, Ways, price, found, Reaches, Claim, value_ways, more, attains_out, reaches_after, reaches_more, stepped, first, fetch, sooner, deep_claim, prefix_self, handlers_below, leaves}
-use Rattle.linear_machine.proofs.Stretch.{Kept}
+use Rattle.lowering_follows.proofs.Lemmas.{Part, at, Site, frame_of, conf, Picked, Ways, price, found, Reaches, Arrives, Claim, value_ways, more, attains_out, reaches_after, stepped, first, fetch, sooner, deep_claim, prefix_self, handlers_below, leaves}
+use Rattle.linear_machine.proofs.Stretch.{Kept, To}
 use Rattle.lowering_follows.proofs.Stores.{at_push_old, Shape, FrameAlike, Places, NotesKept, everywhere, below_slot, kept_itself, kept_through, get_push_new, get_pushed, push_alike, take_alike, call_kept, push_functions, push_inwards, take_functions}
-use Rattle.lowering_follows.proofs.Turns.{constant_turn}
 use Rattle.lowering_follows.proofs.Environments.{FlagBound, HowFits, Match, match_kept}
 use Rattle.lowering_follows.proofs.TaskClaims.{pushed, Within, Around}
 use Rattle.lowering_follows.proofs.Raises.{unwound_is}
 use Rattle.lowering_follows.proofs.BodyClaims.{statement_ways, Stays, Surroundings, BodyRuns}
 use Rattle.lowering_follows.proofs.BodySequences.{all_runs}
 use Rattle.lowering_follows.proofs.Beginnings.{separators_claim}
+use Rattle.lowering_follows.proofs.StackPointers.{base_of}
+use Rattle.lowering_follows.proofs.Openings.{opened_claim}
+use Rattle.lowering_follows.proofs.Closings.{closed_stays, closes, ended_ways, last_of, last_has}
 
 -- ---- the locals of an activation that begins
 
@@ -110,8 +112,8 @@ module _ (program : Program) (linear : LinearProgram) (rate body : ℕ) where
 
   module _ (k : ℕ) (lf : LinearFunction) (scope : LoweringContext) (new : Shape)
       (shapes : List Shape) (context : Context) (site : Site) (base : Store) (pc : ℕ)
-      (temps : List ℕ) (m extra : ℕ) (store : Store) (locals : List ℕ)
-      (same_extra : lf.surplus ≡ extra) (same_m : m ≡ length shapes)
+      (temps : List ℕ) (m extra : ℕ) (frame : Option DataFrame) (store : Store) (locals : List ℕ)
+      (same_extra : lf.surplus + lf.data_surplus ≡ extra) (same_m : m ≡ length shapes)
       (same : length store.activations ≡ length shapes)
       (walked : regions_at linear site.body pc ≡ site.regions)
       (kept : NotesKept everywhere shapes base store) where
@@ -119,6 +121,7 @@ module _ (program : Program) (linear : LinearProgram) (rate body : ℕ) where
     callee = record {
       handlers = context.handlers;
       activation = m;
+      data_part = part_of frame;
       exception = no_exception;
       abnormal = false;
     }
@@ -129,7 +132,7 @@ module _ (program : Program) (linear : LinearProgram) (rate body : ℕ) where
       regions = [];
       below = Waits (frame_of context site pc temps) ∷ site.below;
       exception = no_exception;
-      held = site.held + lf.surplus;
+      held = site.held + (lf.surplus + lf.data_surplus);
     }
 
     abbrev base' : Store
@@ -182,59 +185,42 @@ module _ (program : Program) (linear : LinearProgram) (rate body : ℕ) where
     last_turn v done mid after j has = fetch linear rate (conf callee csite done (v ∷ []) mid after)
         (instructions.Return (Temporary 0)) j has.0
 
-    function_ends : (s : Part) (st : State) (x done : ℕ) (o : Outcome) → scope.names.free ≡ new.own
-        → HasAt linear (FunctionBody k) [] done
-        (constant 0 0 ∷ instructions.Return (Temporary 0) ∷ [])
-        → scope.loop_end ≡ Nowhere → scope.loop_next ≡ Nowhere → scope.leave ≡ None → (label : ℕ)
-        → scope.exit ≡ Jumps label
-        → Claim linear rate s st (price 0 0 x x)
-        (statement_ways program linear rate body
-        (record {
-          names = scope.names;
-          exit = Jumps label;
-          loop_end = Nowhere;
-          loop_next = Nowhere;
-          leave = None;
-        }) callee csite Kc done) o
-        → Claim linear rate s st (price 2 0 x x)
+    returned_by : (s : Part) (st : State) (t x done v : ℕ) (mid : State) → scope.names.free
+        ≡ new.own
+        → HasAt linear (FunctionBody k) [] done (instructions.Return (Temporary 0) ∷ [])
+        → Arrives linear rate s st (price t 0 x x) Kc csite.held mid
+        (To (λ st store. at (conf callee csite done (v ∷ []) st store)))
+        → Claim linear rate s st (price (1 + t) 0 x x)
         (value_ways (pushed context site (pc + 1) temps)
-        (Within program linear rate body shapes base) context site) (ended_call m extra o)
-    unfolding ended_call
-    function_ends s st x done (Gives (Value v) mid) e has l1 l2 l3 label l4 a = absurd a
-    function_ends s st x done (Gives Normal mid) e has l1 l2 l3 label l4 a =
-        let c0 = conf callee csite done [] mid a.store in
-        let c1 = conf callee csite (done + 1) (0 ∷ []) mid a.store in
+        (Within program linear rate body shapes base) context site) (Gives (Value v) (ended mid))
+    returned_by s st t x done v mid e has a =
+        let c = conf callee csite done (v ∷ []) mid a.store in
         record {
           store = left a.store;
           fits = call_fits e mid a.store a.fits;
           same = omega (arith, a.same, same_extra);
-          reaches = reaches_after linear rate s (at c0)
-              (pushed context site (pc + 1) temps 0 (ended mid) (left a.store)) st mid (ended mid) 0
-              0
-              x 2 0 0 2 0 x (omega arith) (omega arith) a.reaches
-              (reaches_after linear rate (at c0) (at c1)
-              (pushed context site (pc + 1) temps 0 (ended mid) (left a.store)) mid mid
-              (ended mid) 1 0 0 1 0 0 2 0 0 (omega arith) (omega arith)
-              (stepped linear rate c0 (at c1) mid mid 1 0 0 refl (omega arith) (omega arith) refl
-              (prefix_self mid.events)
-              (λ j. constant_turn linear rate callee csite 0 0 (0 ∷ []) done [] mid a.store j
-              (omega arith) (has.0, has.1, tt) refl))
-              (stepped linear rate c1 (pushed context site (pc + 1) temps 0 (ended mid)
+          reaches = reaches_after linear rate s (at c)
+              (pushed context site (pc + 1) temps v (ended mid) (left a.store)) st mid (ended mid) t
+              0 x 1 0 0 (1 + t) 0 x (omega arith) (omega arith) a.reaches
+              (stepped linear rate c (pushed context site (pc + 1) temps v (ended mid)
               (left a.store)) mid (ended mid) 1 0 0 refl (omega arith) (omega arith) refl
-              (prefix_self mid.events)
-              (λ j. last_turn 0 (done + 1) mid a.store j has.2)));
+              (prefix_self mid.events) (λ j. last_turn v done mid a.store j has));
         }
-    function_ends s st x done (Gives (Returned v) mid) e has l1 l2 l3 label l4 a = record {
-      store = left a.1.store;
-      fits = call_fits e mid a.1.store a.1.fits;
-      same = omega (arith, a.1.same, same_extra);
-      reaches = reaches_more linear rate s (pushed context site (pc + 1) temps v (ended mid)
-          (left a.1.store)) st (ended mid) 0 0 x 2 0 x (omega arith) (omega arith)
-          (ended_reaches s (pushed context site (pc + 1) temps v (ended mid) (left a.1.store)) st
-          mid
-          0 0 x a.1.reaches);
-    }
-    function_ends s st x done (Gives (Target level exc) mid) e has l1 l2 l3 label l4 q =
+
+    function_ends : (s : Part) (st : State) (t x done : ℕ) (o : Outcome) → scope.names.free
+        ≡ new.own
+        → HasAt linear (FunctionBody k) [] done (instructions.Return (Temporary 0) ∷ [])
+        → Claim linear rate s st (price t 0 x x)
+        (ended_ways program linear rate body callee csite Kc done) o
+        → Claim linear rate s st (price (1 + t) 0 x x)
+        (value_ways (pushed context site (pc + 1) temps)
+        (Within program linear rate body shapes base) context site) (ended_call m extra o)
+    unfolding ended_call
+    function_ends s st t x done (Gives (Value v) mid) e has a = absurd a
+    function_ends s st t x done (Gives Normal mid) e has a = returned_by s st t x done 0 mid e has a
+    function_ends s st t x done (Gives (Returned v) mid) e has a =
+        returned_by s st t x done v mid e has a
+    function_ends s st t x done (Gives (Target level exc) mid) e has q =
         let to = target_of q.handler exc.code mid.held in
         let past = target_past (FunctionBody k) to in
         let f : handlers linear csite.below None
@@ -274,14 +260,15 @@ module _ (program : Program) (linear : LinearProgram) (rate body : ℕ) where
                 );
               };
         }
-    function_ends s st x done (Gives r mid) e has l1 l2 l3 label l4 a =
-        attains_out linear rate s st mid (price 0 0 x x) (price 2 0 x x)
+    function_ends s st t x done (Gives r mid) e has a =
+        attains_out linear rate s st mid (price t 0 x x) (price (1 + t) 0 x x)
         (value_ways (pushed context site (pc + 1) temps)
         (Within program linear rate body shapes base) context site) r (omega arith) (omega arith) a
 
   -- ---- a call
 
-  pub call_runs : (n : ℕ) (bih : BodyRuns program linear rate body n) (k : ℕ) (fn : Function)
+  pub call_runs : (same_globals : linear.globals ≡ program.globals) (n : ℕ)
+      (bih : BodyRuns program linear rate body n) (k : ℕ) (fn : Function)
       (lf : LinearFunction) (vs : List ℕ) (names : Names) (info : Bool) (z : Shape)
       (shapes : List Shape) (context : Context) (site : Site) (base : Store) (pc : ℕ)
       (temps : List ℕ) (st : State) (store : Store)
@@ -289,13 +276,14 @@ module _ (program : Program) (linear : LinearProgram) (rate body : ℕ) where
       → length vs ≡ length fn.parameters → regions_at linear site.body pc ≡ site.regions
       → Around program linear rate body names info z shapes context site base
       → Within program linear rate body shapes base st store → st.held ≡ site.held
-      → Claim linear rate (λ next. deeper (weight lf) site.held store st.events
+      → Claim linear rate (λ next. deeper (depth_weight lf) site.held store st.events
       (next (begin_function k lf vs site.held
       (Waits (frame_of context site pc temps) ∷ site.below) store st.events))) st
-      (price 3 0 body body)
+      (price 13 0 body body)
       (value_ways (pushed context site (pc + 1) temps) (Within program linear rate body shapes base)
-      context site) (enter (within program n) k (Some fn) vs context st)
-  call_runs n bih k fn lf vs names info z shapes context site base pc temps st store f steps len
+      context site) (enter program (within program n) k (Some fn) vs context st)
+  call_runs same_globals n bih k fn lf vs names info z shapes context site base pc temps st store f
+      steps len
       walked around kept held =
       let w : Ways = value_ways (pushed context site (pc + 1) temps)
       (Within program linear rate body shapes base) context site in
@@ -313,6 +301,7 @@ module _ (program : Program) (linear : LinearProgram) (rate body : ℕ) where
       let inner : Context = record {
         handlers = context.handlers;
         activation = m;
+        data_part = part_of fn.data_frame;
         exception = no_exception;
         abnormal = false;
       } in
@@ -322,7 +311,7 @@ module _ (program : Program) (linear : LinearProgram) (rate body : ℕ) where
         regions = [];
         below = below;
         exception = no_exception;
-        held = site.held + lf.surplus;
+        held = site.held + (lf.surplus + lf.data_surplus);
       } in
       let begins = begin_function k lf vs site.held below store st.events in
       let deep : length store.activations ≡ m = kept.0.activations ∙ sym kept.0.count in
@@ -332,7 +321,7 @@ module _ (program : Program) (linear : LinearProgram) (rate body : ℕ) where
           next = 0;
           activation = a;
           exception = no_exception;
-          held = site.held + lf.surplus;
+          held = site.held + (lf.surplus + lf.data_surplus);
           temporaries = [];
           landed = None;
         };
@@ -371,51 +360,81 @@ module _ (program : Program) (linear : LinearProgram) (rate body : ℕ) where
         past = omega arith;
         room = omega (arith, f.locals);
         plain = λ e. absurd (cc);
+        part = refl;
+        base_fits = base_of program linear rate body (own_locals fn) (length fn.parameters)
+            fn.data_frame f.frame;
+        globals = same_globals;
       } in
-      let activation : State → Outcome = λ st. ended_call (length st.frames) s
-      (all (within program n) fn.body (record {
+      let frame = fn.data_frame in
+      let runs : ℕ → State → Outcome = λ m st. all (within program n) fn.body (record {
         handlers = context.handlers;
-        activation = length st.frames;
+        activation = m;
+        data_part = part_of frame;
         exception = no_exception;
         abnormal = false;
-      }) (with_activation k given (hold_surplus s st))) in
+      }) st in
+      let activation : State → Outcome = λ st. ended_call (length st.frames) s
+      (close_part (part_of frame) (length st.frames)
+      (open_frame program frame (length st.frames) (with_activation k given (hold_surplus s st))
+      (runs (length st.frames)))) in
+      let weighs : lf.surplus + lf.data_surplus ≡ s = omega (arith, f.weighs, f.data_weighs) in
       let light = f.light in
       let quick = f.quick in
-      let done = 1 + s + statements_size fn.body in
-      let body_done : Claim linear rate (at (conf inner csite (1 + s) [] st' store')) st'
-      (price 2 0 x x) w (ended_call m s (all (within program n) fn.body inner st')) =
-      function_ends k lf scope new shapes context site base pc temps m s store locals f.weighs
-      kept.0.count kept.0.activations walked kept.1 (at (conf inner csite (1 + s) [] st' store'))
-      st' x done (all (within program n) fn.body inner st') refl f.ends refl refl refl (done + 1)
-      refl
-      (all_runs program linear rate body n bih scope new shapes' inner csite store' fn.body (1 + s)
-      st' store' (omega arith) quick f.placed
-      (record { around = tt; exit = (omega arith, tt, f.ends.2.0); loop_end = tt; loop_next = tt })
-      standing (
+      let few = f.few in
+      let begin = body_start fn in
+      let done = begin + statements_size fn.body in
+      let Ki = Stays program linear rate body scope.names shapes' inner store' in
+      let opened : Outcome = open_frame program frame m st' (runs m) in
+      let first_kept : Ki st' store' = (
         push_alike shapes st.memory st.frames store new given locals alike kept.0,
         kept_itself (below_slot m (own_locals fn)) shapes' store',
         push_functions shapes new st.functions kept.2,
-      ) (omega (arith, held, f.weighs))) in
+      ) in
+      let body_done : Claim linear rate (at (conf inner csite (1 + s) [] st' store')) st'
+      (price 9 0 x x) (statement_ways program linear rate body scope inner csite Ki done) opened =
+      more linear rate (at (conf inner csite (1 + s) [] st' store')) st'
+      (price (1 + length fn.parameters) 0 x x) (price 9 0 x x)
+      (statement_ways program linear rate body scope inner csite Ki done) opened
+      (omega arith, omega arith, omega arith)
+      (opened_claim program linear rate body same_globals scope.names new shapes' inner csite store'
+      top (omega arith) fn f.frame f.opens st' store' x
+      (statement_ways program linear rate body scope inner csite Ki done) (runs m) first_kept
+      (omega (arith, held, weighs))
+      (λ mid after left kept held.
+      all_runs program linear rate body n bih scope new shapes' inner csite store' fn.body begin mid
+      after (omega (arith, left)) quick f.placed
+      (record { around = tt; exit = (omega arith, tt); loop_end = tt; loop_next = tt }) standing
+      kept held)) in
+      let whole : Claim linear rate (at (conf inner csite (1 + s) [] st' store')) st'
+      (price 12 0 x x) w (ended_call m s (close_part (part_of frame) m opened)) =
+      function_ends k lf scope new shapes context site base pc temps m s frame store locals weighs
+      kept.0.count kept.0.activations walked kept.1 (at (conf inner csite (1 + s) [] st' store'))
+      st' 11 x (last_of frame done) (close_part (part_of frame) m opened) refl
+      (last_has program linear rate body csite.body frame done f.ends)
+      (closes program linear rate body inner csite Ki frame scope.names
+      (at (conf inner csite (1 + s) [] st' store')) st' 9 x done opened
+      (λ st store kept. closed_stays program linear rate body frame scope.names new
+      (length fn.parameters) shapes' inner store' st store top f.frame kept) f.ends body_done) in
       let counts : Claim linear rate (at (conf inner csite 1 [] st store')) st
-      (price 2 0 body body) w (counting s st activation) =
-      separators_claim linear rate (omega arith) inner csite store' 2 body w s 1 st activation
+      (price 12 0 body body) w (counting s st activation) =
+      separators_claim linear rate (omega arith) inner csite store' 12 body w s 1 st activation
       f.starts.2 (omega arith)
-      (more linear rate (at (conf inner csite (1 + s) [] counted store')) counted (price 2 0 x x)
-      (price 2 0 body body) w (activation counted) (omega arith, omega arith, omega arith)
+      (more linear rate (at (conf inner csite (1 + s) [] counted store')) counted (price 12 0 x x)
+      (price 12 0 body body) w (activation counted) (omega arith, omega arith, omega arith)
       (sooner linear rate (at (conf inner csite (1 + s) [] counted store')) counted st'
-      (price 2 0 x x) w (activation counted) refl (prefix_self st.events) body_done)) in
+      (price 12 0 x x) w (activation counted) refl (prefix_self st.events) whole)) in
       let all_of_it : Claim linear rate (at (conf inner csite 0 [] st store')) st
-      (price 3 0 body body) w (counting s st activation) =
+      (price 13 0 body body) w (counting s st activation) =
       first linear rate (conf inner csite 0 [] st store') (at (conf inner csite 1 [] st store')) st
-      st (price 2 0 body body) (price 3 0 body body) w (counting s st activation)
+      st (price 12 0 body body) (price 13 0 body body) w (counting s st activation)
       (omega arith, omega arith, omega arith) refl refl (prefix_self st.events)
       (λ j. fetch linear rate (conf inner csite 0 [] st store') instructions.Separator j
       f.starts.0) counts in
       subst (λ extra. Claim linear rate (λ next. deeper (1 + extra) site.held store st.events
-      (next begins)) st (price 3 0 body body) w
-      (enter (within program n) k (Some fn) vs context st))
-      (sym f.weighs)
-      (deep_claim linear rate (1 + s) site.held store (at begins) st (price 3 0 body body) w
+      (next begins)) st (price 13 0 body body) w
+      (enter program (within program n) k (Some fn) vs context st))
+      (sym weighs)
+      (deep_claim linear rate (1 + s) site.held store (at begins) st (price 13 0 body body) w
       (λ st. counting s st activation) deep held
-      (subst (λ c. Claim linear rate (at c) st (price 3 0 body body) w (counting s st activation))
+      (subst (λ c. Claim linear rate (at c) st (price 13 0 body body) w (counting s st activation))
       here all_of_it))

@@ -1,18 +1,18 @@
 -- Constants, codes, flags and fields in expressions.
 use Rattle.std.proofs.Common.{◌≡◌, ◌<◌, ◌≤◌, ℕ, suc, ◌+◌, ◌^◌, List, [], ◌∷◌, ◌++◌, length, refl, ap, sym, subst, ◌∙◌, arith}
 use Rattle.std.specs.Prelude.{Bool, Option, Some, None}
-use Rattle.lowering_follows.specs.Words.{Field, Size, Node, Program, State, Value, Outcome, Gives, Context, of_test, field_of, Temporary, Instruction, Information, LinearProgram, Store, with_temporary, exec, Names, ExceptionSource, NoException, OfFilter, KeptIn, constant, copy, node_code, code_code, abnormal_code, NodeFits, HasAt}
+use Rattle.lowering_follows.specs.Words.{Field, Size, Node, Program, State, Value, Outcome, Gives, Context, of_test, field_of, Temporary, Instruction, Information, LinearProgram, Store, with_temporary, exec, Names, ExceptionSource, NoException, OfFilter, KeptIn, constant, copy, node_code, code_code, abnormal_code, NodeFits, HasAt, stacked_address}
 use Rattle.c_operations.specs.declared.field.Field.TheVariants as fields
 use Rattle.c_checked.specs.Expression as nodes
 use Rattle.linear_code.specs.declared.slot.Slot.TheVariants.{Local as LocalSlot}
 use Rattle.linear_machine.specs.Frames as machine
-use Rattle.lowering_follows.proofs.Lemmas.{Part, Site, conf}
+use Rattle.lowering_follows.proofs.Lemmas.{Part, Site, conf, price, more}
 use Rattle.lowering_follows.proofs.Stores.{Shape, everywhere}
 use Rattle.lowering_follows.proofs.Environments.{CodeBound, FlagBound, IsNoted}
 use Rattle.lowering_follows.proofs.TaskClaims.{pushed, Around, Runs}
 use Rattle.lowering_follows.proofs.Turns.{constant_turn, fetch_local_turn, information_turn}
-use Rattle.lowering_follows.proofs.Operations.{push_put}
-use Rattle.lowering_follows.proofs.NodeParts.{Kp, From, turn, here_value}
+use Rattle.lowering_follows.proofs.Operations.{push_put, stacked_runs}
+use Rattle.lowering_follows.proofs.NodeParts.{Kp, Wv, From, turn, here_value}
 use Rattle.lowering_follows.proofs.Nodes.{NodeRuns}
 
 module _ (program : Program) (linear : LinearProgram) (rate body : ℕ)
@@ -118,6 +118,21 @@ module _ (program : Program) (linear : LinearProgram) (rate body : ℕ)
         → Node' (nodes.Constant size v) pc temps st store
     constant_node size v pc temps st store fits has kept held = constant_is v v pc temps st store
         refl fits has kept held
+
+    -- the address of a local array
+    pub array_node : (b offset pc : ℕ) (temps : List ℕ) (st : State) (store : Store)
+        → NodeFits program z.own info (nodes.StackedArray b offset)
+        → At pc (node_code names (nodes.StackedArray b offset) (length temps) pc) → Km st store
+        → st.held ≡ site.held
+        → Node' (nodes.StackedArray b offset) pc temps st store
+    array_node b offset pc temps st store fits has kept held =
+        more linear rate _ st (price 2 0 0 0) (price 13 1 1 1)
+        (Wv program linear rate body same_globals roomy n ih names info z shapes context site base
+        around (pushed context site (pc + 2) temps))
+        (Gives (Value (stacked_address b offset context st)) st)
+        (omega arith, omega arith, omega arith)
+        (stacked_runs program linear rate body same_globals roomy n ih names info z shapes context
+        site base around b offset pc temps st store fits has kept held)
 
     pub code_node : (pc : ℕ) (temps : List ℕ) (st : State) (store : Store)
         → At pc (node_code names nodes.ExceptionCode (length temps) pc) → Km st store

@@ -1,6 +1,6 @@
 -- How many instructions code has.
 use Rattle.std.proofs.Common.{◌≡◌, ℕ, suc, ◌+◌, List, [], ◌∷◌, ◌++◌, length, refl, ap, ◌∙◌, arith, length-append}
-use Rattle.lowering_follows.specs.Words.{Conversion, Kept, Extend, Scale, Expression, On, Node, Lvalue, Global, Indirection, Element, Arguments, Done, Instruction, Names, conversion_size, unary_size, address_count, read_size, expression_size, locate_size, arguments_size, node_size, address_size, conversion_code, unary_code, read_code, expression_code, locate_code, arguments_code, node_code, address_code, Local, Next}
+use Rattle.lowering_follows.specs.Words.{Conversion, Kept, Extend, Scale, Expression, On, Node, Lvalue, Global, Stacked, Indirection, Element, Arguments, Done, Instruction, Names, conversion_size, unary_size, address_count, read_size, expression_size, locate_size, arguments_size, node_size, address_size, conversion_code, unary_code, read_code, expression_code, locate_code, arguments_code, node_code, address_code, Local, Next}
 use Rattle.c_operations.specs.declared.operation.Pure.{Pure as Pure'}
 use Rattle.c_operations.specs.declared.operation.Pure.TheVariants as pures
 use Rattle.c_checked.specs.Expression as nodes
@@ -22,6 +22,7 @@ address_length : (p : Lvalue) (d n : ℕ) (code : List Instruction) → length c
     → length (address_code p d code) ≡ address_size p n
 address_length (Local x) d n code e = refl
 address_length (Global access a) d n code e = e
+address_length (Stacked access base offset) d n code e = e
 address_length (Indirection access f) d n code e = e
 address_length (Element access f i) d n code e = e
 
@@ -48,6 +49,7 @@ mutual
       → length (locate_code names p d at) ≡ locate_size p
   locate_length names (Local x) d at = refl
   locate_length names (Global access a) d at = refl
+  locate_length names (Stacked access base offset) d at = refl
   locate_length names (Indirection access e) d at = expression_length names e d at
   locate_length names (Element access e i) d at =
       let x = expression_code names e d at in
@@ -68,6 +70,7 @@ mutual
   pub node_length : (names : Names) (n : Node) (d at : ℕ)
       → length (node_code names n d at) ≡ node_size n
   node_length names (nodes.Constant z n) d at = refl
+  node_length names (nodes.StackedArray base offset) d at = refl
   node_length names (nodes.Read p) d at = appended (locate_code names p d at) (read_code p d d)
       (locate_size p) (read_size p) (locate_length names p d at) (read_length p d d)
   node_length names (nodes.AddressOf p) d at = address_length p d (locate_size p)

@@ -4,6 +4,7 @@ pub mod Places
 pub mod BodyClaims
 pub mod BodySequences
 pub mod BodyParts
+pub mod StackedVariables
 pub mod Tries
 pub mod TryEnds
 pub mod FinallyEnds
@@ -11,6 +12,8 @@ pub mod BodySteps
 pub mod BodyStatements
 pub mod BodyNext
 pub mod Beginnings
+pub mod Openings
+pub mod Closings
 pub mod Functions
 pub mod AllClaims
 pub mod WholeProgram
@@ -21,6 +24,8 @@ pub mod Raises
 pub mod Turns
 pub mod Operations
 pub mod NodeParts
+pub mod CalmOperations
+pub mod StackPointers
 pub mod Nodes
 pub mod Leaves
 pub mod LvalueNodes
@@ -29,6 +34,7 @@ pub mod Calls
 pub mod PointerDifferences
 pub mod TaskSteps
 pub mod SoundExpressions
+pub mod SoundParts
 pub mod Regions
 pub mod Segments
 pub mod FuncletNumbers

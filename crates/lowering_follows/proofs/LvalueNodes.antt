@@ -2,7 +2,7 @@
 use Rattle.std.proofs.Common.{◌≡◌, ◌≤◌, ℕ, ◌+◌, List, [], ◌∷◌, ◌++◌, length, refl, sym, subst, arith}
 use Rattle.std.specs.Prelude.{Bool}
 use Rattle.c_checked.specs.Expression as nodes
-use Rattle.lowering_follows.specs.Words.{Expression, Node, Lvalue, Global, Indirection, Element, Program, State, Outcome, with_value, Context, Eval, Locate, read, write, within, Instruction, LinearProgram, Store, Names, address_count, read_size, expression_size, locate_size, expression_code, read_code, write_code, locate_code, node_code, LvalueFits, NodeFits, expression_weight, lvalue_weight, node_weight, HasAt, Local}
+use Rattle.lowering_follows.specs.Words.{Expression, Node, Lvalue, Global, Stacked, Indirection, Element, Program, State, Outcome, with_value, Context, Eval, Locate, read, write, within, Instruction, LinearProgram, Store, Names, address_count, read_size, expression_size, locate_size, expression_code, read_code, write_code, locate_code, node_code, LvalueFits, NodeFits, expression_weight, lvalue_weight, node_weight, HasAt, Local}
 use Rattle.lowering_follows.proofs.Lemmas.{Part, at, Site, conf, price, Claim, more}
 use Rattle.lowering_follows.proofs.Stores.{Shape}
 use Rattle.lowering_follows.proofs.Places.{has_front, has_after}
@@ -40,6 +40,7 @@ module _ (program : Program) (linear : LinearProgram) (rate body : ℕ)
         base around p (located p temps a) (length temps) a temps
     read_fits (Local x) a temps = push_put temps
     read_fits (Global access g) a temps = changing temps a
+    read_fits (Stacked access b o) a temps = changing temps a
     read_fits (Indirection access e) a temps = changing temps a
     read_fits (Element access e i) a temps = changing temps a
 
@@ -57,6 +58,7 @@ module _ (program : Program) (linear : LinearProgram) (rate body : ℕ)
         base around p (located p temps a) (length temps) a (located p temps a)
     keep_fits (Local x) a temps = push_put temps
     keep_fits (Global access g) a temps = top_reads a temps
+    keep_fits (Stacked access b o) a temps = top_reads a temps
     keep_fits (Indirection access e) a temps = top_reads a temps
     keep_fits (Element access e i) a temps = top_reads a temps
 
@@ -68,6 +70,12 @@ module _ (program : Program) (linear : LinearProgram) (rate body : ℕ)
         (length temps) a v (λ v. temps ++ v ∷ [])
     assign_fits (Local x) a v temps = (top_get temps v, refl)
     assign_fits (Global access g) a v temps =
+        record {
+          reads_first = under_get temps a v;
+          reads_second = top_get (temps ++ a ∷ []) v;
+          writes = (combining temps a v).writes;
+        }
+    assign_fits (Stacked access b o) a v temps =
         record {
           reads_first = under_get temps a v;
           reads_second = top_get (temps ++ a ∷ []) v;
@@ -100,13 +108,13 @@ module _ (program : Program) (linear : LinearProgram) (rate body : ℕ)
         let end : pc1 + read_size p ≡ pc + (locate_size p + read_size p) = omega arith in
         let part = pushed context site (pc + (locate_size p + read_size p)) temps in
         sub_locate program linear rate body same_globals roomy n ih names info z shapes context site
-        base around p pc temps st store 12 1 w w part
+        base around p pc temps st store 11 1 w w part
         (λ a st. read program (within program n) p a context st) steps (omega arith) (omega arith)
         fits (has_front linear site.body site.regions pc cl cr has) kept held
         (λ a mid after steps kept held.
-        subst (λ q. G pc1 (located p temps a) mid after 12 w w w (pushed context site q temps)
+        subst (λ q. G pc1 (located p temps a) mid after 11 w w w (pushed context site q temps)
         (read program (within program n) p a context mid)) end
-        (more linear rate _ mid (price 2 w 0 w) (price 12 w w w)
+        (more linear rate _ mid (price 2 w 0 w) (price 11 w w w)
         (Wv program linear rate body same_globals roomy n ih names info z shapes context site base
         around (pushed context site (pc1 + read_size p) temps))
         (read program (within program n) p a context mid) (omega arith, omega arith, omega arith)
@@ -142,6 +150,8 @@ module _ (program : Program) (linear : LinearProgram) (rate body : ℕ)
         absurd (cc)
     address_node (Global access a) pc temps st store steps light fits has kept held = address_of
         (Global access a) pc temps st store steps light fits.0 has kept held
+    address_node (Stacked access b o) pc temps st store steps light fits has kept held = address_of
+        (Stacked access b o) pc temps st store steps light fits.0 has kept held
     address_node (Indirection access e) pc temps st store steps light fits has kept held =
         address_of (Indirection access e) pc temps st store steps light fits.0 has kept held
     address_node (Element access e i) pc temps st store steps light fits has kept held = address_of

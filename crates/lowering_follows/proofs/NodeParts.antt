@@ -1,21 +1,18 @@
 -- Parts of nodes: subexpressions, conversions, and numbers that are 0 or 1.
 use Rattle.std.proofs.Common.{◌≡◌, ◌<◌, ◌≤◌, ℕ, suc, ◌+◌, ◌*◌, ◌^◌, List, [], ◌∷◌, ◌++◌, length, refl, ap, sym, subst, ◌∙◌, arith}
-use Rattle.std.proofs.lemmas.List.{length_push}
 use Rattle.std.proofs.lemmas.Nat.{mul-mod}
-use Rattle.std.specs.Prelude.{◌%◌, Bool, true, false, nat_eq, if◌then◌else◌, Some}
-use Rattle.lowering_follows.specs.Words.{W64, low, Operation, Long, width, extended, result_of, Conversion, Kept, Extend, Scale, Expression, Lvalue, Program, State, Value, Outcome, Gives, with_value, Context, Eval, Locate, converted, operate, locate, read, within, Temporary, Compute, LinearProgram, Store, Seen, pick, with_some, with_temporary, is_constant, exec, Names, read_size, conversion_size, expression_size, locate_size, constant, choice_code, conversion_code, expression_code, read_code, locate_code, ExpressionFits, LvalueFits, expression_weight, lvalue_weight, HasAt}
+use Rattle.std.specs.Prelude.{Bool, true, false, nat_eq, if◌then◌else◌}
+use Rattle.lowering_follows.specs.Words.{W64, low, Operation, Long, width, extended, result_of, Conversion, Kept, Extend, Scale, Expression, Lvalue, Program, State, Value, Outcome, Gives, with_value, Context, Eval, Locate, converted, operate, locate, read, within, Temporary, Compute, LinearProgram, Store, Seen, pick, is_constant, exec, Names, read_size, conversion_size, expression_size, locate_size, constant, choice_code, conversion_code, expression_code, read_code, locate_code, ExpressionFits, LvalueFits, expression_weight, lvalue_weight, HasAt}
 use Rattle.c_operations.specs.declared.operation.Pure.TheVariants as pures
-use Rattle.lowering_follows.proofs.Lemmas.{Part, at, Site, conf, Ways, price, Claim, value_ways, joins, more, then_value, first, still, fetch, prefix_self}
+use Rattle.lowering_follows.proofs.Lemmas.{Part, at, Site, conf, Ways, price, Claim, value_ways, joins, more, then_value, first, still, prefix_self}
 use Rattle.lowering_follows.proofs.Stores.{Shape}
 use Rattle.lowering_follows.proofs.Places.{has_at}
 use Rattle.lowering_follows.proofs.TaskClaims.{located, pushed, with_address, Operands, Within, Around, SameOperation', Runs}
-use Rattle.lowering_follows.proofs.Turns.{changing, combining, computed_gives, pure_turn, constant_turn, jump_turn, test_turn}
+use Rattle.lowering_follows.proofs.Turns.{changing, pure_turn, constant_turn, jump_turn, test_turn}
 use Rattle.lowering_follows.proofs.Operations.{ReadFits, push_put, locate_runs, read_runs, operate_runs}
 
-scaled_same : (y by : ℕ) → low W64 (low W64 y * low W64 (low W64 by)) ≡ low W64 (y * by)
-scaled_same y by =
-    let again : (by % 2 ^ 64) % 2 ^ 64 ≡ by % 2 ^ 64 = omega arith in
-    ap (λ k. (y % 2 ^ 64 * k) % 2 ^ 64) again ∙ sym (mul-mod y by (2 ^ 64))
+scaled_same : (y by : ℕ) → low W64 (low W64 y * low W64 by) ≡ low W64 (y * by)
+scaled_same y by = sym (mul-mod y by (2 ^ 64))
 
 pub value_self : (o : Outcome) → with_value o (λ v st. Gives (Value v) st) ≡ o
 unfolding with_value
@@ -108,12 +105,12 @@ module _ (program : Program) (linear : LinearProgram) (rate body : ℕ)
         → ((a : ℕ) (mid : State) (after : Store) → mid.steps_left ≤ n → Kp mid after
         → mid.held ≡ site.held → From (pc + locate_size p) (located p temps a) mid after t
         (x + lvalue_weight p) s o part (k a mid))
-        → From pc temps st store (1 + t) x s o part
+        → From pc temps st store (2 + t) x s o part
         (with_value (locate (within program n) p context st) k)
     sub_locate p pc temps st store t x s o part k steps light fit_o fits has kept held go =
         then_value linear rate _ (with_address context site (pc + locate_size p) p temps) (Wv part)
-        st (price 1 0 (lvalue_weight p) (lvalue_weight p)) (price t (x + lvalue_weight p) s o)
-        (price (1 + t) x s o) (locate (within program n) p context st) k
+        st (price 2 0 (lvalue_weight p) (lvalue_weight p)) (price t (x + lvalue_weight p) s o)
+        (price (2 + t) x s o) (locate (within program n) p context st) k
         (joins (omega arith) (omega arith) (omega arith) (omega arith))
         (locate_runs program linear rate body same_globals roomy n ih names info z shapes context
         site base around p pc temps st store steps light fits has kept held)
@@ -202,29 +199,18 @@ module _ (program : Program) (linear : LinearProgram) (rate body : ℕ)
 
     -- ---- conversions
 
-    constant_low : (k to : ℕ) (result : List ℕ) (pc : ℕ) (temps : List ℕ) (st : State)
-        (store : Store) (j : ℕ) → HasAt linear site.body site.regions pc (constant to k ∷ [])
-        → with_temporary temps to (low W64 k) ≡ Some result
-        → exec linear (suc j) (conf context site pc temps st store)
-        ≡ exec linear j (conf context site (pc + 1) result st store)
-    unfolding with_some
-    constant_low k to result pc temps st store j has h =
-        fetch linear rate (conf context site pc temps st store) (constant to k) j has.0
-        ∙ computed_gives linear rate context site to pc temps result st store (low W64 k)
-        store.memory (exec linear j) h
-
     pub conversion_then : (c : Conversion) (v : ℕ) (ts : List ℕ) (pc : ℕ) (st : State)
         (store : Store) (t x s o : ℕ) (part : ℕ → State → Store → Part) (out : Outcome)
         → HasAt linear site.body site.regions pc (conversion_code c (length ts))
         → From (pc + conversion_size c) (ts ++ converted c v ∷ []) st store t x s o part out
-        → From pc (ts ++ v ∷ []) st store (3 + t) x s o part out
+        → From pc (ts ++ v ∷ []) st store (2 + t) x s o part out
     conversion_then Kept v ts pc st store t x s o part out has h =
-        from_at (pc + 0) pc (ts ++ v ∷ []) st store (3 + t) x s o part out (omega arith)
-        (more linear rate _ st (price t x s o) (price (3 + t) x s o) (Wv part) out
+        from_at (pc + 0) pc (ts ++ v ∷ []) st store (2 + t) x s o part out (omega arith)
+        (more linear rate _ st (price t x s o) (price (2 + t) x s o) (Wv part) out
         (omega arith, omega arith, omega arith) h)
     conversion_then (Extend sign from size) v ts pc st store t x s o part out has h =
         let d = length ts in
-        more linear rate _ st (price (1 + t) x s o) (price (3 + t) x s o) (Wv part) out
+        more linear rate _ st (price (1 + t) x s o) (price (2 + t) x s o) (Wv part) out
         (omega arith, omega arith, omega arith)
         (turn pc (pc + 1) (ts ++ v ∷ []) (ts ++ extended sign from (width size) v ∷ []) st store t x
         s o part out
@@ -233,26 +219,19 @@ module _ (program : Program) (linear : LinearProgram) (rate body : ℕ)
     conversion_then (Scale sign from by) v ts pc st store t x s o part out has h =
         let d = length ts in
         let y = extended sign from W64 v in
-        let last = result_of (pures.Multiply Long) y (low W64 by) in
-        let e : pc + 1 + 1 + 1 ≡ pc + 3 = omega arith in
-        more linear rate _ st (price (1 + (1 + (1 + t))) x s o) (price (3 + t) x s o) (Wv part) out
+        let last = result_of (pures.MultiplyBy by) y y in
+        let e : pc + 1 + 1 ≡ pc + 2 = omega arith in
+        more linear rate _ st (price (1 + (1 + t)) x s o) (price (2 + t) x s o) (Wv part) out
         (omega arith, omega arith, omega arith)
-        (turn pc (pc + 1) (ts ++ v ∷ []) (ts ++ y ∷ []) st store (1 + (1 + t)) x s o part out
+        (turn pc (pc + 1) (ts ++ v ∷ []) (ts ++ y ∷ []) st store (1 + t) x s o part out
         (λ k. pure_turn linear rate context site (pures.Extend sign from Long) d d d v v
         (λ u. ts ++ u ∷ []) pc (ts ++ v ∷ []) st store k refl (has.0, has.1, tt) (changing ts v))
-        (turn (pc + 1) (pc + 1 + 1) (ts ++ y ∷ []) ((ts ++ y ∷ []) ++ low W64 by ∷ []) st store
-        (1 + t) x s o part out
-        (λ k. constant_low by (d + 1) ((ts ++ y ∷ []) ++ low W64 by ∷ []) (pc + 1) (ts ++ y ∷ []) st
-        store k (has.2.0, has.2.1, tt) (ap (λ i. with_temporary (ts ++ y ∷ []) i (low W64 by))
-        (sym (length_push ts y)) ∙ push_put (ts ++ y ∷ []) (low W64 by)))
-        (turn (pc + 1 + 1) (pc + 1 + 1 + 1) ((ts ++ y ∷ []) ++ low W64 by ∷ []) (ts ++ last ∷ []) st
-        store t x s o part out
-        (λ k. pure_turn linear rate context site (pures.Multiply Long) d d (d + 1) y (low W64 by)
-        (λ u. ts ++ u ∷ []) (pc + 1 + 1) ((ts ++ y ∷ []) ++ low W64 by ∷ []) st store k refl
-        has.2.2 (combining ts y (low W64 by)))
-        (from_at (pc + 3) (pc + 1 + 1 + 1) (ts ++ last ∷ []) st store t x s o part out (sym e)
-        (subst (λ u. From (pc + 3) (ts ++ u ∷ []) st store t x s o part out)
-        (sym (scaled_same y by)) h)))))
+        (turn (pc + 1) (pc + 1 + 1) (ts ++ y ∷ []) (ts ++ last ∷ []) st store t x s o part out
+        (λ k. pure_turn linear rate context site (pures.MultiplyBy by) d d d y y
+        (λ u. ts ++ u ∷ []) (pc + 1) (ts ++ y ∷ []) st store k refl has.2 (changing ts y))
+        (from_at (pc + 2) (pc + 1 + 1) (ts ++ last ∷ []) st store t x s o part out (sym e)
+        (subst (λ u. From (pc + 2) (ts ++ u ∷ []) st store t x s o part out)
+        (sym (scaled_same y by)) h))))
 
     -- ---- 0 or another number
 

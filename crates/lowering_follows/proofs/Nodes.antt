@@ -38,11 +38,24 @@ module _ (program : Program) (linear : LinearProgram) (rate body : ℕ)
     abbrev pub Has : ℕ → List Instruction → Type 0
     Has pc is = HasAt linear site.body site.regions pc is
 
-    -- a node, from its place to the place after it
-    abbrev pub NodeRuns : Node → ℕ → List ℕ → State → Store → Type 0
-    NodeRuns nd pc temps st store = F pc temps st store 13 1 (1 + node_weight nd)
+    -- a node, from its place to the place after it, in so many turns beside those of its steps
+    abbrev pub RunsIn : ℕ → Node → ℕ → List ℕ → State → Store → Type 0
+    RunsIn turns nd pc temps st store = F pc temps st store turns 1 (1 + node_weight nd)
         (1 + node_weight nd) (pushed context site (pc + node_size nd) temps)
         (model.node program (within program n) nd context st)
+
+    abbrev pub NodeRuns : Node → ℕ → List ℕ → State → Store → Type 0
+    NodeRuns nd pc temps st store = RunsIn 13 nd pc temps st store
+
+    -- one turn to spare
+    pub spares : (nd : Node) (pc : ℕ) (temps : List ℕ) (st : State) (store : Store)
+        → NodeRuns nd pc temps st store → RunsIn 14 nd pc temps st store
+    spares nd pc temps st store h =
+        let w = 1 + node_weight nd in
+        more linear rate _ st (price 13 1 w w) (price 14 1 w w)
+        (value_ways (pushed context site (pc + node_size nd) temps) Kn context site)
+        (model.node program (within program n) nd context st)
+        (omega arith, omega arith, omega arith) h
 
     -- ---- one or two operands
 

@@ -2,7 +2,7 @@
 use Rattle.std.proofs.Common.{◌≡◌, ◌≤◌, ℕ, suc, ◌+◌, List, [], ◌∷◌, ◌++◌, length, refl, ap, sym, subst, ◌∙◌, arith, append-nil}
 use Rattle.std.proofs.lemmas.List.{length_push}
 use Rattle.std.specs.Prelude.{Bool, false, slice_get, Some}
-use Rattle.lowering_follows.specs.Words.{W8, Operation, Long, width, extended, result_of, performed, Lvalue, Global, Indirection, Element, Program, Exception, State, Value, Outcome, Gives, set_memory, with_value, and_then, Context, Eval, Raise, Retry, is_reserved, operate, locate, read, write, value_width, value_of, tried, load, within, Temporary, Compute, LinearProgram, Store, Configuration, with_temporary, SameOperation, raise, is_constant, computed, exec, Names, address_count, read_size, expression_size, locate_size, combine, expression_code, read_code, write_code, locate_code, size_of, load_code, LvalueFits, expression_weight, lvalue_weight, HasAt, Local}
+use Rattle.lowering_follows.specs.Words.{W8, Operation, Long, width, extended, result_of, performed, Lvalue, Global, Stacked, Indirection, Element, Program, Exception, State, Value, Outcome, Gives, set_memory, with_value, and_then, Context, Eval, Raise, Retry, is_reserved, operate, locate, read, write, value_width, value_of, tried, load, within, Temporary, Compute, LinearProgram, Store, Configuration, with_temporary, SameOperation, raise, is_constant, computed, exec, Names, address_count, read_size, expression_size, locate_size, combine, expression_code, read_code, write_code, locate_code, size_of, load_code, LvalueFits, expression_weight, lvalue_weight, HasAt, Local, IsStackedPlace, stacked_code, stacked_address}
 use Rattle.seh_num.specs.declared.width.Width.{Width}
 use Rattle.c_operations.specs.declared.operation.Operation.TheVariants.{Pure, Load, Store as StoreTo}
 use Rattle.c_operations.specs.declared.operation.Pure.TheVariants as pures
@@ -16,7 +16,7 @@ use Rattle.lowering_follows.proofs.Stores.{Shape, memory_alike, local_set_alike,
 use Rattle.lowering_follows.proofs.Places.{has_front, has_after}
 use Rattle.lowering_follows.proofs.Lengths.{expression_length}
 use Rattle.lowering_follows.proofs.TaskClaims.{located, pushed, with_address, Operands, Within, Around, SameOperation', Runs}
-use Rattle.lowering_follows.proofs.Turns.{top_put, changing, combining, computed_gives, computes, pure_turn, constant_turn, fetch_local_turn, put_local_turn}
+use Rattle.lowering_follows.proofs.Turns.{top_get, top_put, changing, combining, computed_gives, computes, pure_turn, pure_above_turn, constant_turn, fetch_local_turn, put_local_turn}
 
 -- one temporary more
 pub push_put : (ts : List ℕ) (v : ℕ) → with_temporary ts (length ts) v ≡ Some (ts ++ v ∷ [])
@@ -26,6 +26,7 @@ pub located_length : (p : Lvalue) (temps : List ℕ) (a : ℕ)
     → length (located p temps a) ≡ length temps + address_count p
 located_length (Local x) temps a = omega arith
 located_length (Global access n) temps a = length_push temps a
+located_length (Stacked access base offset) temps a = length_push temps a
 located_length (Indirection access e) temps a = length_push temps a
 located_length (Element access e i) temps a = length_push temps a
 
@@ -164,12 +165,46 @@ module _ (program : Program) (linear : LinearProgram) (rate body : ℕ)
 
     -- ---- places
 
+    -- where a variable on the data stack stands
+    pub stacked_runs : (b offset pc : ℕ) (temps : List ℕ) (st : State) (store : Store)
+        → IsStackedPlace z.own b offset
+        → HasAt linear site.body site.regions pc (stacked_code b offset (length temps))
+        → K st store → st.held ≡ site.held
+        → Claim linear rate (at (conf context site pc temps st store)) st (price 2 0 0 0)
+        (W (pushed context site (pc + 2) temps))
+        (Gives (Value (stacked_address b offset context st)) st)
+    stacked_runs b offset pc temps st store fits has kept held =
+        let d = length temps in
+        let two = temps ++ offset ∷ [] in
+        let v = stacked_address b offset context st in
+        let out : Outcome = Gives (Value v) st in
+        let read = machine.local_of store context.activation b in
+        let same : read ≡ local_of st context.activation b =
+        (kept.0.each context.activation z around.shape).reads b fits.is_local in
+        let e_pc : pc + 1 + 1 ≡ pc + 2 = omega arith in
+        value_at _ st (price 2 0 0 0) (pc + 1 + 1) (pc + 2) temps out e_pc
+        (first linear rate (conf context site pc temps st store)
+        (at (conf context site (pc + 1) two st store)) st st (price 1 0 0 0) (price 2 0 0 0)
+        (W (pushed context site (pc + 1 + 1) temps)) out (omega arith, omega arith, omega arith)
+        refl refl (prefix_self st.events)
+        (λ k. constant_turn linear rate context site offset d two pc temps st store k fits.small
+        (has.0, has.1, tt) (push_put temps offset))
+        (ends_by (conf context site (pc + 1) two st store) v 1 0 0 0
+        (pushed context site (pc + 1 + 1) temps) st st store (omega arith) (omega arith) refl refl
+        refl kept held
+        (λ k. pure_above_turn linear rate context site (pures.Add Long) d b d offset
+        (temps ++ result_of (pures.Add Long) read offset ∷ []) (pc + 1) two st store k refl has.2
+        (top_get temps offset) (top_put temps (offset ∷ [])
+        (result_of (pures.Add Long) read offset))
+        ∙ ap (λ a. exec linear k (conf context site (pc + 1 + 1)
+        (temps ++ result_of (pures.Add Long) a offset ∷ []) st store)) same)))
+
     pub locate_runs : (p : Lvalue) (pc : ℕ) (temps : List ℕ) (st : State) (store : Store)
         → st.steps_left ≤ n → lvalue_weight p + body + 4 ≤ rate → LvalueFits program z.own info p
         → HasAt linear site.body site.regions pc (locate_code names p (length temps) pc)
         → K st store → st.held ≡ site.held
         → Claim linear rate (at (conf context site pc temps st store)) st
-        (price 1 0 (lvalue_weight p) (lvalue_weight p))
+        (price 2 0 (lvalue_weight p) (lvalue_weight p))
         (W (with_address context site (pc + locate_size p) p temps))
         (locate (within program n) p context st)
     locate_runs (Local x) pc temps st store steps light fits has kept held =
@@ -179,19 +214,21 @@ module _ (program : Program) (linear : LinearProgram) (rate body : ℕ)
           fits = kept;
           same = held;
           reaches = still linear rate (at (conf context site pc temps st store))
-              (at (conf context site (pc + 0) temps st store)) st st 1 0 0 refl (omega arith)
+              (at (conf context site (pc + 0) temps st store)) st st 2 0 0 refl (omega arith)
               (prefix_self st.events)
               (λ k. ap (λ p. exec linear k (conf context site p temps st store)) e);
         }
     locate_runs (Global access a) pc temps st store steps light fits has kept held =
-        ends_by (conf context site pc temps st store) a 1 0 0 0
+        ends_by (conf context site pc temps st store) a 2 0 0 0
         (with_address context site (pc + 1) (Global access a) temps) st st store (omega arith)
         (omega arith) refl refl refl kept held
         (λ k. constant_turn linear rate context site a (length temps) (temps ++ a ∷ []) pc temps st
         store k fits has (push_put temps a))
+    locate_runs (Stacked access b offset) pc temps st store steps light fits has kept held =
+        stacked_runs b offset pc temps st store fits has kept held
     locate_runs (Indirection access e) pc temps st store steps light fits has kept held =
         more linear rate _ st (price 0 0 (expression_weight e) (expression_weight e))
-        (price 1 0 (expression_weight e) (expression_weight e))
+        (price 2 0 (expression_weight e) (expression_weight e))
         (W (pushed context site (pc + expression_size e) temps))
         (within program n (Eval e) context st)
         (omega arith, omega arith, omega arith)
@@ -216,10 +253,10 @@ module _ (program : Program) (linear : LinearProgram) (rate body : ℕ)
         let e_pc : pc2 + 1 ≡ pc + (expression_size e + (expression_size i + 1)) = omega arith in
         let keep : ℕ → ℕ → State → Outcome = λ a k st. Gives
         (Value (result_of (pures.Add Long) a k)) st in
-        value_at _ st (price 1 0 (we + wi) (we + wi)) (pc2 + 1)
+        value_at _ st (price 2 0 (we + wi) (we + wi)) (pc2 + 1)
         (pc + (expression_size e + (expression_size i + 1))) temps _ e_pc
         (then_value linear rate _ (pushed context site pc1 temps) w st (price 0 0 we we)
-        (price 1 we (we + wi) (we + wi)) (price 1 0 (we + wi) (we + wi))
+        (price 1 we (we + wi) (we + wi)) (price 2 0 (we + wi) (we + wi))
         (within program n (Eval e) context st)
         (λ a st. with_value (within program n (Eval i) context st) (λ k st. keep a k st))
         (joins (omega arith) (omega arith) (omega arith) (omega arith))
@@ -252,6 +289,8 @@ module _ (program : Program) (linear : LinearProgram) (rate body : ℕ)
         → with_temporary temps (length ts) v ≡ Some (ts ++ v ∷ [])
     ReadFits (Global access g) temps address a ts = Operands temps (length ts) address address a a
         (λ v. ts ++ v ∷ [])
+    ReadFits (Stacked access b o) temps address a ts = Operands temps (length ts) address address a
+        a (λ v. ts ++ v ∷ [])
     ReadFits (Indirection access e) temps address a ts = Operands temps (length ts) address address
         a a (λ v. ts ++ v ∷ [])
     ReadFits (Element access e i) temps address a ts = Operands temps (length ts) address address a
@@ -307,6 +346,8 @@ module _ (program : Program) (linear : LinearProgram) (rate body : ℕ)
         store k has (ap (with_temporary temps (length ts)) same ∙ r v))
     read_runs (Global access g) a address ts pc temps st store e steps le fits has r kept held =
         load_runs access a address ts pc temps st store e steps le has r kept held
+    read_runs (Stacked access b o) a address ts pc temps st store e steps le fits has r kept held =
+        load_runs access a address ts pc temps st store e steps le has r kept held
     read_runs (Indirection access f) a address ts pc temps st store e steps le fits has r kept
         held =
         load_runs access a address ts pc temps st store e steps le has r kept held
@@ -321,6 +362,8 @@ module _ (program : Program) (linear : LinearProgram) (rate body : ℕ)
         × (temps ≡ after v)
     WriteFits (Global access g) temps address from to a v after = Operands temps to address from a v
         after
+    WriteFits (Stacked access b o) temps address from to a v after = Operands temps to address from
+        a v after
     WriteFits (Indirection access e) temps address from to a v after = Operands temps to address
         from a v after
     WriteFits (Element access e i) temps address from to a v after = Operands temps to address from
@@ -357,6 +400,10 @@ module _ (program : Program) (linear : LinearProgram) (rate body : ℕ)
         ∙ ap (λ ts. exec linear k (conf context site (pc + 1) ts st store')) r.1)
     write_runs (Global access g) a v address from to after pc temps st store e steps le fits has r
         kept held =
+        operate_runs (StoreTo access.width) a v to address from a v after pc temps st store e refl
+        steps le has r (λ m. refl) kept held
+    write_runs (Stacked access b o) a v address from to after pc temps st store e steps le fits has
+        r kept held =
         operate_runs (StoreTo access.width) a v to address from a v after pc temps st store e refl
         steps le has r (λ m. refl) kept held
     write_runs (Indirection access f) a v address from to after pc temps st store e steps le fits

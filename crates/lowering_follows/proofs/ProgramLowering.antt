@@ -1,17 +1,16 @@
 -- The linear code of a sound program is linked, and follows the program.
-use Rattle.std.proofs.Common.{◌≡◌, ℕ, inl, inr, zero, suc, ◌+◌, ◌≤◌, List, [], ◌∷◌, ◌++◌, length, refl, ap, subst, ◌∙◌, arith, length-append}
-use Rattle.std.proofs.lemmas.Bool.{leb-true}
+use Rattle.std.proofs.Common.{◌≡◌, ℕ, inl, inr, zero, suc, ◌+◌, ◌^◌, ◌<◌, ◌≤◌, List, [], ◌∷◌, ◌++◌, length, refl, ap, subst, ◌∙◌, arith, length-append}
+use Rattle.std.proofs.lemmas.Bool.{leb-true, ltb-true}
 use Rattle.std.proofs.lemmas.List.{length-replicate}
 use Rattle.std.proofs.lemmas.Option.{slice_get-map}
 use Rattle.std.specs.Prelude.{true, ◌||◌, slice_get, option_map, Option, Some, None}
-use Rattle.lowering_follows.specs.Words.{Size, Int, Long, Program, Function, are_sizes, funclets, count_up, function_sound, some_sizes, functions_sound, main_sound, Temporary, FunctionBody, body_of, function_body, Owner, statements_size, constant, statements_code, statements_regions, statements_funclets, own_locals, scope_of, all_locals, lowered_function, lowered_funclets, all_funclets, lowered, FunctionPlaced, statements_weight, Instruction, surplus}
-use Rattle.seh_num.specs.declared.limit.TheConstants.{MOST_LOCALS}
-use Rattle.c_checked.specs.Program.{weight}
+use Rattle.lowering_follows.specs.Words.{Size, Int, Long, DataFrame, Program, Function, data_sound, first_separators, open_code, close_code, body_start, are_sizes, funclets, count_up, function_sound, some_sizes, functions_sound, main_sound, Temporary, FunctionBody, body_of, function_body, Owner, statements_size, constant, statements_code, statements_regions, statements_funclets, own_locals, scope_of, all_locals, lowered_function, lowered_funclets, all_funclets, lowered, FunctionPlaced, statements_weight, Instruction, surplus}
+use Rattle.seh_num.specs.declared.limit.TheConstants.{MOST_LOCALS, MOST_PARAMETERS}
+use Rattle.c_checked.specs.Program.{weight, declared_locals, data_size}
 use Rattle.source_meaning.specs.declared.depth.TheConstants.{DEEPEST}
-use Rattle.seh_ir.specs.Lowered.{first_separators}
 use Rattle.c_checked.specs.Sound as sound
 use Rattle.linear_code.specs.declared.instruction.Instruction.TheVariants as instructions
-use Rattle.lowering_follows.proofs.Lemmas.{statements_length, statements_count}
+use Rattle.lowering_follows.proofs.Lemmas.{statements_length, statements_count, open_length}
 use Rattle.lowering_follows.proofs.WholeProgram.{linked_follows}
 use Rattle.lowering_follows.specs.StepsPerTurn.{weight_of, steps_per_turn_of}
 use Rattle.lowering_follows.specs.LoweringLaws.{LoweredIsLinked, LoweredFollows, LoweredShowsNoMore}
@@ -21,6 +20,7 @@ use Rattle.lowering_follows.proofs.FuncletNumbers.{count_front, count_back}
 use Rattle.lowering_follows.proofs.Regions.{all_outside}
 use Rattle.lowering_follows.proofs.StatementPlaces.{Alike, code_is_at, place_all}
 use Rattle.lowering_follows.proofs.RegionCovers.{whole_cover, bare}
+use Rattle.lowering_follows.proofs.SoundParts.{frame_fits}
 use Rattle.lowering_follows.proofs.SoundStatements.{inside_function, knows_function}
 
 the_same : {X : Type 0} (x y : X) → Some x ≡ Some y → x ≡ y
@@ -105,36 +105,51 @@ module _ (program : Program) where
       let quick : most + most + 4 ≤ rate = omega arith in
       let lb = (lowered_function fn).body in
       let home : body_of linear (FunctionBody k) ≡ Some lb = ap function_body there in
-      let begin = weight fn in
+      let begin = body_start fn in
       let starts = first_separators fn in
+      let opens = open_code fn.data_frame in
       let code = statements_code (scope_of fn) fn.body begin in
-      let ends = constant 0 0 ∷ instructions.Return (Temporary 0) ∷ [] in
+      let ends = constant 0 0 ∷ (close_code fn.data_frame ++ instructions.Return (Temporary 0)
+      ∷ []) in
       let n = length-replicate {A = Instruction} (surplus fn) instructions.Separator in
+      let o = open_length fn.data_frame in
       let l = statements_length (scope_of fn) fn.body begin in
-      let long = length-append starts code in
-      let longer = length-append (starts ++ code) ends in
+      let long = length-append starts (opens ++ (code ++ ends)) in
+      let longer = length-append opens (code ++ ends) in
+      let longest = length-append code ends in
       let whole = whole_is_at lb.code in
-      let before_ends = front lb.code 0 (starts ++ code) ends whole in
+      let after_starts = back lb.code 0 (weight fn) starts (opens ++ (code ++ ends)) (omega arith)
+      whole in
+      let after_opens = back lb.code (weight fn) begin opens (code ++ ends) (omega arith)
+      after_starts in
       let cover = whole_cover linear (FunctionBody k) lb home 0
       (length lb.code) in
+      let before = λ (q : ℕ) (h : q < begin) (is : q < length lb.code). bare linear (FunctionBody k)
+      [] (statements_regions fn.body begin) q (all_outside fn.body begin q (inl (omega arith)))
+      (cover q (omega arith) is) in
       record {
         parameters = refl;
         locals = refl;
         weighs = refl;
+        data_weighs = refl;
+        frame = frame_fits (length fn.parameters) fn.locals fn.data_frame (both_right _ _ g.sound);
+        few = leb-true (length fn.parameters) MOST_PARAMETERS
+            (both_right _ _ (both_left _ _ (both_left _ _ g.sound)));
         starts = code_is_at program linear rate most (own_locals fn) (FunctionBody k) lb home [] 0
-            starts (front lb.code 0 starts code before_ends)
-            (λ q lo hi. bare linear (FunctionBody k) []
-            (statements_regions fn.body begin) q (all_outside fn.body begin q (inl (omega arith)))
-            (cover q lo (omega arith)));
+            starts (front lb.code 0 starts (opens ++ (code ++ ends)) whole)
+            (λ q lo hi. before q (omega arith) (omega arith));
+        opens = code_is_at program linear rate most (own_locals fn) (FunctionBody k) lb home []
+            (weight fn) opens (front lb.code (weight fn) opens (code ++ ends) after_starts)
+            (λ q lo hi. before q (omega arith) (omega arith));
         placed = place_all program linear rate most (own_locals fn) quick fn.body (FunctionBody k)
             lb home (inside_function program fn) (scope_of fn) (whole_alike fn) g.owner [] begin
-            g.begin (both_left _ _ (both_left _ _ g.sound)) (omega arith)
-            (back lb.code 0 begin starts code (omega arith) before_ends)
+            g.begin (both_left _ _ (both_left _ _ (both_left _ _ g.sound))) (omega arith)
+            (front lb.code begin code ends after_opens)
             (λ q lo hi. cover q (omega arith) (omega arith))
             g.is_there g.numbered;
         ends = code_is_at program linear rate most (own_locals fn) (FunctionBody k) lb home []
-            (begin + statements_size fn.body) ends (back lb.code 0
-            (begin + statements_size fn.body) (starts ++ code) ends (omega arith) whole)
+            (begin + statements_size fn.body) ends (back lb.code begin
+            (begin + statements_size fn.body) code ends (omega arith) after_opens)
             (λ q lo hi. bare linear (FunctionBody k) []
             (statements_regions fn.body begin) q (all_outside fn.body begin q (inr (omega arith)))
             (cover q (omega arith) (omega arith)));
@@ -142,14 +157,22 @@ module _ (program : Program) where
         quick = omega arith;
       }
 
--- the limit of locals keeps weights small
-few_locals : (f : Function) → length f.locals ≤ MOST_LOCALS → weight f ≤ DEEPEST
-few_locals f few = omega arith
+-- the limits of locals and of the data stack keep weights small
+few_locals : (f : Function) → declared_locals f ≤ MOST_LOCALS → data_size f.data_frame < 2 ^ 21
+    → weight f ≤ DEEPEST
+few_locals f few small = omega arith
+
+small_part : (parameters : ℕ) (locals : List Size) (frame : Option DataFrame)
+    → data_sound parameters locals frame ≡ true → data_size frame < 2 ^ 21
+small_part parameters locals None h = omega arith
+small_part parameters locals (Some d) h =
+    ltb-true d.size (2 ^ 21) (both_right _ _ (both_left _ _ (both_left _ _ h)))
 
 sound_is_shallow : (functions : List Function) (f : Function) → function_sound functions f ≡ true
     → weight f ≤ DEEPEST
 sound_is_shallow functions f h =
-    few_locals f (leb-true (length f.locals) MOST_LOCALS (both_right _ _ h))
+    few_locals f (leb-true (declared_locals f) MOST_LOCALS (both_right _ _ (both_left _ _ h)))
+    (small_part (length f.parameters) f.locals f.data_frame (both_right _ _ h))
 
 pub lowered_is_linked : LoweredIsLinked
 lowered_is_linked program h =

@@ -405,6 +405,7 @@ module _ (program : Program) (linear : LinearProgram) (rate body : ℕ) where
         let inner : Context = record {
           handlers = context.handlers;
           activation = h.activation;
+          data_part = None;
           exception = exc;
           abnormal = h.abnormal;
         } in
@@ -461,6 +462,7 @@ module _ (program : Program) (linear : LinearProgram) (rate body : ℕ) where
         (record {
           handlers = context.handlers;
           activation = h.activation;
+          data_part = None;
           exception = exc;
           abnormal = h.abnormal;
         }) (emit (events.Filter k) (hold st)))

@@ -86,11 +86,11 @@ mutual
       let target = at + statements_size body + 1 in
       let own = region at target (except_kind filter target) in
       let all = at + statement_size (TryExcept body filter block) in
-      right_only (statements_regions body at) (own ∷ statements_regions block (target + 1)) pc
+      right_only (statements_regions body at) (own ∷ statements_regions block (target + 2)) pc
       (all_outside body at pc (within_out at all _ _ pc (omega arith) (omega arith) o))
-      ∙ own_out own (statements_regions block (target + 1)) pc
+      ∙ own_out own (statements_regions block (target + 2)) pc
       (within_out at all _ _ pc (omega arith) (omega arith) o)
-      ∙ all_outside block (target + 1) pc (within_out at all _ _ pc (omega arith) (omega arith) o)
+      ∙ all_outside block (target + 2) pc (within_out at all _ _ pc (omega arith) (omega arith) o)
   outside (TryFinally body k last) at pc o =
       let own = region at (at + statements_size body + 1) (kinds.Finally (k - 1)) in
       let all = at + statement_size (TryFinally body k last) in

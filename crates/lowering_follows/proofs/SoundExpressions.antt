@@ -1,12 +1,12 @@
 -- What is sound has numbers that mean something in linear code.
-use Rattle.std.proofs.Common.{◌≡◌, ◌<◌, ℕ, suc, ◌^◌, List, [], ◌∷◌, length, refl, sym, ap, subst, ◌∙◌, arith}
+use Rattle.std.proofs.Common.{◌≡◌, ◌<◌, ℕ, zero, suc, ◌^◌, List, [], ◌∷◌, length, refl, sym, ap, subst, ◌∙◌, arith}
 use Rattle.std.proofs.lemmas.Bool.{ltb-true}
 use Rattle.std.specs.Prelude.{Bool, true, false, ◌&&◌, slice_get, Option, Some, None}
-use Rattle.lowering_follows.specs.Words.{BuiltIn, Put, Protect, RaiseException, Walk, Operation, Pure, Size, Int, Long, Conversion, Expression, On, Node, Lvalue, Global, Indirection, Element, Arguments, Done, Program, Function, are_sizes, TypingContext, is_number, size_after, unary_takes, takes, built_in_takes, constant_fits, amount_fits, change_fits, call_fits, lvalue_size, argument_sizes, expression_sound, node_sound, lvalue_sound, arguments_sound, is_constant, count_of, argument_count, ExpressionFits, LvalueFits, ArgumentsFit, NodeFits, IsCalled, Local, Next}
+use Rattle.lowering_follows.specs.Words.{BuiltIn, Put, Protect, RaiseException, Walk, Operation, Pure, Size, Int, Long, Conversion, Expression, On, Node, Lvalue, Global, Stacked, Indirection, Element, Arguments, Done, Program, Function, are_sizes, TypingContext, is_number, size_after, unary_takes, takes, built_in_takes, constant_fits, amount_fits, change_fits, call_fits, lvalue_size, argument_sizes, expression_sound, node_sound, lvalue_sound, arguments_sound, place_sound, is_constant, count_of, argument_count, ExpressionFits, LvalueFits, ArgumentsFit, NodeFits, IsCalled, IsStackedPlace, Local, Next}
 use Rattle.c_operations.specs.declared.operation.Operation.TheVariants as operations
 use Rattle.c_operations.specs.declared.operation.Pure.TheVariants as pures
 use Rattle.c_checked.specs.Expression as nodes
-use Rattle.c_checked.specs.Sound.{expression_size}
+use Rattle.c_checked.specs.Sound.{expression_size, is_size}
 
 -- ---- tests of several parts
 
@@ -35,6 +35,7 @@ pure_reads p a b h = refl
 
 reads : (o : Operation) (a b : Option Size) → is_number (takes o a b) ≡ true → is_constant o ≡ false
 reads (operations.Pure p) a b h = pure_reads p a b h
+reads (operations.Allocate n) a b h = absurd (cc)
 reads o a b h = refl
 
 unary_reads : (p : Pure) (a : Option Size) → is_number (unary_takes p a) ≡ true
@@ -72,6 +73,22 @@ called program s f es (Some function) e h = record {
   takes = counted s function.parameters es h;
 }
 
+-- ---- places on the data stack
+
+pub place_fits : (s : TypingContext) (own base offset : ℕ) → length s.sizes ≡ own
+    → place_sound s base offset ≡ true → IsStackedPlace own base offset
+place_fits s own base offset sizes h =
+    let small = ltb-true offset (2 ^ 32) (both_right _ _ h) in
+    record {
+      is_local = subst (λ m. base < m) sizes (within s.sizes base (both_left _ _ h));
+      small = omega arith;
+    }
+  where
+    within : (zs : List Size) (x : ℕ) → is_size Long (slice_get zs x) ≡ true → x < length zs
+    within [] x h = absurd (cc)
+    within (z ∷ zs) zero h = omega arith
+    within (z ∷ zs) (suc x) h = let l = within zs x h in omega arith
+
 -- ---- expressions, where so many locals are, and where an exception's fields may be read or may
 -- not
 
@@ -90,6 +107,7 @@ module _ (program : Program) (own : ℕ) (info : Bool) where
       pub lvalue_fits : (p : Lvalue) → lvalue_sound s p ≡ true → LvalueFits program own info p
       lvalue_fits (Local x) h = subst (λ n. x < n) k.sizes (ltb-true x (length s.sizes) h)
       lvalue_fits (Global access a) h = ltb-true a (2 ^ 64) h
+      lvalue_fits (Stacked access base offset) h = place_fits s own base offset k.sizes h
       lvalue_fits (Indirection access e) h = expression_fits e (both_left _ _ h)
       lvalue_fits (Element access e i) h = (
         expression_fits e
@@ -107,6 +125,7 @@ module _ (program : Program) (own : ℕ) (info : Bool) where
 
       node_fits : (n : Node) → node_sound s n ≡ true → NodeFits program own info n
       node_fits (nodes.Constant z n) h = small z n h
+      node_fits (nodes.StackedArray base offset) h = place_fits s own base offset k.sizes h
       node_fits (nodes.Read p) h = lvalue_fits p h
       node_fits (nodes.AddressOf p) h = (lvalue_fits p (both_left _ _ h), both_right _ _ h)
       node_fits (nodes.Assign p e) h = (

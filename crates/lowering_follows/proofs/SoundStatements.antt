@@ -2,10 +2,10 @@
 use Rattle.std.proofs.Common.{◌≡◌, ℕ, ◌<◌, List, [], ◌∷◌, ◌++◌, length, refl, subst, length-append}
 use Rattle.std.proofs.lemmas.Bool.{ltb-true}
 use Rattle.std.specs.Prelude.{true, false, slice_get, Option, Some, None}
-use Rattle.lowering_follows.specs.Words.{Size, Expression, Program, Function, Inside, function_sound, optional_sound, test_sound, value_fits, declared_sound, all_declared_sound, result_sound, filter_sound, statement_sound, statements_sound, Declared, Filter, Always, Funclet, Statement, Declare, Block, Evaluate, If, IfElse, For, DoWhile, Break, Continue, Leave, TryExcept, TryFinally, Statements, Empty, Then, own_locals, ExpressionFits, Return}
+use Rattle.lowering_follows.specs.Words.{Size, Expression, StackedVariable, stacked_sound, Program, Function, Inside, function_sound, optional_sound, test_sound, value_fits, declared_sound, all_declared_sound, result_sound, filter_sound, statement_sound, statements_sound, Declared, Filter, Always, Funclet, Statement, Declare, Block, Evaluate, If, IfElse, For, DoWhile, Break, Continue, Leave, TryExcept, TryFinally, Statements, Empty, Then, own_locals, ExpressionFits, Return}
 use Rattle.c_checked.specs.Sound as sound
-use Rattle.seh_ir.proofs.StatementParts.{OptionalHas, DeclaredHas, AllDeclaredHave, FilterHas, StatementHas, StatementsHave, statements_have}
-use Rattle.lowering_follows.proofs.SoundExpressions.{both_left, both_right, Knows, expression_fits}
+use Rattle.seh_ir.proofs.StatementParts.{OptionalHas, StackedHas, DeclaredHas, AllDeclaredHave, FilterHas, StatementHas, StatementsHave, statements_have}
+use Rattle.lowering_follows.proofs.SoundExpressions.{both_left, both_right, Knows, expression_fits, place_fits}
 
 -- ---- what is around the body of a function, and around a `__finally` block
 
@@ -66,12 +66,20 @@ module _ (program : Program) (own : ℕ) (A B E F : Expression → Type 0) (D : 
     initialiser_sound_has z None ok h = tt
     initialiser_sound_has z (Some e) ok h = value_sound e (both_left _ _ ok) h
 
+    stacked_sound_has : (v : Option StackedVariable) (e : Option Expression)
+        → stacked_sound s v e ≡ true → StackedHas D v
+    stacked_sound_has None e ok = tt
+    stacked_sound_has (Some v) e ok = of_local v.base
+        (place_fits s own v.base v.offset k.sizes (both_left _ _ ok)).is_local
+
     declared_sound_has : (d : Declared) → declared_sound s d ≡ true
         → DeclaredHas A (λ x. Unit {0}) d → DeclaredHas E D d
     declared_sound_has d ok h = (
       of_local d.local (subst (λ m. d.local < m) k.sizes
-          (ltb-true d.local (length s.sizes) (both_left _ _ ok))),
-      initialiser_sound_has (slice_get s.sizes d.local) d.value (both_right _ _ ok) h.1,
+          (ltb-true d.local (length s.sizes) (both_left _ _ (both_left _ _ ok)))),
+      initialiser_sound_has (slice_get s.sizes d.local) d.value
+          (both_right _ _ (both_left _ _ ok)) h.1,
+      stacked_sound_has d.stacked d.value (both_right _ _ ok),
     )
 
     all_declared_sound_have : (ds : List Declared) → all_declared_sound s ds ≡ true
@@ -172,4 +180,5 @@ statements_fit program own ss i k ok = statements_sound_have program own (λ e. 
 pub function_fits : (program : Program) (fn : Function)
     → function_sound program.functions fn ≡ true → StatementsFit program (own_locals fn) fn.body
 function_fits program fn ok = statements_fit program (own_locals fn) fn.body
-    (inside_function program fn) (knows_function program fn) (both_left _ _ (both_left _ _ ok))
+    (inside_function program fn) (knows_function program fn)
+    (both_left _ _ (both_left _ _ (both_left _ _ ok)))

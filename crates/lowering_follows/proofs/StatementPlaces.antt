@@ -2,7 +2,7 @@
 use Rattle.std.proofs.Common.{◌≡◌, inl, inr, ℕ, ◌+◌, ◌-◌, ◌<◌, ◌≤◌, List, [], ◌∷◌, ◌++◌, length, refl, ap, subst, ◌∙◌, arith, length-append}
 use Rattle.std.proofs.lemmas.Bool.{ltb-true}
 use Rattle.std.specs.Prelude.{true, false, slice_get, Option, Some, None}
-use Rattle.lowering_follows.specs.Words.{Size, Expression, Program, Inside, funclets, count_up, optional_sound, test_sound, value_fits, declared_sound, all_declared_sound, result_sound, filter_sound, statement_sound, statements_sound, funclets_in, filter_funclet, Declared, Filter, Always, Funclet, Statement, Declare, Block, Evaluate, If, IfElse, For, DoWhile, Break, Continue, Leave, TryExcept, TryFinally, Statements, Empty, Then, Temporary, Instruction, Jump, JumpIfZero, CallFinally, Landing, Separator, Region, LinearProgram, LinearBody, BodyName, FuncletBody, body_of, funclet_body, regions_at, instruction_in, Owner, Names, LoweringContext, except_names, filter_names, finally_names, finally_scope, in_try, in_except, in_guarded, expression_size, discarded_size, condition_size, declared_size, all_declared_size, returned_size, statement_size, statements_size, expression_code, jump_code, return_code, leave_code, discarded_code, statements_code, returned_code, condition_code, declared_code, all_declared_code, landed, repeated, statement_code, except_kind, region, statement_regions, statements_regions, statements_funclets, filter_funclets, finally_funclet, in_funclet, statement_funclets, HasAt, OptionalFits, DeclaredPlaced, AllDeclaredPlaced, FilterPlaced, Placed, AllPlaced, statement_weight, statements_weight, filter_weight, Return, in_loop}
+use Rattle.lowering_follows.specs.Words.{DataPart, Program, Inside, funclets, count_up, declared_sound, all_declared_sound, filter_sound, statement_sound, statements_sound, funclets_in, filter_funclet, Declared, Filter, Always, Funclet, Statement, Declare, Block, Evaluate, If, IfElse, For, DoWhile, Break, Continue, Leave, TryExcept, TryFinally, Statements, Empty, Then, Temporary, Instruction, Jump, JumpIfZero, CallFinally, Landing, Separator, Region, LinearProgram, LinearBody, BodyName, FuncletBody, body_of, funclet_body, regions_at, instruction_in, Owner, Names, LoweringContext, except_names, filter_names, finally_names, finally_scope, in_try, in_except, in_guarded, expression_size, discarded_size, condition_size, declared_size, all_declared_size, returned_size, statement_size, statements_size, expression_code, jump_code, return_code, leave_code, discarded_code, statements_code, returned_code, condition_code, declared_code, all_declared_code, landed, reset_code, repeated, statement_code, except_kind, region, statement_regions, statements_regions, statements_funclets, filter_funclets, finally_funclet, finally_begin, in_funclet, statement_funclets, HasAt, DeclaredPlaced, AllDeclaredPlaced, FilterPlaced, Placed, AllPlaced, statement_weight, statements_weight, filter_weight, Return, in_loop}
 use Rattle.linear_code.specs.declared.slot.Slot.TheVariants.{Local}
 use Rattle.c_checked.specs.Sound as sound
 use Rattle.linear_code.specs.declared.instruction.Instruction.TheVariants as instructions
@@ -15,36 +15,17 @@ use Rattle.lowering_follows.proofs.AlikeScopes.{in_finally, loop_alike, try_alik
 use Rattle.lowering_follows.proofs.RegionCovers.{Cover, part, bare, inside_own, whole_cover}
 use Rattle.lowering_follows.proofs.Segments.{IsSegmentAt, moved, front, back, with_next, whole_is_at}
 use Rattle.lowering_follows.proofs.SoundExpressions.{both_left, both_right, Knows, expression_fits}
+use Rattle.lowering_follows.proofs.SoundParts.{optional_fits, test_fits, value_optional, result_fits, stacked_fits}
 use Rattle.lowering_follows.proofs.FuncletNumbers.{count_front, count_back, counted}
 use Rattle.lowering_follows.proofs.Regions.{own_out, own_in, left_only, right_only, outside, all_outside}
+
+begin_length : (part : Option DataPart) (x : ℕ) → length (finally_begin part x) ≡ 3
+begin_length None x = refl
+begin_length (Some part) x = refl
 
 module _ (program : Program) (linear : LinearProgram) (rate most own : ℕ) where
   abbrev pub Alike : Inside → LoweringContext → Type 0
   Alike i scope = scopes.Alike program linear rate most own i scope
-
-  -- ---- expressions in statements
-
-  optional_fits : (s : sound.TypingContext) (k : Knows program own false s) (e : Option Expression)
-      → optional_sound s e ≡ true → OptionalFits program linear rate most own e
-  optional_fits s k None h = tt
-  optional_fits s k (Some e) h = expression_fits program own false s k e h
-
-  test_fits : (s : sound.TypingContext) (k : Knows program own false s) (e : Option Expression)
-      → test_sound s e ≡ true → OptionalFits program linear rate most own e
-  test_fits s k None h = tt
-  test_fits s k (Some e) h = expression_fits program own false s k e (both_left _ _ h)
-
-  value_optional : (s : sound.TypingContext) (k : Knows program own false s) (z : Option Size)
-      (e : Option Expression) → value_fits s z e ≡ true
-      → OptionalFits program linear rate most own e
-  value_optional s k z None h = tt
-  value_optional s k z (Some e) h = expression_fits program own false s k e (both_left _ _ h)
-
-  result_fits : (i : Inside) (k : Knows program own false i.scope) (e : Option Expression)
-      → result_sound i e ≡ true → OptionalFits program linear rate most own e
-  result_fits i k None h = tt
-  result_fits i k (Some e) h = expression_fits program own false i.scope k e
-      (both_left _ _ (both_left _ _ h))
 
   -- ---- code in a body
 
@@ -68,8 +49,11 @@ module _ (program : Program) (linear : LinearProgram) (rate most own : ℕ) wher
         → DeclaredPlaced program linear rate most own b names d rs at
     declared_placed s k names d rs at ok h c =
         let n = declared_length names d at in (
-          subst (λ m. d.local < m) k.sizes (ltb-true d.local (length s.sizes) (both_left _ _ ok)),
-          value_optional s k (slice_get s.sizes d.local) d.value (both_right _ _ ok),
+          subst (λ m. d.local < m) k.sizes
+              (ltb-true d.local (length s.sizes) (both_left _ _ (both_left _ _ ok))),
+          value_optional program linear rate most own s k (slice_get s.sizes d.local) d.value
+              (both_right _ _ (both_left _ _ ok)),
+          stacked_fits program linear rate most own s k d.stacked d.value (both_right _ _ ok),
           code_is_at rs at (declared_code names d at) h (λ q lo hi. c q lo (omega arith)),
         )
 
@@ -140,7 +124,7 @@ module _ (program : Program) (linear : LinearProgram) (rate most own : ℕ) wher
           i scope a owner rs at j ok (omega arith) h c f n
       place (Evaluate e) b lb there i scope a owner rs at j ok light h c f n =
           let l = discarded_length scope.names e at in (
-            optional_fits i.scope a.knows e ok,
+            optional_fits program linear rate most own i.scope a.knows e ok,
             code_is_at b lb there rs at
                 (discarded_code scope.names e at) h (λ q lo hi. c q lo (omega arith)),
           )
@@ -245,14 +229,15 @@ module _ (program : Program) (linear : LinearProgram) (rate most own : ℕ) wher
             declared = all_declared_placed b lb there i.scope a.knows names ds rs at
                 (both_left _ _ (both_left _ _ (both_left _ _ (both_left _ _ ok))))
                 (front lb.code at declares _ h) (λ q lo hi. before q lo (omega arith));
-            first = optional_fits i.scope a.knows first'
+            first = optional_fits program linear rate most own i.scope a.knows first'
                 (both_right _ _ (both_left _ _ (both_left _ _ (both_left _ _ ok))));
             begins = code_is_at b lb there rs begin begins (front lb.code begin begins _ h1)
                 (λ q lo hi. before q (omega arith) (omega arith));
             iterations = record {
-              condition = test_fits i.scope a.knows t
+              condition = test_fits program linear rate most own i.scope a.knows t
                   (both_right _ _ (both_left _ _ (both_left _ _ ok)));
-              next = optional_fits i.scope a.knows next (both_right _ _ (both_left _ _ ok));
+              next = optional_fits program linear rate most own i.scope a.knows next
+                  (both_right _ _ (both_left _ _ ok));
               tests = code_is_at b lb there rs iteration tests (front lb.code iteration tests _ h2)
                   (λ q lo hi. before q (omega arith) (omega arith));
               body = place s b lb there (record i { loop = true }) inner
@@ -310,7 +295,7 @@ module _ (program : Program) (linear : LinearProgram) (rate most own : ℕ) wher
           let code = returned_code scope.names e at in
           let l = returned_length scope.names e at in
           let m = return_length scope.exit in record {
-            value = result_fits i a.knows e (both_right _ _ ok);
+            value = result_fits program linear rate most own i a.knows e (both_right _ _ ok);
             computes = code_is_at b lb there rs at code
                 (front lb.code at code (return_code scope.exit) h)
                 (λ q lo hi. c q lo (omega arith));
@@ -341,15 +326,17 @@ module _ (program : Program) (linear : LinearProgram) (rate most own : ℕ) wher
           let names = scope.names in
           let at_jump = at + statements_size body in
           let target = at_jump + 1 in
-          let end = target + 1 + statements_size block in
+          let end = target + 2 + statements_size block in
           let inner = in_try end scope in
           let guarded = statements_code inner body at in
-          let handles = statements_code (in_except scope) block (target + 1) in
+          let handles = statements_code (in_except scope) block (target + 2) in
           let l = statements_length inner body at in
-          let h1 = back lb.code at at_jump guarded (landed end names.free ++ handles) (omega arith)
-          h in
+          let h1 = back lb.code at at_jump guarded (landed names.part end names.free ++ handles)
+          (omega arith) h in
+          let h2 = moved lb.code (at_jump + 1 + 1 + 1) (target + 2) handles (omega arith) h1.1.1.1
+          in
           let rb = statements_regions body at in
-          let rh = statements_regions block (target + 1) in
+          let rh = statements_regions block (target + 2) in
           let try = region at target (except_kind filter target) in
           let fb = statements_funclets owner names body in
           let ff = filter_funclets owner (filter_names names) filter in
@@ -362,7 +349,7 @@ module _ (program : Program) (linear : LinearProgram) (rate most own : ℕ) wher
           let cn = length-append (funclets body) numbers in
           let nb = count_front (j + 1) (funclets body ++ numbers) (funclets block) n in
           let alone = λ (q : ℕ) (lo : at ≤ q) (hi : q < target). own_in try rh q lo hi
-          ∙ ap (λ x. try ∷ x) (all_outside block (target + 1) q (inl (omega arith))) in
+          ∙ ap (λ x. try ∷ x) (all_outside block (target + 2) q (inl (omega arith))) in
           let past = λ (q : ℕ) (lo : target ≤ q). right_only rb (try ∷ rh) q
           (all_outside body at q (inr (omega arith))) ∙ own_out try rh q (inr lo) in
           record {
@@ -378,14 +365,15 @@ module _ (program : Program) (linear : LinearProgram) (rate most own : ℕ) wher
                 (λ q lo hi. c q (omega arith) (omega arith) ∙ ap (λ x. x ++ rs)
                 (right_only rb (try ∷ rh) q (all_outside body at q (inr lo))
                 ∙ alone q (omega arith) (omega arith)));
-            landing = code_is_at b lb there rs target (Landing (Local names.free) ∷ []) (h1.1.0, tt)
+            landing = code_is_at b lb there rs target (Landing (Local names.free)
+                ∷ reset_code names.part ∷ []) (h1.1.0, (h1.1.1.0, tt))
                 (λ q lo hi. bare linear b rs (rb ++ (try ∷ rh)) q
-                (past q lo ∙ all_outside block (target + 1) q (inl (omega arith)))
+                (past q lo ∙ all_outside block (target + 2) q (inl (omega arith)))
                 (c q (omega arith) (omega arith)));
             block = place_all block b lb there (record i { scope = record i.scope { code = true } })
                 (in_except scope) (except_alike program linear rate most own i scope a) owner rs
-                (target + 1)
-                (j + length fb + length ff) (both_right _ _ ok) (omega arith) h1.1.1
+                (target + 2)
+                (j + length fb + length ff) (both_right _ _ ok) (omega arith) h2
                 (λ q lo hi. part linear b rs (rb ++ (try ∷ rh)) rh q (past q (omega arith))
                 (c q (omega arith) (omega arith)))
                 f2 (count_back (j + 1) (j + length fb + length ff + 1) (funclets body ++ numbers)
@@ -419,12 +407,16 @@ module _ (program : Program) (linear : LinearProgram) (rate most own : ℕ) wher
           let home : body_of linear (FuncletBody (k - 1)) ≡ Some funclet.body = ap funclet_body
           is_there in
           let whole = whole_is_at funclet.body.code in
-          let code = statements_code (finally_scope names) last 0 in
+          let begins = finally_begin names.part names.free in
+          let code = statements_code (finally_scope names) last 3 in
           let ends = instructions.Return (Local names.free) ∷ [] in
-          let ll = statements_length (finally_scope names) last 0 in
+          let ll = statements_length (finally_scope names) last 3 in
+          let lb' = begin_length names.part names.free in
+          let after = back funclet.body.code 0 3 begins (code ++ ends) (omega arith) whole in
           let cover = whole_cover linear (FuncletBody (k - 1)) funclet.body home 0
           (length funclet.body.code) in
           let wide = length-append code ends in
+          let wider = length-append begins (code ++ ends) in
           let past = λ (q : ℕ) (lo : at_end + 1 ≤ q). right_only rb (try ∷ []) q
           (all_outside body at q (inr (omega arith))) ∙ own_out try [] q (inr lo) in
           record {
@@ -448,17 +440,22 @@ module _ (program : Program) (linear : LinearProgram) (rate most own : ℕ) wher
             block = record {
               numbered = omega arith;
               funclet = (funclet, is_there, refl);
+              begins = code_is_at (FuncletBody (k - 1)) funclet.body home [] 0 begins
+                  (front funclet.body.code 0 begins (code ++ ends) whole)
+                  (λ q lo hi. bare linear (FuncletBody (k - 1)) [] (statements_regions last 3) q
+                  (all_outside last 3 q (inl (omega arith))) (cover q lo (omega arith)));
               code = place_all last (FuncletBody (k - 1)) funclet.body home (in_finally i)
                   (finally_scope names) (finally_alike program linear rate most own i scope names a)
                   (in_funclet (k - 1) owner) []
-                  0 (j + length fb + 1) (both_right _ _ ok) (omega arith)
-                  (front funclet.body.code 0 code ends whole) (λ q lo hi. cover q lo (omega arith))
+                  3 (j + length fb + 1) (both_right _ _ ok) (omega arith)
+                  (front funclet.body.code 3 code ends after)
+                  (λ q lo hi. cover q (omega arith) (omega arith))
                   f1.1 (both_right _ _ n1);
-              returns = code_is_at (FuncletBody (k - 1)) funclet.body home [] (statements_size last)
-                  ends (back funclet.body.code 0 (statements_size last) code ends (omega arith)
-                  whole)
-                  (λ q lo hi. bare linear (FuncletBody (k - 1)) [] (statements_regions last 0) q
-                  (all_outside last 0 q (inr (omega arith)))
+              returns = code_is_at (FuncletBody (k - 1)) funclet.body home []
+                  (3 + statements_size last) ends (back funclet.body.code 3
+                  (3 + statements_size last) code ends (omega arith) after)
+                  (λ q lo hi. bare linear (FuncletBody (k - 1)) [] (statements_regions last 3) q
+                  (all_outside last 3 q (inr (omega arith)))
                   (cover q (omega arith) (omega arith)));
             };
           }

@@ -185,7 +185,7 @@ local_set_alike shapes st store k x v z h l p = record {
       (local_alike z (at_list st.frames k) (at_list store.activations k) x v l (p.each k z h)) p;
 }
 
-set_itself : (xs : List (List ℕ)) (k : ℕ) → set xs k (at_list xs k) ≡ xs
+pub set_itself : (xs : List (List ℕ)) (k : ℕ) → set xs k (at_list xs k) ≡ xs
 set_itself [] k = refl
 set_itself (x ∷ xs) zero = refl
 set_itself (x ∷ xs) (suc k) = ap (λ ys. x ∷ ys) (set_itself xs k)

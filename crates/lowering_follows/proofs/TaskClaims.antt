@@ -1,8 +1,8 @@
 -- What is claimed of each kind of task inside expressions.
 use Rattle.std.proofs.Common.{◌≡◌, ◌≤◌, ℕ, zero, ◌+◌, List, [], ◌∷◌, ◌++◌, length}
 use Rattle.std.specs.Prelude.{Bool, false, slice_get, Some, None}
-use Rattle.lowering_follows.specs.Words.{Memory, Operation, performed, Expression, Lvalue, Global, Indirection, Element, Program, Function, is_reserved, Exception, State, Context, Handler, Eval, Locate, Raise, RunFilter, Retry, raise_event, enter, within, Temporary, LinearProgram, LinearFunction, Resumption, Waits, Store, Configuration, deeper, with_temporary, regions_at, handlers, begin_filter, raise, resumed, answered, begin_function, is_constant, exec, Names, expression_size, locate_size, expression_code, locate_code, ExpressionFits, LvalueFits, expression_weight, lvalue_weight, HasAt, IsPrefixOf, Local}
-use Rattle.linear_code.specs.Program.{weight}
+use Rattle.lowering_follows.specs.Words.{Memory, Operation, performed, Expression, Lvalue, Global, Stacked, Indirection, Element, Program, Function, is_reserved, Exception, State, Context, Handler, Eval, Locate, Raise, RunFilter, Retry, raise_event, enter, within, Temporary, LinearProgram, LinearFunction, Resumption, Waits, Store, Configuration, deeper, with_temporary, regions_at, handlers, begin_filter, raise, resumed, answered, begin_function, is_constant, exec, Names, expression_size, locate_size, expression_code, locate_code, ExpressionFits, LvalueFits, expression_weight, lvalue_weight, HasAt, IsPrefixOf, Local}
+use Rattle.linear_code.specs.Program.{depth_weight}
 use Rattle.linear_code.specs.declared.instruction.Instruction.TheVariants as instructions
 use Rattle.lowering_follows.proofs.Lemmas.{prefix_less, events_of, search_shows, Part, at, Site, frame_of, conf, value_ways, normal_ways, price, Claim}
 use Rattle.linear_machine.specs.Frames as machine
@@ -14,6 +14,7 @@ use Rattle.lowering_follows.proofs.Environments.{FilterFits, KeptFrom, Env}
 abbrev pub located : Lvalue → List ℕ → ℕ → List ℕ
 located (Local x) temps a = temps
 located (Global access n) temps a = temps ++ a ∷ []
+located (Stacked access base offset) temps a = temps ++ a ∷ []
 located (Indirection access e) temps a = temps ++ a ∷ []
 located (Element access e i) temps a = temps ++ a ∷ []
 
@@ -123,12 +124,12 @@ module _ (program : Program) (linear : LinearProgram) (rate body : ℕ) where
         → regions_at linear site.body pc ≡ site.regions
         → Around names info z shapes context site base → Within shapes base st store
         → st.held ≡ site.held
-        → Claim linear rate (λ next. deeper (weight lf) site.held store st.events
+        → Claim linear rate (λ next. deeper (depth_weight lf) site.held store st.events
         (next (begin_function k lf vs site.held
         (Waits (frame_of context site pc temps) ∷ site.below) store st.events))) st
-        (price 3 0 body body)
+        (price 13 0 body body)
         (value_ways (pushed context site (pc + 1) temps) (Within shapes base) context site)
-        (enter (within program n) k (Some fn) vs context st)
+        (enter program (within program n) k (Some fn) vs context st)
 
   pub shown_raise : (exc : Exception) (resumption : Resumption) (c : Configuration)
       → IsPrefixOf c.events (events_of (raise linear (exec linear zero) exc resumption c))

@@ -16,8 +16,8 @@ use Rattle.lowering_follows.proofs.TaskClaims.{pushed, with_address, Operands, A
 use Rattle.lowering_follows.proofs.Raises.{raise_runs, filter_runs}
 use Rattle.lowering_follows.proofs.Operations.{locate_runs, operate_runs}
 use Rattle.lowering_follows.proofs.NodeParts.{Kp, Wv, conversion_then, here_other}
-use Rattle.lowering_follows.proofs.Nodes.{NodeRuns, binary_runs, not_runs, comma_runs, unary_runs, and_runs, or_runs, conditional_runs}
-use Rattle.lowering_follows.proofs.Leaves.{constant_node, code_node, flag_node, field_node}
+use Rattle.lowering_follows.proofs.Nodes.{NodeRuns, RunsIn, spares, binary_runs, not_runs, comma_runs, unary_runs, and_runs, or_runs, conditional_runs}
+use Rattle.lowering_follows.proofs.Leaves.{constant_node, array_node, code_node, flag_node, field_node}
 use Rattle.lowering_follows.proofs.LvalueNodes.{read_node, address_node, assign_node}
 use Rattle.lowering_follows.proofs.Changes.{compound_node, increment_node}
 use Rattle.lowering_follows.proofs.Calls.{call_node, built_in_node}
@@ -31,80 +31,107 @@ module _ (program : Program) (linear : LinearProgram) (rate body : ℕ)
     module _ (names : Names) (info : Bool) (z : Shape) (shapes : List Shape) (context : Context)
         (site : Site) (base : Store) (around : Around program linear rate body names info z shapes
         context site base) where
+      spared : (nd : Node) (pc : ℕ) (temps : List ℕ) (st : State) (store : Store)
+          → NodeRuns program linear rate body same_globals roomy n ih names info z shapes context
+          site base around nd pc temps st store
+          → RunsIn program linear rate body same_globals roomy n ih names info z shapes context
+          site base around 14 nd pc temps st store
+      spared nd pc temps st store h = spares program linear rate body same_globals roomy n ih names
+          info z shapes context site base around nd pc temps st store h
+
       node_runs : (nd : Node) (pc : ℕ) (temps : List ℕ) (st : State) (store : Store)
           → st.steps_left ≤ n → 1 + node_weight nd + body + 4 ≤ rate → NodeFits program z.own info
           nd
           → HasAt linear site.body site.regions pc (node_code names nd (length temps) pc)
           → Kp program linear rate body same_globals roomy n ih names info z shapes context site
           base around st store → st.held ≡ site.held
-          → NodeRuns program linear rate body same_globals roomy n ih names info z shapes context
-          site base around nd pc temps st store
-      node_runs (nodes.Constant size v) pc temps st store steps light fits has kept held =
-          constant_node program linear rate body same_globals roomy n ih names info z shapes
-          context site base around size v pc temps st store fits has kept held
-      node_runs (nodes.Read p) pc temps st store steps light fits has kept held = read_node program
+          → RunsIn program linear rate body same_globals roomy n ih names info z shapes context
+          site base around 14 nd pc temps st store
+      node_runs (nodes.Constant size v) pc temps st store steps light fits has kept held = spared
+          (nodes.Constant size v) pc temps st store
+          (constant_node program linear rate body same_globals roomy n ih names info z shapes
+          context site base around size v pc temps st store fits has kept held)
+      node_runs (nodes.StackedArray b offset) pc temps st store steps light fits has kept held =
+          spared (nodes.StackedArray b offset) pc temps st store
+          (array_node program linear rate body same_globals roomy n ih names info z shapes
+          context site base around b offset pc temps st store fits has kept held)
+      node_runs (nodes.Read p) pc temps st store steps light fits has kept held = spared
+          (nodes.Read p) pc temps st store (read_node program
           linear rate body same_globals roomy n ih names info z shapes context site base around p pc
-          temps st store steps light fits has kept held
-      node_runs (nodes.AddressOf p) pc temps st store steps light fits has kept held = address_node
+          temps st store steps light fits has kept held)
+      node_runs (nodes.AddressOf p) pc temps st store steps light fits has kept held = spared
+          (nodes.AddressOf p) pc temps st store (address_node
           program linear rate body same_globals roomy n ih names info z shapes context site base
-          around p pc temps st store steps light fits has kept held
-      node_runs (nodes.Assign p e) pc temps st store steps light fits has kept held = assign_node
+          around p pc temps st store steps light fits has kept held)
+      node_runs (nodes.Assign p e) pc temps st store steps light fits has kept held = spared
+          (nodes.Assign p e) pc temps st store (assign_node
           program linear rate body same_globals roomy n ih names info z shapes context site base
-          around p e pc temps st store steps light fits has kept held
+          around p e pc temps st store steps light fits has kept held)
       node_runs (nodes.CompoundAssign p before o e after) pc temps st store steps light fits has
-          kept held =
-          compound_node program linear rate body same_globals roomy n ih names info z
+          kept held = spared (nodes.CompoundAssign p before o e after) pc temps st store
+          (compound_node program linear rate body same_globals roomy n ih names info z
           shapes context site base around p before o e after pc temps st store steps light fits has
-          kept held
+          kept held)
       node_runs (nodes.Increment m p before o amount after) pc temps st store steps light fits has
-          kept held =
-          increment_node program linear rate body same_globals roomy n ih names info z
+          kept held = spared (nodes.Increment m p before o amount after) pc temps st store
+          (increment_node program linear rate body same_globals roomy n ih names info z
           shapes context site base around m p before o amount after pc temps st store steps light
           fits
-          has kept held
-      node_runs (nodes.Unary o e) pc temps st store steps light fits has kept held = unary_runs
+          has kept held)
+      node_runs (nodes.Unary o e) pc temps st store steps light fits has kept held = spared
+          (nodes.Unary o e) pc temps st store (unary_runs
           program linear rate body same_globals roomy n ih names info z shapes context site base
-          around o e pc temps st store steps light fits has kept held
-      node_runs (nodes.Binary o e f) pc temps st store steps light fits has kept held = binary_runs
+          around o e pc temps st store steps light fits has kept held)
+      node_runs (nodes.Binary o e f) pc temps st store steps light fits has kept held = spared
+          (nodes.Binary o e f) pc temps st store (binary_runs
           program linear rate body same_globals roomy n ih names info z shapes context site base
-          around o e f pc temps st store steps light fits has kept held
+          around o e f pc temps st store steps light fits has kept held)
       node_runs (nodes.PointerDifference size e f) pc temps st store steps light fits has kept
-          held =
-          difference_node program linear rate body same_globals roomy n ih names info z shapes
-          context site base around size e f pc temps st store steps light fits has kept held
-      node_runs (nodes.Not e) pc temps st store steps light fits has kept held = not_runs program
+          held = spared (nodes.PointerDifference size e f) pc temps st store
+          (difference_node program linear rate body same_globals roomy n ih names info z shapes
+          context site base around size e f pc temps st store steps light fits has kept held)
+      node_runs (nodes.Not e) pc temps st store steps light fits has kept held = spared
+          (nodes.Not e) pc temps st store (not_runs program
           linear rate body same_globals roomy n ih names info z shapes context site base around e pc
-          temps st store steps light fits has kept held
-      node_runs (nodes.And e f) pc temps st store steps light fits has kept held = and_runs program
+          temps st store steps light fits has kept held)
+      node_runs (nodes.And e f) pc temps st store steps light fits has kept held = spared
+          (nodes.And e f) pc temps st store (and_runs program
           linear rate body same_globals roomy n ih names info z shapes context site base around e f
           pc
-          temps st store steps light fits has kept held
-      node_runs (nodes.Or e f) pc temps st store steps light fits has kept held = or_runs program
+          temps st store steps light fits has kept held)
+      node_runs (nodes.Or e f) pc temps st store steps light fits has kept held = spared
+          (nodes.Or e f) pc temps st store (or_runs program
           linear rate body same_globals roomy n ih names info z shapes context site base around e f
           pc
-          temps st store steps light fits has kept held
-      node_runs (nodes.Conditional c e f) pc temps st store steps light fits has kept held =
-          conditional_runs program linear rate body same_globals roomy n ih names info z shapes
-          context site base around c e f pc temps st store steps light fits has kept held
-      node_runs (nodes.Comma e f) pc temps st store steps light fits has kept held = comma_runs
+          temps st store steps light fits has kept held)
+      node_runs (nodes.Conditional c e f) pc temps st store steps light fits has kept held = spared
+          (nodes.Conditional c e f) pc temps st store
+          (conditional_runs program linear rate body same_globals roomy n ih names info z shapes
+          context site base around c e f pc temps st store steps light fits has kept held)
+      node_runs (nodes.Comma e f) pc temps st store steps light fits has kept held = spared
+          (nodes.Comma e f) pc temps st store (comma_runs
           program linear rate body same_globals roomy n ih names info z shapes context site base
-          around e f pc temps st store steps light fits has kept held
+          around e f pc temps st store steps light fits has kept held)
       node_runs (nodes.Call f es) pc temps st store steps light fits has kept held = call_node
           program linear rate body same_globals roomy n ih functions_at names info z shapes context
           site base around f es pc temps st store steps light fits has kept held
-      node_runs (nodes.CallBuiltIn b es) pc temps st store steps light fits has kept held =
-          built_in_node program linear rate body same_globals roomy n ih functions_at names
+      node_runs (nodes.CallBuiltIn b es) pc temps st store steps light fits has kept held = spared
+          (nodes.CallBuiltIn b es) pc temps st store
+          (built_in_node program linear rate body same_globals roomy n ih functions_at names
           info z shapes context site base around b es pc temps st store steps light fits has kept
-          held
-      node_runs nodes.ExceptionCode pc temps st store steps light fits has kept held = code_node
+          held)
+      node_runs nodes.ExceptionCode pc temps st store steps light fits has kept held = spared
+          nodes.ExceptionCode pc temps st store (code_node
           program linear rate body same_globals roomy n ih names info z shapes context site base
-          around pc temps st store has kept held
-      node_runs (nodes.Information f) pc temps st store steps light fits has kept held = field_node
+          around pc temps st store has kept held)
+      node_runs (nodes.Information f) pc temps st store steps light fits has kept held = spared
+          (nodes.Information f) pc temps st store (field_node
           program linear rate body same_globals roomy n ih names info z shapes context site base
-          around f pc temps st store fits has kept held
-      node_runs nodes.AbnormalTermination pc temps st store steps light fits has kept held =
-          flag_node program linear rate body same_globals roomy n ih names info z shapes
-          context site base around pc temps st store has kept held
+          around f pc temps st store fits has kept held)
+      node_runs nodes.AbnormalTermination pc temps st store steps light fits has kept held = spared
+          nodes.AbnormalTermination pc temps st store
+          (flag_node program linear rate body same_globals roomy n ih names info z shapes
+          context site base around pc temps st store has kept held)
 
       -- an expression, after its step
       expression_runs : (e : Expression) (pc : ℕ) (temps : List ℕ) (st : State) (store : Store)
@@ -128,7 +155,7 @@ module _ (program : Program) (linear : LinearProgram) (rate body : ℕ)
           let cn = node_code names nd d pc in
           then_value linear rate _ (pushed context site pc1 temps)
           (Wv program linear rate body same_globals roomy n ih names info z shapes context site
-          base around part) st (price 13 1 w w) (price 3 0 0 0) (price 16 1 w w)
+          base around part) st (price 14 1 w w) (price 2 0 0 0) (price 16 1 w w)
           (model.node program (within program n) nd context st)
           (λ v st. Gives (Value (converted c v)) st)
           (joins (omega arith) (omega arith) (omega arith) (omega arith))
@@ -185,7 +212,7 @@ module _ (program : Program) (linear : LinearProgram) (rate body : ℕ)
           (omega arith) (from_none linear zero (conf context site pc temps st store))
           (λ m less.
           let low : State = record st { steps_left = m } in
-          more linear rate _ low (price 1 0 w w) (price 16 1 (1 + w) (1 + w))
+          more linear rate _ low (price 2 0 w w) (price 16 1 (1 + w) (1 + w))
           (Wv program linear rate body same_globals roomy n ih names info z shapes context site
           base around (with_address context site (pc + locate_size p) p temps))
           (locate (within program n) p context low) (omega arith, omega arith, omega arith)

@@ -2,7 +2,7 @@
 -- out.
 use Rattle.std.proofs.Common.{◌≡◌, ◌⊎◌, inl, inr, ◌<◌, ◌≤◌, ℕ, ◌+◌, List, ◌∷◌, ◌++◌, length, refl, ap, sym, subst, ◌∙◌, arith}
 use Rattle.std.specs.Prelude.{Bool, slice_get, Option, Some, None}
-use Rattle.lowering_follows.specs.Words.{Filter, Always, Funclet, Program, Exception, State, Returned, Broke, Continued, LeftTry, Target, Outcome, Gives, Context, Handler, of_test, Region, LinearProgram, BodyName, Store, set_local, Unwinds, Names, ExceptionSource, LoweringContext, NoException, OfFilter, KeptIn, Nowhere, Jumps, except_names, filter_names, finally_names, in_try, in_except, in_guarded, except_kind, region, FilterPlaced, handlers_of}
+use Rattle.lowering_follows.specs.Words.{Filter, Always, Funclet, Program, Exception, State, Returned, Broke, Continued, LeftTry, Target, Outcome, Gives, Context, Handler, of_test, Region, LinearProgram, Store, set_local, Unwinds, Names, ExceptionSource, LoweringContext, NoException, OfFilter, KeptIn, Nowhere, Jumps, except_names, filter_names, finally_names, in_try, in_except, in_guarded, except_kind, region, FilterPlaced, handlers_of}
 use Rattle.lowering_expressions.specs.declared.scope.Way.TheVariants.{Unwinds}
 use Rattle.linear_code.specs.declared.program.RegionKind.{RegionKind}
 use Rattle.linear_code.specs.declared.program.RegionKind.TheVariants as regions
@@ -13,7 +13,7 @@ use Rattle.lowering_expressions.specs.declared.scope.Way as jumps
 use Rattle.lowering_expressions.specs.Scope as scopes
 use Rattle.lowering_follows.proofs.Stores.{Shape, NotesKept, below_slot, kept_set, kept_through, kept_fewer, kept_itself, note_read, note_set_alike}
 use Rattle.lowering_follows.proofs.Environments.{CodeBound, code_kept, code_among, flag_kept, flag_among, Match, match_kept, match_among, functions_at}
-use Rattle.lowering_follows.proofs.BodyClaims.{JumpFits, ExitFits, Inner, exit_way, jump_way, leave_way, statement_ways, Stays, Surroundings}
+use Rattle.lowering_follows.proofs.BodyClaims.{JumpFits, Inner, exit_way, jump_way, leave_way, statement_ways, Stays, Surroundings}
 
 -- inside one region more
 abbrev pub within_region : Region → Site → Site
@@ -35,32 +35,18 @@ jump_in r rs hi hi' Nowhere le e f = tt
 jump_in r rs hi hi' (Jumps label) le e f = let a = f.0 in (omega arith, inr (e, f.1))
 jump_in r rs hi hi' (Unwinds label) le e f = omega arith
 
-exit_in : (linear : LinearProgram) (b : BodyName) (r : Region) (rs : List Region) (hi hi' : ℕ)
-    (way : jumps.Way) → hi' ≤ hi → IsExcept r.kind r.end → ExitFits linear b rs hi way
-    → ExitFits linear b (r ∷ rs) hi' way
-exit_in linear b r rs hi hi' Nowhere le e f = tt
-exit_in linear b r rs hi hi' (Jumps label) le e f = let a = f.0 in (omega arith, inr (e, f.1), f.2)
-exit_in linear b r rs hi hi' (Unwinds label) le e f = omega arith
-
 jump_over : (r : Region) (rs : List Region) (hi hi' : ℕ) (way : jumps.Way) → hi' ≤ hi
     → JumpFits rs hi way → JumpFits (r ∷ rs) hi' (scopes.unwound way)
 jump_over r rs hi hi' Nowhere le f = tt
 jump_over r rs hi hi' (Jumps label) le f = let a = f.0 in omega arith
 jump_over r rs hi hi' (Unwinds label) le f = omega arith
 
-exit_over : (linear : LinearProgram) (b : BodyName) (r : Region) (rs : List Region) (hi hi' : ℕ)
-    (way : jumps.Way) → hi' ≤ hi → ExitFits linear b rs hi way
-    → ExitFits linear b (r ∷ rs) hi' (scopes.unwound way)
-exit_over linear b r rs hi hi' Nowhere le f = tt
-exit_over linear b r rs hi hi' (Jumps label) le f = let a = f.0 in omega arith
-exit_over linear b r rs hi hi' (Unwinds label) le f = omega arith
-
 -- the body of a `__try` from lo up to hi', whose region ends after that
-pub inside_except : (linear : LinearProgram) (b : BodyName) (scope : LoweringContext)
+pub inside_except : (scope : LoweringContext)
     (filter : Filter) (target done : ℕ) (rs : List Region) (lo hi hi' : ℕ) → hi' < target
-    → target ≤ hi → Inner linear b scope rs lo hi
-    → Inner linear b (in_try done scope) (region lo target (except_kind filter target) ∷ rs) lo hi'
-inside_except linear b scope filter target done rs lo hi hi' l h f =
+    → target ≤ hi → Inner scope rs lo hi
+    → Inner (in_try done scope) (region lo target (except_kind filter target) ∷ rs) lo hi'
+inside_except scope filter target done rs lo hi hi' l h f =
     let r = region lo target (except_kind filter target) in
     let e = is_except filter target in
     record {
@@ -68,23 +54,23 @@ inside_except linear b scope filter target done rs lo hi hi' l h f =
         record { begin = omega arith; end = l; block = is_block filter target },
         around_part rs lo hi lo hi' (omega arith) (omega arith) f.around,
       );
-      exit = exit_in linear b r rs hi hi' scope.exit (omega arith) e f.exit;
+      exit = jump_in r rs hi hi' scope.exit (omega arith) e f.exit;
       loop_end = jump_in r rs hi hi' scope.loop_end (omega arith) e f.loop_end;
       loop_next = jump_in r rs hi hi' scope.loop_next (omega arith) e f.loop_next;
     }
 
-pub inside_finally : (linear : LinearProgram) (b : BodyName) (scope : LoweringContext)
+pub inside_finally : (scope : LoweringContext)
     (k end done : ℕ) (rs : List Region) (lo hi hi' : ℕ) → hi' < end → end ≤ hi
-    → Inner linear b scope rs lo hi
-    → Inner linear b (in_guarded done scope) (region lo end (regions.Finally k) ∷ rs) lo hi'
-inside_finally linear b scope k end done rs lo hi hi' l h f =
+    → Inner scope rs lo hi
+    → Inner (in_guarded done scope) (region lo end (regions.Finally k) ∷ rs) lo hi'
+inside_finally scope k end done rs lo hi hi' l h f =
     let r = region lo end (regions.Finally k) in
     record {
       around = (
         record { begin = omega arith; end = l; block = tt },
         around_part rs lo hi lo hi' (omega arith) (omega arith) f.around,
       );
-      exit = exit_over linear b r rs hi hi' scope.exit (omega arith) f.exit;
+      exit = jump_over r rs hi hi' scope.exit (omega arith) f.exit;
       loop_end = jump_over r rs hi hi' scope.loop_end (omega arith) f.loop_end;
       loop_next = jump_over r rs hi hi' scope.loop_next (omega arith) f.loop_next;
     }
@@ -118,6 +104,7 @@ abbrev pub elsewhere : Context → List Handler → Exception → Context
 elsewhere context hs exc = record {
   handlers = hs;
   activation = context.activation;
+  data_part = context.data_part;
   exception = exc;
   abnormal = context.abnormal;
 }
@@ -190,6 +177,9 @@ module _ (program : Program) (linear : LinearProgram) (rate body : ℕ) where
         past = let p = standing.past in omega arith;
         room = omega arith;
         plain = λ e. absurd (cc);
+        part = standing.part;
+        base_fits = standing.base_fits;
+        globals = standing.globals;
       }
 
   pub surroundings_finally : (names : Names) (z : Shape) (shapes : List Shape) (context : Context)
@@ -239,6 +229,9 @@ module _ (program : Program) (linear : LinearProgram) (rate body : ℕ) where
         past = let p = standing.past in omega arith;
         room = omega arith;
         plain = standing.plain;
+        part = standing.part;
+        base_fits = standing.base_fits;
+        globals = standing.globals;
       }
 
   pub noted_kept : (names names' : Names) (z : Shape) (shapes : List Shape) (context : Context)
@@ -303,6 +296,9 @@ module _ (program : Program) (linear : LinearProgram) (rate body : ℕ) where
         past = s.past;
         room = s.room;
         plain = s.plain;
+        part = s.part;
+        base_fits = s.base_fits;
+        globals = s.globals;
       }
   surroundings_try (Funclet k e) names z shapes context site base lo target notes f s =
       let hs = record {
@@ -341,6 +337,9 @@ module _ (program : Program) (linear : LinearProgram) (rate body : ℕ) where
         past = s.past;
         room = s.room;
         plain = s.plain;
+        part = s.part;
+        base_fits = s.base_fits;
+        globals = s.globals;
       }
 
   -- the body of one with a `__finally`
@@ -362,6 +361,9 @@ module _ (program : Program) (linear : LinearProgram) (rate body : ℕ) where
         past = s.past;
         room = s.room;
         plain = s.plain;
+        part = s.part;
+        base_fits = s.base_fits;
+        globals = s.globals;
       }
 
   -- ---- a block claims what is claimed of what is around it

@@ -13,7 +13,7 @@ use Rattle.linear_machine.proofs.Walks.{Inside}
 use Rattle.lowering_expressions.specs.declared.scope.Way as jumps
 use Rattle.lowering_follows.proofs.Stores.{Shape}
 use Rattle.lowering_follows.proofs.Turns.{jump_turn}
-use Rattle.lowering_follows.proofs.BodyClaims.{JumpFits, ExitFits, Inner, own_target, exit_way, jump_way, statement_ways}
+use Rattle.lowering_follows.proofs.BodyClaims.{JumpFits, Inner, own_target, exit_way, jump_way, statement_ways}
 use Rattle.lowering_follows.proofs.Tries.{within_region, is_except, is_block, picked_of, elsewhere}
 
 module _ (program : Program) (linear : LinearProgram) (rate body : ℕ) where
@@ -60,14 +60,14 @@ module _ (program : Program) (linear : LinearProgram) (rate body : ℕ) where
         (is_except filter target) (is_block filter target) forth o) p
 
     skip_exit : (s : Part) (from : State) (p : Price) (way : jumps.Way) (v : ℕ) (st : State)
-        → ExitFits linear site.body site.regions hi way
+        → JumpFits site.regions hi way
         → Arrives linear rate s from p kept site.held st
         (exit_way program linear rate body inner inside way v)
         → Arrives linear rate s from p kept site.held st
         (exit_way program linear rate body context site way v)
     skip_exit s from p Nowhere v st f q = q
     skip_exit s from p (Jumps label) v st f q =
-        (q.0, record { store = q.1.store; fits = q.1.fits; same = q.1.same; reaches = q.1.reaches })
+        record { store = q.store; fits = q.fits; same = q.same; reaches = q.reaches }
     skip_exit s from p (Unwinds label) v st f q = (
       q.0,
       record {
@@ -130,20 +130,20 @@ module _ (program : Program) (linear : LinearProgram) (rate body : ℕ) where
     pub except_ends : (done x y lo free : ℕ) (names : Names) (scope : LoweringContext) (z : Shape)
         (shapes : List Shape) (base : Store) (notes : ℕ) (s : Part) (from : State) (pc : ℕ)
         (o : Outcome) (go : Exception → State → Outcome)
-        → Inner linear site.body scope site.regions lo hi
+        → Inner scope site.regions lo hi
         → length (found linear rate context site) ≡ length context.handlers
         → HasAt linear site.body (R ∷ site.regions) pc (Jump done ∷ [])
         → HasAt linear site.body site.regions target (Landing (Local free) ∷ [])
         → ((exc : Exception) (st : State) (store : Store) → st.steps_left ≤ from.steps_left
         → kept st store → st.held ≡ site.held
         → Claim linear rate (at (conf context site (target + 1) [] st
-        (set_local store context.activation free exc.code))) st (price 0 0 y y)
+        (set_local store context.activation free exc.code))) st (price 1 0 y y)
         (statement_ways program linear rate body scope context site kept done) (go exc st))
         → ((e : State) (store : Store) → kept e store → (f : State) → f.memory ≡ e.memory
         → f.frames ≡ e.frames → f.functions ≡ e.functions → kept f store)
         → Claim linear rate s from (price 0 0 x x)
         (statement_ways program linear rate body (in_try done scope) inner inside kept pc) o
-        → Claim linear rate s from (price 2 0 (x + y) (x + y))
+        → Claim linear rate s from (price 3 0 (x + y) (x + y))
         (statement_ways program linear rate body scope context site kept done)
         (landing (length context.handlers) site.held o go)
     unfolding landing choose
@@ -157,7 +157,7 @@ module _ (program : Program) (linear : LinearProgram) (rate body : ℕ) where
           fits = p.fits;
           same = p.same;
           reaches = reaches_after linear rate s (at (conf context site pc [] st p.store))
-              (at (conf context site done [] st p.store)) from st st 0 0 x 1 0 0 2 0 (x + y)
+              (at (conf context site done [] st p.store)) from st st 0 0 x 1 0 0 3 0 (x + y)
               (omega arith)
               (omega arith) p.reaches
               (stepped linear rate (conf context site pc [] st p.store)
@@ -168,17 +168,17 @@ module _ (program : Program) (linear : LinearProgram) (rate body : ℕ) where
         }
     except_ends done x y lo free names scope z shapes base notes s from pc (Gives (Returned v) st)
         go fits same has lands_has g alike p =
-        arrives_more linear rate s from st (price 0 0 x x) (price 2 0 (x + y) (x + y)) kept
+        arrives_more linear rate s from st (price 0 0 x x) (price 3 0 (x + y) (x + y)) kept
         site.held (exit_way program linear rate body context site scope.exit v) (omega arith)
         (omega arith) (skip_exit s from (price 0 0 x x) scope.exit v st fits.exit p)
     except_ends done x y lo free names scope z shapes base notes s from pc (Gives Broke st) go fits
         same has lands_has g alike p =
-        arrives_more linear rate s from st (price 0 0 x x) (price 2 0 (x + y) (x + y)) kept
+        arrives_more linear rate s from st (price 0 0 x x) (price 3 0 (x + y) (x + y)) kept
         site.held (jump_way program linear rate body context site scope.loop_end) (omega arith)
         (omega arith) (skip_jump s from (price 0 0 x x) scope.loop_end st fits.loop_end p)
     except_ends done x y lo free names scope z shapes base notes s from pc (Gives Continued st) go
         fits same has lands_has g alike p =
-        arrives_more linear rate s from st (price 0 0 x x) (price 2 0 (x + y) (x + y)) kept
+        arrives_more linear rate s from st (price 0 0 x x) (price 3 0 (x + y) (x + y)) kept
         site.held (jump_way program linear rate body context site scope.loop_next) (omega arith)
         (omega arith) (skip_jump s from (price 0 0 x x) scope.loop_next st fits.loop_next p)
     except_ends done x y lo free names scope z shapes base notes s from pc (Gives LeftTry st) go
@@ -188,15 +188,15 @@ module _ (program : Program) (linear : LinearProgram) (rate body : ℕ) where
           fits = p.fits;
           same = p.same;
           reaches = reaches_more linear rate s (at (conf context site done [] st p.store)) from st 0
-              0 x 2 0 (x + y) (omega arith) (omega arith) p.reaches;
+              0 x 3 0 (x + y) (omega arith) (omega arith) p.reaches;
         }
     except_ends done x y lo free names scope z shapes base notes s from pc (Gives (End (Some e)) st)
         go fits same has lands_has g alike p =
-        finishes_more linear rate s from st 0 2
+        finishes_more linear rate s from st 0 3
         (Finished e st.events) (omega arith) p
     except_ends done x y lo free names scope z shapes base notes s from pc (Gives (End None) st) go
         fits same has lands_has g alike p =
-        stops_more linear rate s from st 0 0 x 2 0 (x + y)
+        stops_more linear rate s from st 0 0 x 3 0 (x + y)
         (omega arith) (omega arith) p
     except_ends done x y lo free names scope z shapes base notes s from pc
         (Gives (Target level exc) st) go fits same has lands_has g alike p =
@@ -212,18 +212,18 @@ module _ (program : Program) (linear : LinearProgram) (rate body : ℕ) where
             (record st { held = site.held }))) (λ st. Gives (Target level exc) st) st
 
         by_test : (b : Bool) → nat_eq level (length context.handlers) ≡ b
-            → Claim linear rate s from (price 2 0 (x + y) (x + y))
+            → Claim linear rate s from (price 3 0 (x + y) (x + y))
             (statement_ways program linear rate body scope context site kept done) (O b)
-            → Claim linear rate s from (price 2 0 (x + y) (x + y))
+            → Claim linear rate s from (price 3 0 (x + y) (x + y))
             (statement_ways program linear rate body scope context site kept done)
             (O (nat_eq level (length context.handlers)))
-        by_test b e q = subst (λ b. Claim linear rate s from (price 2 0 (x + y) (x + y))
+        by_test b e q = subst (λ b. Claim linear rate s from (price 3 0 (x + y) (x + y))
             (statement_ways program linear rate body scope context site kept done) (O b)) (sym e) q
 
         pick_one : ((length (found linear rate context site) ≡ level)
             × (p.handler.depth ≡ length site.below) × (p.handler.target ≡ target))
             ⊎ Picked (found linear rate context site) level p.handler
-            → Claim linear rate s from (price 2 0 (x + y) (x + y))
+            → Claim linear rate s from (price 3 0 (x + y) (x + y))
             (statement_ways program linear rate body scope context site kept done)
             (O (nat_eq level (length context.handlers)))
         pick_one (inl q) =
@@ -242,16 +242,16 @@ module _ (program : Program) (linear : LinearProgram) (rate body : ℕ) where
             st.events store) (R ∷ site.regions) (conf context site p.pc p.temps st p.store) q.1
             finds_handlers ∙ ap (λ t. exec linear j (at_target t)) q.2) p.reaches in
             by_test true (eq-eqb level (length context.handlers) e)
-            (after linear rate s (at (landed_at exc st p.store)) from st 0 0 x (price 1 0 y y)
-            (price 2 0 (x + y) (x + y)) (statement_ways program linear rate body scope context
+            (after linear rate s (at (landed_at exc st p.store)) from st 0 0 x (price 2 0 y y)
+            (price 3 0 (x + y) (x + y)) (statement_ways program linear rate body scope context
             site kept done) (go exc landed) (omega arith, omega arith, omega arith) come
-            (sooner linear rate (at (landed_at exc st p.store)) st landed (price 1 0 y y)
+            (sooner linear rate (at (landed_at exc st p.store)) st landed (price 2 0 y y)
             (statement_ways program linear rate body scope context site kept done) (go exc landed)
             refl (events.Except (record { 0 = exc.code }) ∷ [], refl)
             (first linear rate (landed_at exc st p.store)
             (at (conf context site (target + 1) [] landed
-            (set_local p.store context.activation free exc.code))) landed landed (price 0 0 y y)
-            (price 1 0 y y) (statement_ways program linear rate body scope context site kept done)
+            (set_local p.store context.activation free exc.code))) landed landed (price 1 0 y y)
+            (price 2 0 y y) (statement_ways program linear rate body scope context site kept done)
             (go exc landed)
             (omega arith, omega arith, omega arith) refl refl
             (prefix_self landed.events)
@@ -274,7 +274,7 @@ module _ (program : Program) (linear : LinearProgram) (rate body : ℕ) where
               reaches = reaches_more linear rate s
                   (unwound linear rate context site (target_of p.handler exc.code st.held) p.temps
                   st
-                  p.store p.pc) from st 0 0 x 2 0 (x + y) (omega arith) (omega arith)
+                  p.store p.pc) from st 0 0 x 3 0 (x + y) (omega arith) (omega arith)
                   (skip_region s from 0 0 x (target_of p.handler exc.code st.held) p.temps st
                   p.store p.pc (outward context site lo hi level p.handler exc.code st.held R
                   fits.around (omega arith) q) p.reaches);

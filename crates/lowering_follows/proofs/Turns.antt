@@ -162,6 +162,78 @@ module _ (linear : LinearProgram) (rate : ℕ) (context : Context) (site : Site)
       (λ b. finish a b))) h
       ∙ ap (λ y. with_some st.events y (λ b. finish v b)) h
 
+  -- an operation on a local and a temporary
+  pub computes_above : (o : Operation) (to x second b : ℕ) (pc : ℕ) (temps : List ℕ) (st : State)
+      (store : Store) (k : ℕ) → is_constant o ≡ false
+      → HasAt linear site.body site.regions pc
+      (Compute (Temporary to) o (Local x) (Temporary second) ∷ [])
+      → slice_get temps second ≡ Some b
+      → exec linear (suc k) (conf context site pc temps st store)
+      ≡ computed linear (exec linear k) (Temporary to) (conf context site pc temps st store)
+      (performed (is_reserved linear.globals) o (local_of store context.activation x) b
+      store.memory)
+  unfolding with_some
+  computes_above o to x second b pc temps st store k e has h =
+      let c = conf context site pc temps st store in
+      let a = local_of store context.activation x in
+      let finish : ℕ → ℕ → Seen = λ a b. computed linear (exec linear k) (Temporary to) c
+      (performed (is_reserved linear.globals) o a b store.memory) in
+      fetch linear rate c (Compute (Temporary to) o (Local x) (Temporary second)) k has.0
+      ∙ ap (λ t. with_some st.events (operand t c (Local x))
+      (λ a. with_some st.events (operand t c (Temporary second)) (λ b. finish a b))) e
+      ∙ ap (λ x. with_some st.events x (λ b. finish a b)) h
+
+  -- one without faults
+  pub pure_above_turn : (p : Pure) (to x second b : ℕ) (result : List ℕ) (pc : ℕ) (temps : List ℕ)
+      (st : State) (store : Store) (k : ℕ) → is_constant (operations.Pure p) ≡ false
+      → HasAt linear site.body site.regions pc
+      (Compute (Temporary to) (operations.Pure p) (Local x) (Temporary second) ∷ [])
+      → slice_get temps second ≡ Some b
+      → with_temporary temps to (result_of p (local_of store context.activation x) b) ≡ Some result
+      → exec linear (suc k) (conf context site pc temps st store)
+      ≡ exec linear k (conf context site (pc + 1) result st store)
+  pure_above_turn p to x second b result pc temps st store k e has h r =
+      let v = result_of p (local_of store context.activation x) b in
+      computes_above (operations.Pure p) to x second b pc temps st store k e has h
+      ∙ computed_gives to pc temps result st store v store.memory (exec linear k) r
+
+  -- an operation on two locals, to a local
+  pub computes_locals : (o : Operation) (to x y : ℕ) (pc : ℕ) (temps : List ℕ) (st : State)
+      (store : Store) (k : ℕ) → is_constant o ≡ false
+      → HasAt linear site.body site.regions pc (Compute (Local to) o (Local x) (Local y) ∷ [])
+      → exec linear (suc k) (conf context site pc temps st store)
+      ≡ computed linear (exec linear k) (Local to) (conf context site pc temps st store)
+      (performed (is_reserved linear.globals) o (local_of store context.activation x)
+      (local_of store context.activation y) store.memory)
+  unfolding with_some
+  computes_locals o to x y pc temps st store k e has =
+      let c = conf context site pc temps st store in
+      let finish : ℕ → ℕ → Seen = λ a b. computed linear (exec linear k) (Local to) c
+      (performed (is_reserved linear.globals) o a b store.memory) in
+      fetch linear rate c (Compute (Local to) o (Local x) (Local y)) k has.0
+      ∙ ap (λ t. with_some st.events (operand t c (Local x))
+      (λ a. with_some st.events (operand t c (Local y)) (λ b. finish a b))) e
+
+  -- the local after an operation's result
+  pub computed_local : (to : ℕ) (pc : ℕ) (temps : List ℕ) (st : State) (store : Store) (v : ℕ)
+      (m : _) (next : Next)
+      → computed linear next (Local to) (conf context site pc temps st store)
+      (performing.Gives v m) ≡ next (conf context site (pc + 1) temps st
+      (set_local (record store { memory = m }) context.activation to v))
+  unfolding with_some
+  computed_local to pc temps st store v m next = refl
+
+  -- a local is tested
+  pub test_local_turn : (label x : ℕ) (pc : ℕ) (temps : List ℕ) (st : State) (store : Store)
+      (k : ℕ) → HasAt linear site.body site.regions pc (JumpIfZero (Local x) label ∷ [])
+      → exec linear (suc k) (conf context site pc temps st store)
+      ≡ pick (nat_eq (local_of store context.activation x) 0)
+      (exec linear k (conf context site label temps st store))
+      (exec linear k (conf context site (pc + 1) temps st store))
+  unfolding with_some
+  test_local_turn label x pc temps st store k has =
+      fetch linear rate (conf context site pc temps st store) (JumpIfZero (Local x) label) k has.0
+
   -- a field of the exception that a filter is asked about
   pub information_turn : (f : Field) (to : ℕ) (result : List ℕ) (pc : ℕ) (temps : List ℕ)
       (st : State) (store : Store) (k : ℕ)

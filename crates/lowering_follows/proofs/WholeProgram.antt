@@ -4,7 +4,7 @@ use native.Mathlib.Nat.{mul-add, mul_comm, mul-one}
 use Rattle.std.proofs.lemmas.Bool.{cases_lt, lt-ltb, le-ltb, ne_eqb}
 use Rattle.std.specs.Prelude.{false, nat_eq, if◌then◌else◌, replicate, slice_get, ℤ, Some, None}
 use Rattle.seh_num.specs.declared.event.Event.{Event}
-use Rattle.lowering_follows.specs.Words.{W32, W64, signed, wrapped, Size, Program, Function, State, Value, Normal, Returned, Target, End, Outcome, Gives, choose, Context, no_exception, all, ended_call, enter, within, does, for_parameters, outside, ran, shows, meaning, Temporary, LinearProgram, LinearFunction, FunctionBody, Store, Configuration, Seen, Finished, with_some, Running, Stuck, begin_function, exec, main_arguments, start, seen, shown, statements_size, statements_notes, constant, own_locals, scope_of, statements_weight, HasAt, FunctionPlaced, first_memory, IsPrefixOf, surplus, hold_surplus, count_steps}
+use Rattle.lowering_follows.specs.Words.{W32, W64, signed, wrapped, Size, Program, Function, part_of, close_part, open_frame, body_start, State, Value, Normal, Returned, Target, End, Outcome, Gives, choose, Context, no_exception, all, ended_call, enter, within, does, for_parameters, outside, ran, shows, meaning, Temporary, LinearProgram, LinearFunction, FunctionBody, Store, Configuration, Seen, Finished, with_some, Running, Stuck, begin_function, exec, main_arguments, start, seen, shown, statements_size, statements_notes, own_locals, scope_of, statements_weight, HasAt, FunctionPlaced, first_memory, IsPrefixOf, surplus, hold_surplus, count_steps}
 use Rattle.source_meaning.specs.declared.ended.Ended.{Ended}
 use Rattle.source_meaning.specs.declared.ended.Ended.TheVariants.{Exit, Deep}
 use Rattle.source_meaning.specs.State.{deeper, counting, with_activation}
@@ -13,15 +13,17 @@ use Rattle.source_meaning.proofs.Counting as counts
 use Rattle.source_meaning.specs.Meaning as source
 use Rattle.source_meaning.proofs.RemainingSteps.{enters_within}
 use Rattle.linear_code.specs.declared.instruction.Instruction.TheVariants as instructions
-use Rattle.lowering_follows.proofs.Lemmas.{events_of, More, longer, prefix_same, prefix_then, Part, at, Site, conf, price, Claim, Stops, first, fetch, prefix_self, after, sooner, stopped, from_none}
+use Rattle.lowering_follows.proofs.Lemmas.{events_of, More, longer, prefix_same, prefix_then, Part, at, Site, conf, price, Claim, Stops, more, first, fetch, prefix_self, after, sooner, stopped, from_none}
 use Rattle.linear_machine.proofs.MoreTurns.{front}
 use Rattle.linear_machine.proofs.Stretch.{Kept}
 use Rattle.lowering_follows.specs.FollowLaws.{Follows, NoMore, LinkedFollows}
 use Rattle.lowering_follows.proofs.Stores.{Shape, FrameAlike, Alike, below_slot, kept_itself, push_alike}
-use Rattle.lowering_follows.proofs.Turns.{constant_turn}
 use Rattle.lowering_follows.proofs.BodyClaims.{statement_ways, Stays, Surroundings}
 use Rattle.lowering_follows.proofs.BodySequences.{all_runs}
 use Rattle.lowering_follows.proofs.Beginnings.{separators_reach}
+use Rattle.lowering_follows.proofs.StackPointers.{base_of}
+use Rattle.lowering_follows.proofs.Openings.{opened_claim}
+use Rattle.lowering_follows.proofs.Closings.{closed_stays, closes, ended_ways, last_of, last_has}
 use Rattle.lowering_follows.proofs.Functions.{begins_alike}
 use Rattle.lowering_follows.proofs.AllClaims.{both}
 use Rattle.c_checked.specs.Program.{weight}
@@ -116,7 +118,13 @@ module _ (program : Program) (linear : LinearProgram) (rate body : ℕ)
     vs = for_parameters fn.parameters (wrapped W64 arg)
 
     abbrev inner : Context
-    inner = record { handlers = []; activation = 0; exception = no_exception; abnormal = false }
+    inner = record {
+      handlers = [];
+      activation = 0;
+      data_part = part_of fn.data_frame;
+      exception = no_exception;
+      abnormal = false;
+    }
 
     abbrev csite : Site
     csite = record {
@@ -124,7 +132,7 @@ module _ (program : Program) (linear : LinearProgram) (rate body : ℕ)
       regions = [];
       below = [];
       exception = no_exception;
-      held = 0 + lf.surplus;
+      held = 0 + (lf.surplus + lf.data_surplus);
     }
 
     abbrev given : List ℕ
@@ -143,16 +151,24 @@ module _ (program : Program) (linear : LinearProgram) (rate body : ℕ)
     abbrev begun : ℕ → State
     begun n = with_activation program.main given (hold_surplus (surplus fn) (counted n))
 
-    abbrev activation : ℕ → State → Outcome
-    activation n st =
-        ended_call (length st.frames) (surplus fn) (all (within program n) fn.body
+    abbrev runs : ℕ → ℕ → State → Outcome
+    runs n k st =
+        all (within program n) fn.body
         (record {
           handlers = [];
-          activation = length st.frames;
+          activation = k;
+          data_part = part_of fn.data_frame;
           exception = no_exception;
           abnormal = false;
-        })
-        (with_activation program.main given (hold_surplus (surplus fn) st)))
+        }) st
+
+    abbrev activation : ℕ → State → Outcome
+    activation n st =
+        ended_call (length st.frames) (surplus fn)
+        (close_part (part_of fn.data_frame) (length st.frames)
+        (open_frame program fn.data_frame (length st.frames)
+        (with_activation program.main given (hold_surplus (surplus fn) st))
+        (runs n (length st.frames))))
 
     abbrev first_store : Store
     first_store = record { memory = first_memory linear.globals; activations = [] }
@@ -167,11 +183,11 @@ module _ (program : Program) (linear : LinearProgram) (rate body : ℕ)
     x = surplus fn + statements_weight fn.body
 
     abbrev Done : Part → State → Outcome → Type 0
-    Done s from (Gives (Value v) st) = (j : ℕ) × (j ≤ 16 * from.steps_left + 3)
+    Done s from (Gives (Value v) st) = (j : ℕ) × (j ≤ 16 * from.steps_left + 6)
         × (s (exec linear j) ≡ Finished (Exit (signed W32 v)) st.events)
-    Done s from (Gives (End (Some e)) st) = (j : ℕ) × (j ≤ 16 * from.steps_left + 3)
+    Done s from (Gives (End (Some e)) st) = (j : ℕ) × (j ≤ 16 * from.steps_left + 6)
         × (s (exec linear j) ≡ Finished e st.events)
-    Done s from (Gives (End None) st) = Stops linear rate s from st 1 0 x
+    Done s from (Gives (End None) st) = Stops linear rate s from st 5 0 x
     Done s from (Gives r st) = ⊥
 
     return_turn : (v done k : ℕ) (mid : State) (after : Store)
@@ -182,36 +198,32 @@ module _ (program : Program) (linear : LinearProgram) (rate body : ℕ)
     return_turn v done k mid after h = fetch linear rate (conf inner csite done (v ∷ []) mid after)
         (instructions.Return (Temporary 0)) k h.0
 
-    main_ends : (s : Part) (from : State) (kept : Kept) (done : ℕ) (o : Outcome)
-        → HasAt linear (FunctionBody program.main) [] done
-        (constant 0 0 ∷ instructions.Return (Temporary 0) ∷ [])
-        → Claim linear rate s from (price 1 0 x x)
-        (statement_ways program linear rate body (scope_of fn) inner csite kept done) o
+    main_ends : (s : Part) (from : State) (kept : Kept) (last : ℕ) (o : Outcome)
+        → HasAt linear (FunctionBody program.main) [] last (instructions.Return (Temporary 0) ∷ [])
+        → Claim linear rate s from (price 5 0 x x)
+        (ended_ways program linear rate body inner csite kept last) o
         → Done s from (ended_call 0 (surplus fn) o)
     unfolding ended_call
-    main_ends s from kept done (Gives Normal st) h p =
-        let y = p.reaches.by (suc (suc zero)) in
-        let most = p.reaches.most in (
-          y.0,
-          omega (arith, y.1),
-          y.2 ∙ constant_turn linear rate inner csite 0 0 (0 ∷ []) done []
-              st p.store (suc zero) (omega arith) (h.0, h.1, tt) refl
-              ∙ return_turn 0 (done + 1) zero st p.store h.2,
-        )
-    main_ends s from kept done (Gives (Returned v) st) h p =
-        let y = p.1.reaches.by zero in
-        let most = p.1.reaches.most in
+    main_ends s from kept last (Gives Normal st) h p =
+        let y = p.reaches.by (suc zero) in
+        let most = p.reaches.most in
+        (y.0, omega (arith, y.1), y.2 ∙ return_turn 0 last zero st p.store h)
+    main_ends s from kept last (Gives (Returned v) st) h p =
+        let y = p.reaches.by (suc zero) in
+        let most = p.reaches.most in
+        (y.0, omega (arith, y.1), y.2 ∙ return_turn v last zero st p.store h)
+    main_ends s from kept last (Gives (Target level exc) st) h p = absurd p.picked
+    main_ends s from kept last (Gives (End (Some e)) st) h p = let y = p.by in
         (y.0, omega (arith, y.1), y.2)
-    main_ends s from kept done (Gives (Target level exc) st) h p = absurd p.picked
-    main_ends s from kept done (Gives (End (Some e)) st) h p = let y = p.by in
-        (y.0, omega (arith, y.1), y.2)
-    main_ends s from kept done (Gives (End None) st) h p = p
-    main_ends s from kept done (Gives r st) h p = absurd p
+    main_ends s from kept last (Gives (End None) st) h p = p
+    main_ends s from kept last (Gives r st) h p = absurd p
 
     main_runs : (n : ℕ) → surplus fn ≤ n → Done (at c0) (origin n) (activation n (counted n))
     main_runs n left =
         let s = surplus fn in
         let w = statements_weight fn.body in
+        let scope = scope_of fn in
+        let frame = fn.data_frame in
         let new : Shape = record {
           function = program.main;
           own = own_locals fn;
@@ -230,7 +242,7 @@ module _ (program : Program) (linear : LinearProgram) (rate body : ℕ)
           activations = refl;
           each = λ k z h. absurd (cc);
         } in
-        let standing : Surroundings program linear rate body (scope_of fn).names new (new ∷ [])
+        let standing : Surroundings program linear rate body scope.names new (new ∷ [])
         inner csite store' (statements_notes fn.body) = record {
           env = record {
             shape = refl;
@@ -243,52 +255,64 @@ module _ (program : Program) (linear : LinearProgram) (rate body : ℕ)
           past = omega arith;
           room = omega (arith, f.locals);
           plain = λ e. absurd (cc);
+          part = refl;
+          base_fits = base_of program linear rate body (own_locals fn) (length fn.parameters) frame
+              f.frame;
+          globals = same_globals;
         } in
-        let end = 1 + s + statements_size fn.body in
-        let ways = statement_ways program linear rate body (scope_of fn) inner csite
-        (Stays program linear rate body (scope_of fn).names (new ∷ []) inner store') end in
-        let does_all = all (within program n) fn.body inner (begun n) in
+        let weighs : lf.surplus + lf.data_surplus ≡ s = omega (arith, f.weighs, f.data_weighs) in
+        let begin = body_start fn in
+        let done = begin + statements_size fn.body in
+        let Km = Stays program linear rate body scope.names (new ∷ []) inner store' in
+        let ways = statement_ways program linear rate body scope inner csite Km done in
+        let opened = open_frame program frame 0 (begun n) (runs n 0) in
         let first_part = at (conf inner csite 1 [] (origin n) store') in
         let body_part = at (conf inner csite (1 + s) [] (begun n) store') in
         let quick = f.quick in
-        main_ends (at c0) (origin n)
-        (Stays program linear rate body (scope_of fn).names (new ∷ [])
-        inner store') end does_all f.ends
-        (first linear rate c0 first_part (origin n) (origin n) (price 0 0 x x) (price 1 0 x x) ways
-        does_all (omega arith, omega arith, omega arith) refl refl (prefix_self (origin n).events)
-        (λ j. fetch linear rate c0 instructions.Separator j f.starts.0)
-        (after linear rate first_part body_part (origin n) (counted n) 0 0 0 (price 0 0 w w)
-        (price 0 0 x x) ways does_all (omega arith, omega arith, omega arith)
-        (separators_reach linear rate (omega arith) inner csite store' s 1 (origin n) left
-        f.starts.2)
-        (sooner linear rate body_part (counted n) (begun n) (price 0 0 w w) ways does_all refl
-        (prefix_self (origin n).events)
-        (all_runs program linear rate body n bodies (scope_of fn) new (new ∷ []) inner csite store'
-        fn.body (1 + s) (begun n) store' (omega arith) quick f.placed
-        (record {
-          around = tt;
-          exit = (omega arith, tt, f.ends.2.0);
-          loop_end = tt;
-          loop_next = tt;
-        }) standing (
+        let begins : Claim linear rate body_part (begun n) (price 2 0 w w) ways opened =
+        more linear rate body_part (begun n) (price (1 + length fn.parameters) 0 w w)
+        (price 2 0 w w) ways opened (omega arith, omega arith, omega arith)
+        (opened_claim program linear rate body same_globals scope.names new (new ∷ []) inner csite
+        store' refl (omega arith) fn f.frame f.opens (begun n) store' w ways (runs n 0) (
           push_alike [] (first_memory program.globals) [] first_store new given locals alike
               nothing,
           kept_itself (below_slot 0 (own_locals fn)) (new ∷ []) store',
           refl,
-        ) (ap (λ held. 0 + held) (sym f.weighs))))))
+        ) (ap (λ held. 0 + held) (sym weighs))
+        (λ mid after left kept held.
+        all_runs program linear rate body n bodies scope new (new ∷ []) inner csite store' fn.body
+        begin mid after (omega (arith, left)) quick f.placed
+        (record { around = tt; exit = (omega arith, tt); loop_end = tt; loop_next = tt }) standing
+        kept held)) in
+        main_ends (at c0) (origin n) Km (last_of frame done)
+        (close_part (part_of frame) 0 opened)
+        (last_has program linear rate body csite.body frame done f.ends)
+        (closes program linear rate body inner csite Km frame scope.names (at c0) (origin n) 3 x
+        done opened
+        (λ st store kept. closed_stays program linear rate body frame scope.names new
+        (length fn.parameters) (new ∷ []) inner store' st store refl f.frame kept) f.ends
+        (first linear rate c0 first_part (origin n) (origin n) (price 2 0 x x) (price 3 0 x x) ways
+        opened (omega arith, omega arith, omega arith) refl refl (prefix_self (origin n).events)
+        (λ j. fetch linear rate c0 instructions.Separator j f.starts.0)
+        (after linear rate first_part body_part (origin n) (counted n) 0 0 0 (price 2 0 w w)
+        (price 2 0 x x) ways opened (omega arith, omega arith, omega arith)
+        (separators_reach linear rate (omega arith) inner csite store' s 1 (origin n) left
+        f.starts.2)
+        (sooner linear rate body_part (counted n) (begun n) (price 2 0 w w) ways opened refl
+        (prefix_self (origin n).events) begins))))
 
     -- the steps of the beginning, as far as there are so many
     begins : (n : ℕ) → (n < surplus fn) ⊎ (surplus fn ≤ n)
         → Done (at c0) (origin n) (counting (surplus fn) (origin n) (activation n))
     begins n (inl few) = subst (λ o. Done (at c0) (origin n) o)
         (sym (counts.too_few (surplus fn) (origin n) (activation n) (lt-ltb n (surplus fn) few)))
-        (stopped linear rate (at c0) (origin n) 1 0 x (omega arith) (from_none linear 0 c0))
+        (stopped linear rate (at c0) (origin n) 5 0 x (omega arith) (from_none linear 0 c0))
     begins n (inr left) = subst (λ o. Done (at c0) (origin n) o)
         (sym (counts.enough (surplus fn) (origin n) (activation n) (le-ltb n (surplus fn) left)))
         (main_runs n left)
 
     enters : (n : ℕ)
-        → enter (within program n) program.main (Some fn) vs outside (origin n)
+        → enter program (within program n) program.main (Some fn) vs outside (origin n)
         ≡ counting (surplus fn) (origin n) (activation n)
     unfolding deeper choose
     enters n =
@@ -298,8 +322,8 @@ module _ (program : Program) (linear : LinearProgram) (rate body : ℕ)
 
     ran_is : (n : ℕ) → ran program arg n ≡ counting (surplus fn) (origin n) (activation n)
     ran_is n =
-        ap (λ main. enter (does program) program.main main (source.main_arguments main arg) outside
-        (origin n)) has
+        ap (λ main. enter program (does program) program.main main (source.main_arguments main arg)
+        outside (origin n)) has
         ∙ enters_within program n program.main (Some fn) vs outside (origin n) (omega arith)
         ∙ enters n
 
@@ -325,7 +349,7 @@ module _ (program : Program) (linear : LinearProgram) (rate body : ℕ)
         subst (λ k. More (exec linear j c0) (exec linear k c0)) e (longer linear j (b - j) c0)
 
     -- at least so much
-    follows_by : (b : ℕ) (from : State) (o : Outcome) → 16 * from.steps_left + 3 ≤ b
+    follows_by : (b : ℕ) (from : State) (o : Outcome) → 16 * from.steps_left + 6 ≤ b
         → Done (at c0) from o
         → IsPrefixOf (shows o).events (shown (exec linear b c0)).events
         × ((e : Ended) → (shows o).end ≡ Some e → shown (exec linear b c0) ≡ shows o)

@@ -3,7 +3,7 @@
 use Rattle.std.specs.Prelude.{◌≡◌, ◌<◌, ℕ, ◌^◌, Bool, true, false, length, slice_get, Some}
 use Rattle.c_operations.specs.declared.operation.Operation.TheVariants.{Pure}
 use Rattle.c_checked.specs.Expression as nodes
-use Rattle.c_checked.specs.Expression.{Expression, On, Node, Lvalue, Local, Global, Indirection, Element, Arguments, Done, Next}
+use Rattle.c_checked.specs.Expression.{Expression, On, Node, Lvalue, Local, Global, Stacked, Indirection, Element, Arguments, Done, Next}
 use Rattle.c_checked.specs.Program.{Program, Function}
 use Rattle.c_checked.specs.Sound.{is_in_memory}
 use Rattle.linear_machine.specs.Instructions.{is_constant, count_of}
@@ -20,6 +20,11 @@ pub record IsElementSize (n : ℕ) : Type 0 where
   pub positive : 0 < n
   pub small : n < 2 ^ 63
 
+-- the base of a place on the data stack is a local, and the place is so many bytes above it
+pub record IsStackedPlace (own base offset : ℕ) : Type 0 where
+  pub is_local : base < own
+  pub small : offset < 2 ^ 64
+
 -- in a function with so many locals; the flag says that an exception's fields may be read
 abbrev mutual
   pub ExpressionFits : Program → ℕ → Bool → Expression → Type 0
@@ -28,6 +33,7 @@ abbrev mutual
   pub LvalueFits : Program → ℕ → Bool → Lvalue → Type 0
   LvalueFits program own info (Local x) = x < own
   LvalueFits program own info (Global access a) = a < 2 ^ 64
+  LvalueFits program own info (Stacked access base offset) = IsStackedPlace own base offset
   LvalueFits program own info (Indirection access e) = ExpressionFits program own info e
   LvalueFits program own info (Element access e i) =
       ExpressionFits program own info e × ExpressionFits program own info i
@@ -39,6 +45,7 @@ abbrev mutual
 
   pub NodeFits : Program → ℕ → Bool → Node → Type 0
   NodeFits program own info (nodes.Constant z n) = n < 2 ^ 64
+  NodeFits program own info (nodes.StackedArray base offset) = IsStackedPlace own base offset
   NodeFits program own info (nodes.Read p) = LvalueFits program own info p
   NodeFits program own info (nodes.AddressOf p) =
       LvalueFits program own info p × (is_in_memory p ≡ true)

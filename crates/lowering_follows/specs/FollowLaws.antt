@@ -13,7 +13,7 @@ use Rattle.lowering_follows.specs.StatementPlaces.{IsLinked}
 -- from so many turns on the linear code has shown the events of n steps, and has ended as they end
 abbrev pub Follows : Program → LinearProgram → Type 0
 Follows program linear =
-    (arg : ℤ) (n turns : ℕ) → 16 * n + 3 ≤ turns
+    (arg : ℤ) (n turns : ℕ) → 16 * n + 6 ≤ turns
     → IsPrefixOf (meaning program arg n).events (linear_meaning linear arg turns).events
     × ((e : Ended) → (meaning program arg n).end ≡ Some e
     → linear_meaning linear arg turns ≡ meaning program arg n)

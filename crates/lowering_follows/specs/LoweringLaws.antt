@@ -12,7 +12,7 @@ LoweredIsLinked =
     (program : Program) → IsSound program
     → IsLinked program (lowered program) (steps_per_turn_of program) (weight_of program.functions)
 
--- from 16 n + 3 turns on the code has shown what n steps show, and has ended as they end
+-- from 16 n + 6 turns on the code has shown what n steps show, and has ended as they end
 abbrev pub LoweredFollows : Type 0
 LoweredFollows = (program : Program) → IsSound program → Follows program (lowered program)
 

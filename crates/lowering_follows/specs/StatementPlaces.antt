@@ -1,10 +1,13 @@
 -- The code of statements is at its places, inside its regions, and it is code that means
 -- something.
-use Rattle.std.specs.Prelude.{◌≡◌, ◌<◌, ◌≤◌, ℕ, ◌+◌, ◌-◌, true, false, List, [], ◌∷◌, ◌++◌, length, slice_get, Option, Some, None}
+use Rattle.std.specs.Prelude.{◌≡◌, ◌<◌, ◌≤◌, ℕ, ◌+◌, ◌-◌, ◌^◌, true, false, List, [], ◌∷◌, ◌++◌, length, slice_get, Option, Some, None}
 use Rattle.c_checked.specs.Expression.{Expression}
 use Rattle.c_checked.specs.Statement.{Declared, Filter, Always, Funclet, Statement, Declare, Block, Evaluate, If, IfElse, For, DoWhile, Break, Continue, Leave, TryExcept, TryFinally, Statements, Empty, Then}
 use Rattle.c_checked.specs.Statement as statements
-use Rattle.c_checked.specs.Program.{Program, Function, surplus, weight}
+use Rattle.c_checked.specs.declared.function.StackedParameter.{StackedParameter}
+use Rattle.c_checked.specs.declared.statement.StackedVariable.{StackedVariable}
+use Rattle.c_checked.specs.Program.{DataFrame, Program, Function, frame_surplus, data_surplus, surplus, weight}
+use Rattle.seh_num.specs.declared.limit.TheConstants.{MOST_PARAMETERS}
 use Rattle.source_meaning.specs.declared.depth.TheConstants.{DEEPEST}
 use Rattle.linear_code.specs.declared.slot.Slot.TheVariants.{Local, Temporary}
 use Rattle.linear_code.specs.declared.instruction.Instruction.TheVariants.{Jump, JumpIfZero, CallFinally, Landing, Separator, Return}
@@ -21,10 +24,11 @@ use Rattle.lowering_expressions.specs.declared.scope.Way.TheVariants.{Nowhere, J
 use Rattle.lowering_expressions.specs.Scope.{filter_names, finally_scope, in_loop, in_try, in_except, in_guarded}
 use Rattle.lowering_sizes.specs.Sizes.{expression_size, discarded_size, condition_size, declared_size, all_declared_size, returned_size, statement_size, statements_size}
 use Rattle.lowering_expressions.specs.Expressions.{constant, expression_code}
-use Rattle.seh_ir.specs.Lowered.{own_locals, all_locals, first_separators, scope_of}
+use Rattle.seh_ir.specs.Funclets.{finally_begin}
+use Rattle.seh_ir.specs.Lowered.{own_locals, all_locals, first_separators, open_code, close_code, body_start, scope_of}
 use Rattle.seh_ir.specs.Regions.{except_kind, region}
-use Rattle.seh_ir.specs.Statements.{jump_code, return_code, leave_code, discarded_code, returned_code, condition_code, declared_code}
-use Rattle.lowering_follows.specs.Fits.{ExpressionFits}
+use Rattle.seh_ir.specs.Statements.{jump_code, return_code, leave_code, discarded_code, returned_code, condition_code, declared_code, reset_code}
+use Rattle.lowering_follows.specs.Fits.{ExpressionFits, IsStackedPlace}
 use Rattle.lowering_follows.specs.Weights.{expression_weight, statements_weight}
 use Rattle.lowering_follows.specs.Places.{HasAt}
 
@@ -113,11 +117,34 @@ pub record GuardedParts (Body End Calls Block' : Type 0) : Type 0 where
   pub calls : Calls
   pub block : Block'
 
-pub record FinallyParts (Numbered Kind Code Returns : Type 0) : Type 0 where
+pub record FinallyParts (Numbered Kind Begins Code Returns : Type 0) : Type 0 where
   pub numbered : Numbered
   pub funclet : Kind
+  pub begins : Begins
   pub code : Code
   pub returns : Returns
+
+-- ---- the data stack
+
+-- an array has so few elements that the number of its bytes is one of 64 bits
+abbrev pub ElementsFit : Option ℕ → Type 0
+ElementsFit None = Unit {0}
+ElementsFit (Some n) = n < 2 ^ 32
+
+abbrev pub StackedFits : ℕ → Option StackedVariable → Type 0
+StackedFits own None = Unit {0}
+StackedFits own (Some v) = IsStackedPlace own v.base v.offset × ElementsFit v.elements
+
+abbrev pub ParametersFit : ℕ → List StackedParameter → Type 0
+ParametersFit own [] = Unit {0}
+ParametersFit own (p ∷ ps) = (p.parameter < own) × ParametersFit own ps
+
+-- a function's part of the data stack: its base is a local, and no more parameters stand there than
+-- the function has
+abbrev pub FrameFits : (own parameters : ℕ) → Option DataFrame → Type 0
+FrameFits own parameters None = Unit {0}
+FrameFits own parameters (Some d) =
+    (d.base < own) × (length d.parameters ≤ parameters) × ParametersFit own d.parameters
 
 -- in a function with so many locals
 module _ (program : Program) (linear : LinearProgram) (steps_per_turn body own : ℕ) where
@@ -136,7 +163,8 @@ module _ (program : Program) (linear : LinearProgram) (steps_per_turn body own :
 
   abbrev pub DeclaredPlaced : BodyName → Names → Declared → List Region → ℕ → Type 0
   DeclaredPlaced b names d rs at =
-      (d.local < own) × OptionalFits d.value × HasAt linear b rs at (declared_code names d at)
+      (d.local < own) × OptionalFits d.value × StackedFits own d.stacked
+      × HasAt linear b rs at (declared_code names d at)
 
   abbrev pub AllDeclaredPlaced : BodyName → Names → List Declared → List Region → ℕ → Type 0
   AllDeclaredPlaced b names [] rs at = Unit {0}
@@ -201,14 +229,15 @@ module _ (program : Program) (linear : LinearProgram) (steps_per_turn body own :
         IsPlace scope.leave × HasAt linear b rs at (leave_code scope.leave ∷ [])
     Placed b scope (TryExcept body filter block) rs at =
         let target = at + statements_size body + 1 in
-        let end = target + 1 + statements_size block in
+        let end = target + 2 + statements_size block in
         ExceptParts
         (AllPlaced b (in_try end scope) body
         (region at target (except_kind filter target) ∷ rs) at)
         (HasAt linear b (region at target (except_kind filter target) ∷ rs)
         (at + statements_size body) (Jump end ∷ []))
-        (HasAt linear b rs target (Landing (Local scope.names.free) ∷ []))
-        (AllPlaced b (in_except scope) block rs (target + 1)) (FilterPlaced scope.names filter)
+        (HasAt linear b rs target (Landing (Local scope.names.free)
+        ∷ reset_code scope.names.part ∷ []))
+        (AllPlaced b (in_except scope) block rs (target + 2)) (FilterPlaced scope.names filter)
     Placed b scope (TryFinally body k last) rs at =
         let end = at + statements_size body in
         GuardedParts
@@ -218,8 +247,10 @@ module _ (program : Program) (linear : LinearProgram) (steps_per_turn body own :
         (HasAt linear b rs (end + 1) (CallFinally (k - 1) ∷ Separator ∷ []))
         (FinallyParts (k ≡ k - 1 + 1)
         (HasFunclet linear (k - 1) (λ funclet. funclet.kind ≡ kinds.Finally scope.names.free))
-        (AllPlaced (FuncletBody (k - 1)) (finally_scope scope.names) last [] 0)
-        (HasAt linear (FuncletBody (k - 1)) [] (statements_size last)
+        (HasAt linear (FuncletBody (k - 1)) [] 0
+        (finally_begin scope.names.part scope.names.free))
+        (AllPlaced (FuncletBody (k - 1)) (finally_scope scope.names) last [] 3)
+        (HasAt linear (FuncletBody (k - 1)) [] (3 + statements_size last)
         (Return (Local scope.names.free) ∷ [])))
 
     pub AllPlaced : BodyName → LoweringContext → Statements → List Region → ℕ → Type 0
@@ -250,8 +281,9 @@ module _ (program : Program) (linear : LinearProgram) (steps_per_turn body own :
   FinallyPlaced names k last =
       FinallyParts (k ≡ k - 1 + 1)
       (HasFunclet linear (k - 1) (λ funclet. funclet.kind ≡ kinds.Finally names.free))
-      (AllPlaced (FuncletBody (k - 1)) (finally_scope names) last [] 0)
-      (HasAt linear (FuncletBody (k - 1)) [] (statements_size last)
+      (HasAt linear (FuncletBody (k - 1)) [] 0 (finally_begin names.part names.free))
+      (AllPlaced (FuncletBody (k - 1)) (finally_scope names) last [] 3)
+      (HasAt linear (FuncletBody (k - 1)) [] (3 + statements_size last)
       (Return (Local names.free) ∷ []))
 
 module _ (program : Program) (linear : LinearProgram) (steps_per_turn body : ℕ) where
@@ -259,12 +291,16 @@ module _ (program : Program) (linear : LinearProgram) (steps_per_turn body : ℕ
   pub record FunctionPlaced (k : ℕ) (fn : Function) (lf : LinearFunction) : Type 0 where
     pub parameters : lf.parameters ≡ length fn.parameters
     pub locals : lf.body.locals ≡ all_locals fn
-    pub weighs : lf.surplus ≡ surplus fn
+    pub weighs : lf.surplus ≡ frame_surplus fn
+    pub data_weighs : lf.data_surplus ≡ data_surplus fn
+    pub frame : FrameFits (own_locals fn) (length fn.parameters) fn.data_frame
+    pub few : length fn.parameters ≤ MOST_PARAMETERS
     pub starts : HasAt linear (FunctionBody k) [] 0 (first_separators fn)
+    pub opens : HasAt linear (FunctionBody k) [] (weight fn) (open_code fn.data_frame)
     pub placed : AllPlaced program linear steps_per_turn body (own_locals fn) (FunctionBody k)
-        (scope_of fn) fn.body [] (weight fn)
-    pub ends : HasAt linear (FunctionBody k) [] (weight fn + statements_size fn.body)
-        (constant 0 0 ∷ instructions.Return (Temporary 0) ∷ [])
+        (scope_of fn) fn.body [] (body_start fn)
+    pub ends : HasAt linear (FunctionBody k) [] (body_start fn + statements_size fn.body)
+        (constant 0 0 ∷ (close_code fn.data_frame ++ instructions.Return (Temporary 0) ∷ []))
     pub light : surplus fn + statements_weight fn.body ≤ body
     pub quick : statements_weight fn.body + body + 4 ≤ steps_per_turn
 

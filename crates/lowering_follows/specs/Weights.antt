@@ -2,7 +2,7 @@
 -- code.
 use Rattle.std.specs.Prelude.{ℕ, ◌+◌, List, [], ◌∷◌, Option, None, Some}
 use Rattle.c_checked.specs.Expression as nodes
-use Rattle.c_checked.specs.Expression.{Expression, On, Node, Lvalue, Local, Global, Indirection, Element, Arguments, Done, Next}
+use Rattle.c_checked.specs.Expression.{Expression, On, Node, Lvalue, Local, Global, Stacked, Indirection, Element, Arguments, Done, Next}
 use Rattle.c_checked.specs.Statement.{Declared, Filter, Always, Funclet, Statement, Declare, Block, Evaluate, If, IfElse, For, DoWhile, Return, Break, Continue, Leave, TryExcept, TryFinally, Statements, Empty, Then}
 
 abbrev mutual
@@ -13,6 +13,7 @@ abbrev mutual
   pub lvalue_weight : Lvalue → ℕ
   lvalue_weight (Local x) = 0
   lvalue_weight (Global access a) = 0
+  lvalue_weight (Stacked access base offset) = 0
   lvalue_weight (Indirection access e) = expression_weight e
   lvalue_weight (Element access e i) = expression_weight e + expression_weight i
 
@@ -22,6 +23,7 @@ abbrev mutual
 
   pub node_weight : Node → ℕ
   node_weight (nodes.Constant z n) = 0
+  node_weight (nodes.StackedArray base offset) = 0
   node_weight (nodes.Read p) = lvalue_weight p
   node_weight (nodes.AddressOf p) = 1 + lvalue_weight p
   node_weight (nodes.Assign p e) = 1 + lvalue_weight p + expression_weight e

@@ -7,7 +7,7 @@ pub fn is_linked()
     ensures linked { LoweredIsLinked }
 {}
 
-/// From 16 n + 3 turns on the linear code of a sound program has shown the events of n steps, and
+/// From 16 n + 6 turns on the linear code of a sound program has shown the events of n steps, and
 /// has ended as they end.
 pub fn follows()
     ensures follows { LoweredFollows }

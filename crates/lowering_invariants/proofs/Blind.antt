@@ -2,12 +2,16 @@
 use Rattle.std.proofs.Common.{◌≡◌, ℕ, ◌+◌, ◌<◌, true, false, List, [], ◌∷◌, ◌++◌, map, refl, subst, arith}
 use Rattle.std.specs.List.{AllByRecursion}
 use Rattle.std.specs.Prelude.{slice_get, Option, Some, None}
+use Rattle.c_checked.specs.declared.function.DataPart.{DataPart}
+use Rattle.seh_ir.specs.Funclets.{finally_begin}
+use Rattle.seh_ir.specs.Lowered.{body_start}
+use Rattle.seh_ir.specs.Statements.{reset_code}
 use Rattle.lowering_invariants.specs.Words.{Field, Program, Function, weight, funclets, functions_sound, Statements, Slot, Local, Instruction, FuncletKind, LinearBody, LinearFunction, LinearFunclet, BodyName, FunctionBody, FuncletBody, function_body, funclet_body, body_of, Names, LoweringContext, finally_scope, statements_code, own_locals, all_locals, first_separators, scope_of, lowered_function, lowered_funclets, all_funclets, lowered, IsBlind, IsFilterBody, statements_notes, ExpressionFits, LoweredInformsFilters}
 use Rattle.linear_code.specs.declared.instruction.Instruction.TheVariants as instructions
 use Rattle.linear_code.specs.declared.program.FuncletKind.TheVariants as kinds
 use Rattle.lowering_invariants.proofs.Lemmas.{both_left, both_right, all_append, HoldsOfInstructions, statements_all, any_numbers, HoldsOfFunclets, all_funclets_every, StatementsFit, function_fits}
 use Rattle.lowering_invariants.proofs.BlindExpressions.{AllBlind, IsOutside, expression_blind}
-use Rattle.lowering_invariants.proofs.FirstSeparators.{first_every, function_end}
+use Rattle.lowering_invariants.proofs.FirstSeparators.{open_every, begin_every, end_every, code_every}
 use Rattle.lowering_invariants.proofs.StackTargets.{all_at, same_it}
 
 -- the code of a funclet is such, unless it is a filter's
@@ -27,6 +31,14 @@ AllFine fs = AllByRecursion IsFine fs
 abbrev Outside : Names → ℕ → Type 0
 Outside names m = IsOutside names.exception
 
+reset_blind : (part : Option DataPart) → IsBlind (reset_code part)
+reset_blind None = tt
+reset_blind (Some p) = tt
+
+begin_blind : (part : Option DataPart) (x : ℕ) → AllBlind (finally_begin part x)
+begin_blind None x = (tt, (tt, (tt, tt)))
+begin_blind (Some p) x = (tt, (tt, (tt, tt)))
+
 module _ (program : Program) (own : ℕ) where
   instructions_blind : HoldsOfInstructions IsBlind (λ label. Unit {0}) (λ label. Unit {0}) Outside
       (ExpressionFits program own false) (λ x. x < own)
@@ -41,6 +53,11 @@ module _ (program : Program) (own : ℕ) where
     of_unwind = λ label l. tt;
     of_exit_jump = λ label l. tt;
     of_exit = λ label l. tt;
+    of_put = λ v d. tt;
+    of_counted = λ names m k le n. tt;
+    of_rest_test = λ names m label le n l. tt;
+    of_cleared = λ names m v le n d. tt;
+    of_reset = λ names m le n. reset_blind names.part;
     of_landing = λ names m le o. tt;
     of_finally = λ k. tt;
   }
@@ -61,8 +78,12 @@ module _ (program : Program) (own : ℕ) where
     in_block = λ owner k o t. tt;
     of_filter = λ owner names m e o n f. tt;
     of_block = λ owner names m last o le n h. all_append IsBlind
-        (statements_code (finally_scope names) last 0) (instructions.Return (Local names.free) ∷ [])
-        (statements_blind last (finally_scope names) 0 n h) (tt, tt);
+        (finally_begin names.part names.free)
+        (statements_code (finally_scope names) last 3 ++ instructions.Return (Local names.free) ∷ [])
+        (begin_blind names.part names.free)
+        (all_append IsBlind (statements_code (finally_scope names) last 3)
+        (instructions.Return (Local names.free) ∷ [])
+        (statements_blind last (finally_scope names) 3 n h) (tt, tt));
   }
 
 -- ---- programs
@@ -72,11 +93,12 @@ module _ (program : Program) where
       → AllByRecursion (λ (f : LinearFunction). AllBlind f.body.code) (map lowered_function fs)
   functions_blind [] ok = tt
   functions_blind (f ∷ fs) ok = (
-    (let code = statements_code (scope_of f) f.body (weight f) in
-        all_append IsBlind (first_separators f ++ code) function_end
-        (all_append IsBlind (first_separators f) code (first_every IsBlind tt f)
-        (statements_blind program (own_locals f) f.body (scope_of f) (weight f) tt
-        (function_fits program f (both_left _ _ ok)))) (tt, (tt, tt))),
+    code_every IsBlind f
+        (begin_every IsBlind tt f
+        (open_every IsBlind f.data_frame (λ base size. tt) (λ base p. tt)))
+        (statements_blind program (own_locals f) f.body (scope_of f) (body_start f) tt
+        (function_fits program f (both_left _ _ ok)))
+        (end_every IsBlind tt (λ base. tt) tt f),
     functions_blind fs (both_right _ _ ok),
   )
 

@@ -14,6 +14,7 @@ operations_blind = record {
   of_change = λ d o. tt;
   of_combine = λ d o. tt;
   of_load = λ w address to. tt;
+  of_place = λ d base. tt;
   of_store = λ access address from to. tt;
   of_jump = λ label. tt;
   of_test = λ d label. tt;

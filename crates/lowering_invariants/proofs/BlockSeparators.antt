@@ -1,12 +1,16 @@
 -- In lowered code an instruction that does nothing is after each that runs `__finally` blocks.
-use Rattle.std.proofs.Common.{◌≡◌, ℕ, zero, suc, ◌+◌, List, [], ◌∷◌, ◌++◌, refl, sym, ap, ◌∙◌, arith}
+use Rattle.std.proofs.Common.{◌≡◌, ℕ, zero, suc, ◌+◌, List, [], ◌∷◌, ◌++◌, refl, sym, ap, subst, ◌∙◌, arith}
 use Rattle.std.specs.Prelude.{true, false, slice_get, Option, Some, None}
+use Rattle.c_checked.specs.declared.function.DataPart.{DataPart}
+use Rattle.seh_ir.specs.Lowered.{body_start}
+use Rattle.seh_ir.specs.Funclets.{finally_begin}
+use Rattle.seh_ir.specs.Statements.{put_code, reset_code}
 use Rattle.lowering_invariants.specs.Words.{Expression, Function, weight, Statements, Local, Temporary, Instruction, JumpIfZero, Separator, Owner, Names, Way, Nowhere, Jumps, LoweringContext, finally_scope, copy, expression_code, return_code, returned_code, repeated, statements_code, finally_funclet, first_separators, scope_of, lowered_function, runs_blocks, IsFollowed, LoweredIsFollowed, filter_funclet}
 use Rattle.linear_code.specs.declared.instruction.Instruction.TheVariants as instructions
 use Rattle.lowering_expressions.specs.declared.scope.Way.TheVariants.{Unwinds}
 use Rattle.lowering_invariants.proofs.EveryBody.{every_body}
 use Rattle.lowering_invariants.proofs.StackTargets.{same_it}
-use Rattle.lowering_invariants.proofs.FirstSeparators.{first_every, function_end}
+use Rattle.lowering_invariants.proofs.FirstSeparators.{open_every, function_begin, function_body_code, function_end, begin_every, end_every, code_is}
 use Rattle.lowering_invariants.proofs.NoBlocks.{RunsNoBlock, RunNoBlocks, expression_no_blocks}
 use Rattle.lowering_invariants.proofs.Lemmas.{HoldsOfAnyPieces, statements_any}
 
@@ -66,6 +70,15 @@ return_follows Nowhere = ((λ x. no x), ((λ x. no x), tt))
 return_follows (Jumps label) = ((λ x. no x), ((λ x. no x), tt))
 return_follows (Unwinds label) = ((λ x. refl), ((λ x. no x), tt))
 
+reset_plain : (part : Option DataPart) → runs_blocks (reset_code part) ≡ false
+reset_plain None = refl
+reset_plain (Some p) = refl
+
+-- what a `__finally` block begins with
+begin_follows : (part : Option DataPart) (x : ℕ) → Follows (finally_begin part x)
+begin_follows None x = ((λ e. no e), ((λ e. no e), ((λ e. no e), tt)))
+begin_follows (Some p) x = ((λ e. no e), ((λ e. no e), ((λ e. no e), tt)))
+
 pieces_follow : HoldsOfAnyPieces (λ at xs rs. Follows xs)
 pieces_follow = record {
   none = λ at. tt;
@@ -73,9 +86,16 @@ pieces_follow = record {
   of_separator = λ at. ((λ x. no x), tt);
   of_jump = λ at label l. ((λ x. no x), tt);
   of_unwind = λ at label l. ((λ x. refl), ((λ x. no x), tt));
-  of_landing = λ names m begin end at f le n o b t l. ((λ x. no x), ((λ x. no x), tt));
+  of_landing = λ names m begin end at f le n o b t l.
+      ((λ x. no x), ((λ x. no x), ((λ x. no (sym (reset_plain names.part) ∙ x)), tt)));
   of_finally = λ k begin at o b t. ((λ x. no x), ((λ x. refl), ((λ x. no x), tt)));
   of_zeroed = λ x at d. ((λ x. no x), tt);
+  of_put_zero = λ v at d. ((λ x. no x), ((λ x. no x), ((λ x. no x), tt)));
+  of_put_initialiser = λ names m v e at n d h c. used names e at (put_code v)
+      ((λ x. no x), ((λ x. no x), tt));
+  of_counted = λ names m k at le n. ((λ x. no x), tt);
+  of_clearing = λ names m v end begin at le n d l b.
+      ((λ x. no x), ((λ x. no x), ((λ x. no x), tt)));
   of_discarded = λ names m e at n h c. used names e at (Separator ∷ []) ((λ x. no x), tt);
   of_condition = λ names m e label at n h l c. used names e at (JumpIfZero (Temporary 0) label ∷ [])
       ((λ x. no x), tt);
@@ -102,18 +122,23 @@ block_followed : (owner : Owner) (names : Names) (last : Statements)
     → IsFollowed (finally_funclet owner names last).body
 block_followed owner names last label i =
     next_there (finally_funclet owner names last).body.code label i
-    (append (statements_code (finally_scope names) last 0)
-    (instructions.Return (Local names.free) ∷ []) (statements_follow last (finally_scope names) 0)
-    ((λ x. no x), tt))
+    (append (finally_begin names.part names.free)
+    (statements_code (finally_scope names) last 3 ++ instructions.Return (Local names.free) ∷ [])
+    (begin_follows names.part names.free)
+    (append (statements_code (finally_scope names) last 3)
+    (instructions.Return (Local names.free) ∷ []) (statements_follow last (finally_scope names) 3)
+    ((λ x. no x), tt)))
 
 function_followed : (f : Function) → IsFollowed (lowered_function f).body
 function_followed f label i =
-    let code = statements_code (scope_of f) f.body (weight f) in
     next_there (lowered_function f).body.code label i
-    (append (first_separators f ++ code) function_end
-    (append (first_separators f) code
-    (no_blocks_follow (first_separators f) (first_every RunsNoBlock refl f))
-    (statements_follow f.body (scope_of f) (weight f))) ((λ x. no x), ((λ x. no x), tt)))
+    (subst Follows (code_is f) (append (function_begin f ++ function_body_code f) (function_end f)
+    (append (function_begin f) (function_body_code f)
+    (no_blocks_follow (function_begin f) (begin_every RunsNoBlock refl f
+    (open_every RunsNoBlock f.data_frame (λ base size. refl) (λ base p. refl))))
+    (statements_follow f.body (scope_of f) (body_start f)))
+    (no_blocks_follow (function_end f)
+    (end_every RunsNoBlock refl (λ base. refl) refl f))))
 
 pub lowered_is_followed : LoweredIsFollowed
 lowered_is_followed = every_body IsFollowed filter_followed block_followed function_followed

@@ -11,6 +11,10 @@ use Rattle.lowering_invariants.proofs.EveryExpression.{HoldsOfOperations, expres
 -- an operation on one temporary and the next
 combined : (o : Operation) (d : ℕ) → ReadsWell o (Temporary d) (Temporary (d + 1))
 combined (operations.Pure p) d = tt
+combined (operations.Allocate n) d = tt
+combined (operations.SetPointer n) d = tt
+combined (operations.Place w offset) d = tt
+combined (operations.Clear w offset) d = tt
 combined o d = (tt, tt)
 
 module _ (program : Program) (linear : LinearProgram)
@@ -29,6 +33,7 @@ module _ (program : Program) (linear : LinearProgram)
       of_change = λ d o. tt;
       of_combine = λ d o. combined o d;
       of_load = λ w address to. (tt, tt);
+      of_place = λ d base. tt;
       of_store = λ access address from to. (tt, tt);
       of_jump = λ label. tt;
       of_test = λ d label. tt;

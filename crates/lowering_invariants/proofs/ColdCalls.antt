@@ -4,7 +4,11 @@ use Rattle.std.specs.Prelude.{◌||◌}
 use Rattle.c_checked.specs.Expression as nodes
 use Rattle.c_checked.specs.Expression.{Next}
 use Rattle.seh_ir.specs.ColdParts.{calls, place_calls, node_calls, optional_calls, declared_calls, statement_calls, statements_call}
-use Rattle.lowering_invariants.specs.Words.{Expression, On, Node, Lvalue, Global, Indirection, Element, Declared, Statement, Declare, Block, Evaluate, If, IfElse, For, DoWhile, Return, Break, Continue, Leave, TryExcept, TryFinally, Statements, Empty, Then, Instruction, Names, LoweringContext, in_loop, address_count, locate_size, read_size, conversion_size, expression_size, discarded_size, condition_size, declared_size, all_declared_size, statement_size, expression_code, locate_code, node_code, read_code, conversion_code, address_code, arguments_code, discarded_code, condition_code, returned_code, initialiser_code, declared_code, all_declared_code, statement_code, statements_code}
+use Rattle.c_checked.specs.declared.statement.StackedVariable.{StackedVariable}
+use Rattle.seh_ir.specs.ColdParts.{elements_call, declared_at_calls}
+use Rattle.lowering_invariants.specs.Words.{constant}
+use Rattle.seh_ir.specs.Statements.{put_code, put_initialiser_code, stacked_declared_code, declared_at_code}
+use Rattle.lowering_invariants.specs.Words.{Expression, On, Node, Lvalue, Global, Stacked, Indirection, Element, Declared, Statement, Declare, Block, Evaluate, If, IfElse, For, DoWhile, Return, Break, Continue, Leave, TryExcept, TryFinally, Statements, Empty, Then, Instruction, Names, LoweringContext, in_loop, address_count, locate_size, read_size, conversion_size, expression_size, discarded_size, condition_size, declared_size, all_declared_size, statement_size, expression_code, locate_code, node_code, read_code, conversion_code, address_code, arguments_code, discarded_code, condition_code, returned_code, initialiser_code, declared_code, all_declared_code, statement_code, statements_code}
 use Rattle.lowering_invariants.specs.ColdParts.{HoldsCall}
 use Rattle.lowering_invariants.specs.ReturnRegions.{is_call}
 use Rattle.lowering_invariants.proofs.Lemmas.{IsSegmentAt}
@@ -75,6 +79,7 @@ module _ (names : Names) where
       → SomeCall located → SomeCall (address_code p d located)
   address_called (nodes.Local x) d located h k = no h
   address_called (Global access a) d located h k = k
+  address_called (Stacked access base offset) d located h k = k
   address_called (Indirection access e) d located h k = k
   address_called (Element access e i) d located h k = k
 
@@ -88,6 +93,7 @@ module _ (names : Names) where
         → SomeCall (locate_code names p d at)
     locate_called (nodes.Local x) d at h = no h
     locate_called (Global access a) d at h = no h
+    locate_called (Stacked access base offset) d at h = no h
     locate_called (Indirection access e) d at h = expression_called e d at h
     locate_called (Element access e i) d at h =
         operands e i d at (_ ∷ []) (λ x. expression_called e d at x)
@@ -96,6 +102,7 @@ module _ (names : Names) where
     node_called : (node : Node) (d at : ℕ) → node_calls node ≡ true
         → SomeCall (node_code names node d at)
     node_called (nodes.Constant z n) d at h = no h
+    node_called (nodes.StackedArray base offset) d at h = no h
     node_called (nodes.Read p) d at h =
         first (locate_code names p d at) (read_code p d d) (locate_called p d at h)
     node_called (nodes.AddressOf p) d at h =
@@ -188,13 +195,30 @@ module _ (names : Names) where
   initialiser_called x None at h = no h
   initialiser_called x (Some e) at h = used e at _ h
 
+  put_called : (v : StackedVariable) (e : Option Expression) (at : ℕ) → optional_calls e ≡ true
+      → SomeCall (put_initialiser_code names v e at)
+  put_called v None at h = no h
+  put_called v (Some e) at h = used e at _ h
+
+  elements_called : (v : StackedVariable) (n : Option ℕ) (e : Option Expression) (at : ℕ)
+      → elements_call n e ≡ true → SomeCall (stacked_declared_code names v n e at)
+  elements_called v (Some n) e at h = no h
+  elements_called v None e at h =
+      second (constant 0 0 ∷ put_code v) (put_initialiser_code names v e (at + 3))
+      (put_called v e (at + 3) h)
+
+  pub declared_at_called : (v : Option StackedVariable) (x : ℕ) (e : Option Expression) (at : ℕ)
+      → declared_at_calls v e ≡ true → SomeCall (declared_at_code names v x e at)
+  declared_at_called None x e at h = inr (initialiser_called x e (at + 1) h)
+  declared_at_called (Some v) x e at h = elements_called v v.elements e at h
+
   all_declared_called : (ds : List Declared) (at : ℕ) → declared_calls ds ≡ true
       → SomeCall (all_declared_code names ds at)
   all_declared_called [] at h = no h
   all_declared_called (d ∷ ds) at h =
-      one_of (optional_calls d.value) (declared_calls ds) h
+      one_of (declared_at_calls d.stacked d.value) (declared_calls ds) h
       (λ x. first (declared_code names d at) _
-      (inr (initialiser_called d.local d.value (at + 1) x)))
+      (declared_at_called d.stacked d.local d.value at x))
       (λ y. second (declared_code names d at) _
       (all_declared_called ds (at + declared_size d) y))
 
@@ -204,7 +228,7 @@ mutual
   pub statement_called : (s : Statement) (scope : LoweringContext) (at : ℕ)
       → statement_calls s ≡ true → SomeCall (statement_code scope s at)
   statement_called (Declare d) scope at h =
-      inr (initialiser_called scope.names d.local d.value (at + 1) h)
+      declared_at_called scope.names d.stacked d.local d.value at h
   statement_called (Block ss) scope at h = statements_called ss scope at h
   statement_called (Evaluate e) scope at h = discarded_called scope.names e at h
   statement_called (If c s) scope at h =

@@ -6,7 +6,7 @@ use Rattle.lowering_invariants.specs.Words.{Statement, Declare, Block, Evaluate,
 use Rattle.lowering_expressions.specs.declared.scope.Way.TheVariants.{Unwinds}
 use Rattle.lowering_invariants.proofs.Lemmas.{all_append}
 use Rattle.lowering_invariants.proofs.NoBlocks.{MayBeCold, AllMayBeCold, expression_may_be_cold}
-use Rattle.lowering_invariants.proofs.UnwindTargets.{discarded_may_be_cold, condition_may_be_cold, returned_may_be_cold, initialiser_may_be_cold, declared_may_be_cold}
+use Rattle.lowering_invariants.proofs.UnwindTargets.{discarded_may_be_cold, condition_may_be_cold, returned_may_be_cold, declared_at_may_be_cold, declared_may_be_cold}
 
 -- no local unwind leads out
 abbrev pub IsJump : Way → Type 0
@@ -36,7 +36,7 @@ mutual
   pub statement_ordinary : (s : Statement) (scope : LoweringContext) (at : ℕ) → HasJumps scope
       → statement_tries s ≡ false → AllMayBeCold (statement_code scope s at)
   statement_ordinary (Declare d) scope at w h =
-      (refl, initialiser_may_be_cold scope.names d.local d.value (at + 1))
+      declared_at_may_be_cold scope.names d.stacked d.local d.value at
   statement_ordinary (Block ss) scope at w h = statements_ordinary ss scope at w h
   statement_ordinary (Evaluate e) scope at w h = discarded_may_be_cold scope.names e at
   statement_ordinary (If c s) scope at w h =

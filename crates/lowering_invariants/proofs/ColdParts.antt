@@ -6,13 +6,14 @@ use Rattle.std.proofs.lemmas.Bool.{and_parts, cases_lt}
 use Rattle.linear_code.specs.declared.program.LabelRange.{LabelRange}
 use Rattle.linear_code.specs.declared.instruction.Instruction.TheVariants as instructions
 use Rattle.seh_ir.specs.ColdParts.{statement_calls, statement_tries}
+use Rattle.seh_ir.specs.Lowered.{body_start}
 use Rattle.lowering_invariants.specs.Words.{Expression, Function, weight, Statements, Instruction, Jump, LinearBody, Owner, Names, statement_size, statements_size, statement_code, statements_code, statements_cold, first_separators, scope_of, lowered_function, filter_funclet, finally_funclet}
 use Rattle.lowering_invariants.specs.ColdParts.{IsApart, IsOutOf, IsColdPart, AreRising, HasColdParts}
 use Rattle.lowering_invariants.specs.PlaceLaws.{LoweredHasColdParts}
 use Rattle.lowering_invariants.proofs.Lemmas.{length_first, statement_length, statements_length, all_append, IsSegmentAt, front, back}
 use Rattle.lowering_invariants.proofs.StackTargets.{all_at, same_it}
 use Rattle.lowering_invariants.proofs.Separators.{all_with}
-use Rattle.lowering_invariants.proofs.FirstSeparators.{first_every, function_end, body_at}
+use Rattle.lowering_invariants.proofs.FirstSeparators.{open_every, function_begin, function_body_code, function_end, begin_every, end_every, begin_length, end_length, code_is, code_every, body_at}
 use Rattle.lowering_invariants.proofs.EveryBody.{every_body}
 use Rattle.lowering_invariants.proofs.NoBlocks.{MayBeCold, AllMayBeCold}
 use Rattle.lowering_invariants.proofs.ColdRanges.{IsBetween, all_between, are_rising, statements_rising, statements_apart, no_try}
@@ -101,27 +102,30 @@ function_cold : (f : Function) → HasColdParts (lowered_function f).body
 function_cold f =
     let b = (lowered_function f).body in
     let scope = scope_of f in
-    let at = weight f in
+    let at = body_start f in
     let to = at + statements_size f.body in
     let cold = statements_cold f.body at in
-    let first = first_separators f in
-    let code = statements_code scope f.body at in
-    let k = length_first f in
+    let first = function_begin f in
+    let code = function_body_code f in
+    let k = begin_length f in
+    let e = end_length f in
+    let same = ap length (code_is f) in
     let l = statements_length scope f.body at in
     let m = length-append first code in
-    let n = length-append (first ++ code) function_end in
+    let n = length-append (first ++ code) (function_end f) in
     let rising = statements_rising f.body at in
     let ways : HasJumps scope = record { exit = tt; loop_end = tt; loop_next = tt } in
-    let there = front b.code at code function_end (body_at f) in
-    let hot = all_append (GoesHot cold) (first ++ code) function_end
-    (all_append (GoesHot cold) first code (first_every (GoesHot cold) tt f)
+    let there = front b.code at code (function_end f) (body_at f) in
+    let hot = code_every (GoesHot cold) f
+    (begin_every (GoesHot cold) tt f
+    (open_every (GoesHot cold) f.data_frame (λ base size. tt) (λ base p. tt)))
     (statements_go_hot cold f.body scope at ways
     (record {
       exit = out_after (to + 1) at to cold (omega arith) rising;
       loop_end = tt;
       loop_next = tt;
       leave = tt;
-    }) (λ label a c h. h))) (tt, (tt, tt)) in
+    }) (λ label a c h. h)) (end_every (GoesHot cold) tt (λ base. tt) tt f) in
     let Known : LabelRange → Type 0 = λ p. IsBranch b.code p × IsBetween at to p in
     record {
       parts = all_with Known (λ (p : LabelRange). AllByRecursion (IsApart p) b.regions)

@@ -5,6 +5,9 @@ use Rattle.std.specs.List.{AllByRecursion}
 use Rattle.linear_code.specs.declared.program.LabelRange.{LabelRange}
 use Rattle.linear_code.specs.declared.instruction.Instruction.TheVariants as instructions
 use Rattle.seh_ir.specs.ColdParts.{cold_range, is_cold, statement_tries}
+use Rattle.c_checked.specs.declared.function.DataPart.{DataPart}
+use Rattle.seh_ir.specs.Statements.{reset_code}
+use Rattle.std.specs.Prelude.{Option, None, Some}
 use Rattle.lowering_invariants.specs.Words.{Statement, Declare, Block, Evaluate, If, IfElse, For, DoWhile, Return, Break, Continue, Leave, TryExcept, TryFinally, Statements, Empty, Then, Instruction, LoweringContext, in_loop, expression_size, discarded_size, condition_size, all_declared_size, statement_size, statements_size, expression_code, discarded_code, condition_code, all_declared_code, statement_code, statements_code, statement_cold, statements_cold}
 use Rattle.lowering_sizes.specs.Sizes.{statement_notes}
 use Rattle.lowering_invariants.specs.ColdParts.{IsOutOf}
@@ -70,6 +73,10 @@ module _ (cold : List LabelRange) where
     ends = λ at to xs e m c. c to (omega arith) (omega arith);
   }
 
+  reset_goes_hot : (part : Option DataPart) → GoesHot (reset_code part)
+  reset_goes_hot None = tt
+  reset_goes_hot (Some p) = tt
+
   instructions_go_hot : HoldsOfInstructions GoesHot IsHot IsHot (λ names m. Unit {0})
       (λ e. Unit {0}) (λ x. Unit {0})
   instructions_go_hot = record {
@@ -84,6 +91,11 @@ module _ (cold : List LabelRange) where
     of_unwind = λ label l. l;
     of_exit_jump = λ label l. tt;
     of_exit = λ label l. l;
+    of_put = λ v d. tt;
+    of_counted = λ names m k le n. tt;
+    of_rest_test = λ names m label le n l. tt;
+    of_cleared = λ names m v le n d. tt;
+    of_reset = λ names m le n. reset_goes_hot names.part;
     of_landing = λ names m le k. tt;
     of_finally = λ k. tt;
   }

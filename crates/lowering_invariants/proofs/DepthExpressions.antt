@@ -2,7 +2,7 @@
 -- that hold as many as they leave.
 use Rattle.std.proofs.Common.{◌≡◌, ℕ, ◌+◌, ◌-◌, List, [], ◌∷◌, ◌++◌, refl, sym, ap, ◌∙◌, arith}
 use Rattle.std.specs.Prelude.{Option, Some, None}
-use Rattle.lowering_invariants.specs.Words.{Pure, Conversion, Kept, Extend, Scale, Expression, On, Node, Lvalue, Global, Indirection, Element, Arguments, Done, Temporary, Instruction, ExceptionSource, NoException, OfFilter, KeptIn, Names, address_count, locate_size, read_size, conversion_size, expression_size, constant, combine, conversion_code, unary_code, choice_code, code_code, abnormal_code, read_code, write_code, address_code, expression_code, locate_code, arguments_code, node_code, after}
+use Rattle.lowering_invariants.specs.Words.{Pure, Conversion, Kept, Extend, Scale, Expression, On, Node, Lvalue, Global, Stacked, Indirection, Element, Arguments, Done, Temporary, Instruction, ExceptionSource, NoException, OfFilter, KeptIn, Names, address_count, locate_size, read_size, conversion_size, expression_size, constant, combine, conversion_code, unary_code, choice_code, code_code, abnormal_code, read_code, write_code, address_code, expression_code, locate_code, arguments_code, node_code, after}
 use Rattle.c_operations.specs.declared.operation.Pure.TheVariants as pures
 use Rattle.c_checked.specs.Expression as nodes
 use Rattle.c_checked.specs.Expression.{Next}
@@ -30,6 +30,7 @@ write_past : (p : Lvalue) (d : ℕ) → after (write_code p d (d + address_count
     (d + address_count p + 1) ≡ d + 1
 write_past (nodes.Local x) d = omega arith
 write_past (Global access a) d = refl
+write_past (Stacked access base offset) d = refl
 write_past (Indirection access e) d = refl
 write_past (Element access e i) d = refl
 
@@ -46,6 +47,7 @@ address_past : (p : Lvalue) (d : ℕ) (located : List Instruction)
     → past located d ≡ d + address_count p → past (address_code p d located) d ≡ d + 1
 address_past (nodes.Local x) d located h = refl
 address_past (Global access a) d located h = h
+address_past (Stacked access base offset) d located h = h
 address_past (Indirection access e) d located h = h
 address_past (Element access e i) d located h = h
 
@@ -62,12 +64,14 @@ module _ (names : Names) where
     locate_past : (p : Lvalue) (d at : ℕ) → past (locate_code names p d at) d ≡ d + address_count p
     locate_past (nodes.Local x) d at = omega arith
     locate_past (Global access a) d at = refl
+    locate_past (Stacked access base offset) d at = refl
     locate_past (Indirection access e) d at = expression_past e d at
     locate_past (Element access e i) d at = past_to (expression_code names e d at) _ d (d + 1)
         (λ x. past_to (expression_code names i (d + 1) _) (_ ∷ []) x (d + 1) (λ y. refl))
 
     node_past : (node : Node) (d at : ℕ) → past (node_code names node d at) d ≡ d + 1
     node_past (nodes.Constant z v) d at = refl
+    node_past (nodes.StackedArray base offset) d at = refl
     node_past (nodes.Read p) d at = past_to (locate_code names p d at) (read_code p d d) d (d + 1)
         (read_past p d d)
     node_past (nodes.AddressOf p) d at = address_past p d (locate_code names p d at)
@@ -133,7 +137,7 @@ module _ (depth : ℕ → ℕ) where
   conversion_leads : (c : Conversion) (d x : ℕ) → All x (conversion_code c d)
   conversion_leads Kept d x = tt
   conversion_leads (Extend s from size) d x = (tt, tt)
-  conversion_leads (Scale s from by) d x = (tt, (tt, (tt, tt)))
+  conversion_leads (Scale s from by) d x = (tt, (tt, tt))
 
   unary_leads : (o : Pure) (d x : ℕ) → All x (unary_code o d)
   unary_leads pures.First d x = tt
@@ -142,6 +146,7 @@ module _ (depth : ℕ → ℕ) where
   read_leads : (p : Lvalue) (address to x : ℕ) → All x (read_code p address to)
   read_leads (nodes.Local y) address to x = (tt, tt)
   read_leads (Global access a) address to x = (tt, (tt, tt))
+  read_leads (Stacked access base offset) address to x = (tt, (tt, tt))
   read_leads (Indirection access e) address to x = (tt, (tt, tt))
   read_leads (Element access e i) address to x = (tt, (tt, tt))
 
@@ -162,6 +167,7 @@ module _ (depth : ℕ → ℕ) where
       → All x (address_code p d located)
   address_leads (nodes.Local y) d x located h = (tt, tt)
   address_leads (Global access a) d x located h = h
+  address_leads (Stacked access base offset) d x located h = h
   address_leads (Indirection access e) d x located h = h
   address_leads (Element access e i) d x located h = h
 
@@ -209,6 +215,7 @@ module _ (depth : ℕ → ℕ) where
         → At at d (locate_code names p d at)
     located_scan (nodes.Local x) d at h = h.0
     located_scan (Global access a) d at h = h
+    located_scan (Stacked access base offset) d at h = h
     located_scan (Indirection access e) d at h = h
     located_scan (Element access e i) d at h = h
 
@@ -225,6 +232,7 @@ module _ (depth : ℕ → ℕ) where
           → All d (locate_code names p d at)
       locate_leads (nodes.Local x) d at h = tt
       locate_leads (Global access a) d at h = (tt, tt)
+      locate_leads (Stacked access base offset) d at h = (tt, (tt, tt))
       locate_leads (Indirection access e) d at h = expression_leads e d at h
       locate_leads (Element access e i) d at h = operands_lead e i d at (_ ∷ []) h
           (expression_leads e d at) (expression_leads i (d + 1) (at + expression_size e))
@@ -246,6 +254,7 @@ module _ (depth : ℕ → ℕ) where
       node_leads : (node : Node) (d at : ℕ) → At at d (node_code names node d at)
           → All d (node_code names node d at)
       node_leads (nodes.Constant z v) d at h = (tt, tt)
+      node_leads (nodes.StackedArray base offset) d at h = (tt, (tt, tt))
       node_leads (nodes.Read p) d at h =
           let code = locate_code names p d at in
           lead_both depth code (read_code p d d) d (d + address_count p) (locate_past names p d at)

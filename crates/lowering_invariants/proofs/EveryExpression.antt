@@ -2,7 +2,7 @@
 use Rattle.std.proofs.Common.{◌≡◌, ℕ, ◌+◌, List, [], ◌∷◌, ◌++◌}
 use Rattle.std.specs.List.{AllByRecursion}
 use Rattle.std.specs.Prelude.{Bool, true, Option, Some, None}
-use Rattle.lowering_invariants.specs.Words.{Width, BuiltIn, Field, Operation, Pure, Signed, Long, Access, Conversion, Kept, Extend, Scale, Expression, On, Node, Lvalue, Global, Indirection, Element, Arguments, Done, Program, Slot, Local, Temporary, Instruction, Names, address_count, locate_size, read_size, conversion_size, expression_size, constant, copy, change, combine, conversion_code, unary_code, choice_code, code_code, abnormal_code, load_code, read_code, write_code, address_code, chosen_of, expression_code, locate_code, arguments_code, node_code, store_code, IsCalled, ExpressionFits, LvalueFits, ArgumentsFit, NodeFits}
+use Rattle.lowering_invariants.specs.Words.{Width, BuiltIn, Field, Operation, Pure, Signed, Long, Access, Conversion, Kept, Extend, Scale, Expression, On, Node, Lvalue, Global, Stacked, Indirection, Element, Arguments, Done, Program, Slot, Local, Temporary, Instruction, Names, address_count, locate_size, read_size, conversion_size, expression_size, constant, copy, change, combine, conversion_code, unary_code, choice_code, code_code, abnormal_code, load_code, read_code, write_code, address_code, chosen_of, expression_code, locate_code, arguments_code, node_code, store_code, IsCalled, ExpressionFits, LvalueFits, ArgumentsFit, NodeFits}
 use Rattle.c_operations.specs.declared.operation.Operation.TheVariants as operations
 use Rattle.c_operations.specs.declared.operation.Pure.TheVariants as pures
 use Rattle.c_checked.specs.Expression as nodes
@@ -19,6 +19,8 @@ pub record HoldsOfOperations (P : Instruction → Type 0) : Type 0 where
   pub of_load : (w : Width) (address to : ℕ) → P
       (instructions.Compute (Temporary to) (operations.Load w) (Temporary address)
       (Temporary address))
+  pub of_place : (d base : ℕ) → P (instructions.Compute (Temporary d)
+      (operations.Pure (pures.Add Long)) (Local base) (Temporary d))
   pub of_store : (access : Access) (address from to : ℕ) → P (store_code access address from to)
   pub of_jump : (label : ℕ) → P (instructions.Jump label)
   pub of_test : (d label : ℕ) → P (instructions.JumpIfZero (Temporary d) label)
@@ -44,13 +46,7 @@ module _ (P : Instruction → Type 0) (holds : HoldsOfOperations P) where
   conversion_every (Extend s from size) d = (holds.of_change d (pures.Extend s from size), tt)
   conversion_every (Scale s from by) d = (
     holds.of_change d (pures.Extend s from Long),
-    (
-      holds.of_constant (d + 1) by,
-      (
-        holds.of_combine d (operations.Pure (pures.Multiply Long)),
-        tt,
-      ),
-    ),
+    (holds.of_change d (pures.MultiplyBy by), tt),
   )
 
   pub unary_every : (o : Pure) (d : ℕ) → Every (unary_code o d)
@@ -69,12 +65,14 @@ module _ (P : Instruction → Type 0) (holds : HoldsOfOperations P) where
   pub read_every : (p : Lvalue) (address to : ℕ) → Every (read_code p address to)
   read_every (nodes.Local x) address to = (holds.of_copy (Temporary to) (Local x), tt)
   read_every (Global access a) address to = load_every access address to
+  read_every (Stacked access base offset) address to = load_every access address to
   read_every (Indirection access e) address to = load_every access address to
   read_every (Element access e i) address to = load_every access address to
 
   pub write_every : (p : Lvalue) (address from to : ℕ) → P (write_code p address from to)
   write_every (nodes.Local x) address from to = holds.of_copy (Local x) (Temporary from)
   write_every (Global access a) address from to = holds.of_store access address from to
+  write_every (Stacked access base offset) address from to = holds.of_store access address from to
   write_every (Indirection access e) address from to = holds.of_store access address from to
   write_every (Element access e i) address from to = holds.of_store access address from to
 
@@ -82,6 +80,7 @@ module _ (P : Instruction → Type 0) (holds : HoldsOfOperations P) where
       → Every (address_code p d located)
   address_every (nodes.Local x) d located h = (holds.of_constant d 0, tt)
   address_every (Global access a) d located h = h
+  address_every (Stacked access base offset) d located h = h
   address_every (Indirection access e) d located h = h
   address_every (Element access e i) d located h = h
 
@@ -111,6 +110,8 @@ module _ (P : Instruction → Type 0) (holds : HoldsOfOperations P) where
           → Every (locate_code names p d at)
       locate_every (nodes.Local x) d at f = tt
       locate_every (Global access a) d at f = (holds.of_constant d a, tt)
+      locate_every (Stacked access base offset) d at f =
+          (holds.of_constant d offset, (holds.of_place d base, tt))
       locate_every (Indirection access e) d at f = expression_every e d at f
       locate_every (Element access e i) d at f = operands e i d at (_ ∷ [])
           (expression_every e d at f.0) (expression_every i (d + 1) (at + expression_size e) f.1)
@@ -127,6 +128,8 @@ module _ (P : Instruction → Type 0) (holds : HoldsOfOperations P) where
       node_every : (node : Node) (d at : ℕ) → NodeFits program own info node
           → Every (node_code names node d at)
       node_every (nodes.Constant z v) d at f = (holds.of_constant d v, tt)
+      node_every (nodes.StackedArray base offset) d at f =
+          (holds.of_constant d offset, (holds.of_place d base, tt))
       node_every (nodes.Read p) d at f = append (locate_code names p d at) (read_code p d d)
           (locate_every p d at f) (read_every p d d)
       node_every (nodes.AddressOf p) d at f = address_every p d (locate_code names p d at)

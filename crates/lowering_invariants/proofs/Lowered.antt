@@ -4,10 +4,11 @@ use Rattle.std.proofs.lemmas.List.{length-map}
 use Rattle.std.proofs.lemmas.Option.{slice_get-map, slice_get_within}
 use Rattle.std.specs.List.{AllByRecursion}
 use Rattle.std.specs.Prelude.{true, slice_get, option_map, Option, Some, None}
+use Rattle.seh_ir.specs.Lowered.{body_start}
 use Rattle.lowering_invariants.specs.Words.{Program, Function, weight, IsSound, funclets, count_up, function_sound, functions_sound, LinearBody, LinearFunction, LinearFunclet, FunctionBody, FuncletBody, function_body, funclet_body, body_of, Owner, statements_code, own_locals, all_locals, first_separators, scope_of, lowered_function, lowered_funclets, all_funclets, lowered, IsCalled, IsCallee, IsInstructionOf, IsBodyOf, AreBodies, LoweredIsWhole}
 use Rattle.c_checked.specs.Sound as sound
 use Rattle.lowering_invariants.proofs.Lemmas.{Range, part_of, both_parts, no_part, one_part, all_append, statements_count, count_front, count_back, IsSegmentAt, front, back, whole_is_at, both_left, both_right, lowered_is_linked}
-use Rattle.lowering_invariants.proofs.FirstSeparators.{first_every, function_end, body_at}
+use Rattle.lowering_invariants.proofs.FirstSeparators.{open_every, function_body_code, function_end, begin_every, end_every, code_every, body_at}
 use Rattle.lowering_invariants.proofs.StackTargets.{same_it, all_at}
 use Rattle.lowering_invariants.proofs.Wholes.{Fine}
 use Rattle.lowering_invariants.proofs.Wholes.{statements_have, typed}
@@ -39,21 +40,22 @@ module _ (program : Program) where
       let linear = lowered program in
       let body = (lowered_function fn).body in
       let owner : Owner = record { function = number; locals = all_locals fn; parent = None } in
-      let at = weight fn in
-      let code = statements_code (scope_of fn) fn.body at in
+      let at = body_start fn in
+      let code = function_body_code fn in
       let Calls = IsInstructionOf linear (FunctionBody number) in
       let there' = ap function_body there in
       let fits = function_fits program fn ok in
       let x = statements_have program linear callee (own_locals fn) fn.body (FunctionBody number)
       owner (record { parent = refl; function = refl }) (scope_of fn).names at fits j f c in
       let y = typed program linear callee (own_locals fn) (FunctionBody number) body there' fn.body
-      (scope_of fn) at fits x.named (front body.code at code function_end (body_at fn)) in
+      (scope_of fn) at fits x.named (front body.code at code (function_end fn) (body_at fn)) in
       let whole : IsBodyOf linear (FunctionBody number)
       body = record {
         regions = y.1;
-        code = all_append Calls (first_separators fn ++ code) function_end
-            (all_append Calls (first_separators fn) code (first_every Calls tt fn) y.0)
-            (tt, (tt, tt));
+        code = code_every Calls fn
+            (begin_every Calls tt fn
+            (open_every Calls fn.data_frame (λ base size. tt) (λ base p. tt))) y.0
+            (end_every Calls tt (λ base. tt) tt fn);
       } in (
         (λ b e. subst (IsBodyOf linear (FunctionBody number))
             (same_it body b (sym (ap function_body there) ∙ e)) whole),

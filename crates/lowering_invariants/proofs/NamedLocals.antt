@@ -4,7 +4,7 @@ use Rattle.std.proofs.Common.{◌≡◌, ℕ, ◌+◌, List, [], ◌∷◌, ◌+
 use Rattle.std.proofs.lemmas.Bool.{or_left, or_right, eq-eqb}
 use Rattle.std.specs.List.{AllByRecursion}
 use Rattle.std.specs.Prelude.{◌||◌, Option, Some, None}
-use Rattle.lowering_invariants.specs.Words.{Pure, Access, Conversion, Kept, Extend, Scale, Expression, On, Node, Lvalue, Global, Indirection, Element, Arguments, Done, Temporary, Instruction, ExceptionSource, NoException, OfFilter, KeptIn, Names, address_count, locate_size, read_size, conversion_size, expression_size, copy, combine, constant, conversion_code, unary_code, choice_code, code_code, abnormal_code, load_code, read_code, write_code, address_code, chosen_of, expression_code, locate_code, arguments_code, node_code}
+use Rattle.lowering_invariants.specs.Words.{Pure, Access, Conversion, Kept, Extend, Scale, Expression, On, Node, Lvalue, Global, Stacked, Indirection, Element, Arguments, Done, Temporary, Instruction, ExceptionSource, NoException, OfFilter, KeptIn, Names, address_count, locate_size, read_size, conversion_size, expression_size, copy, combine, constant, conversion_code, unary_code, choice_code, code_code, abnormal_code, load_code, read_code, write_code, address_code, chosen_of, expression_code, locate_code, arguments_code, node_code}
 use Rattle.c_operations.specs.declared.operation.Pure.TheVariants as pures
 use Rattle.c_checked.specs.Expression as nodes
 use Rattle.c_checked.specs.Expression.{Next}
@@ -47,7 +47,7 @@ module _ (L : ℕ → Type 0) (names : Names) (known : NamesHave L names) where
   conversion_has : (c : Conversion) (d : ℕ) → Has (conversion_code c d)
   conversion_has Kept d = tt
   conversion_has (Extend s from size) d = ((tt, tt, tt), tt)
-  conversion_has (Scale s from by) d = ((tt, tt, tt), ((tt, tt, tt), ((tt, tt, tt), tt)))
+  conversion_has (Scale s from by) d = ((tt, tt, tt), ((tt, tt, tt), tt))
 
   unary_has : (o : Pure) (d : ℕ) → Has (unary_code o d)
   unary_has pures.First d = tt
@@ -65,6 +65,7 @@ module _ (L : ℕ → Type 0) (names : Names) (known : NamesHave L names) where
   read_has : (p : Lvalue) (address to : ℕ) → InPlace p → Has (read_code p address to)
   read_has (nodes.Local x) address to h = ((tt, local_in x h, local_in x h), tt)
   read_has (Global access a) address to h = load_has access address to
+  read_has (Stacked access base offset) address to h = load_has access address to
   read_has (Indirection access e) address to h = load_has access address to
   read_has (Element access e i) address to h = load_has access address to
 
@@ -72,6 +73,7 @@ module _ (L : ℕ → Type 0) (names : Names) (known : NamesHave L names) where
       → SlotsHave L (write_code p address from to)
   write_has (nodes.Local x) address from to h = (local_in x h, tt, tt)
   write_has (Global access a) address from to h = (tt, tt, tt)
+  write_has (Stacked access base offset) address from to h = (tt, tt, tt)
   write_has (Indirection access e) address from to h = (tt, tt, tt)
   write_has (Element access e i) address from to h = (tt, tt, tt)
 
@@ -79,6 +81,7 @@ module _ (L : ℕ → Type 0) (names : Names) (known : NamesHave L names) where
       → Has (address_code p d located)
   address_has (nodes.Local x) d located h = ((tt, tt, tt), tt)
   address_has (Global access a) d located h = h
+  address_has (Stacked access base offset) d located h = h
   address_has (Indirection access e) d located h = h
   address_has (Element access e i) d located h = h
 
@@ -134,6 +137,8 @@ module _ (L : ℕ → Type 0) (names : Names) (known : NamesHave L names) where
     locate_has : (p : Lvalue) (d at : ℕ) → InPlace p → Has (locate_code names p d at)
     locate_has (nodes.Local x) d at h = tt
     locate_has (Global access a) d at h = ((tt, tt, tt), tt)
+    locate_has (Stacked access base offset) d at h =
+        ((tt, tt, tt), ((tt, h base (eq-eqb base base refl), tt), tt))
     locate_has (Indirection access e) d at h = expression_has e d at h
     locate_has (Element access e i) d at h = operands e i d at (_ ∷ [])
         (expression_has e d at (first e i h))
@@ -153,6 +158,8 @@ module _ (L : ℕ → Type 0) (names : Names) (known : NamesHave L names) where
     node_has : (node : Node) (d at : ℕ) → NamedHave L (λ x. node_names x node)
         → Has (node_code names node d at)
     node_has (nodes.Constant z v) d at h = ((tt, tt, tt), tt)
+    node_has (nodes.StackedArray base offset) d at h =
+        ((tt, tt, tt), ((tt, h base (eq-eqb base base refl), tt), tt))
     node_has (nodes.Read p) d at h = append (locate_code names p d at) (read_code p d d)
         (locate_has p d at h) (read_has p d d h)
     node_has (nodes.AddressOf p) d at h = address_has p d (locate_code names p d at)

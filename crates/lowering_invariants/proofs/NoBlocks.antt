@@ -4,7 +4,7 @@ use Rattle.std.proofs.Common.{◌≡◌, ℕ, ◌+◌, List, [], ◌∷◌, ◌+
 use Rattle.std.specs.List.{AllByRecursion}
 use Rattle.std.specs.Prelude.{true, false, Option}
 use Rattle.c_operations.specs.declared.operation.Operation.TheVariants as operations
-use Rattle.lowering_invariants.specs.Words.{Pure, Signed, Long, Conversion, Expression, On, Node, Lvalue, Global, Indirection, Element, Arguments, Done, Temporary, Instruction, ExceptionSource, NoException, OfFilter, KeptIn, Names, address_count, locate_size, read_size, conversion_size, expression_size, constant, copy, combine, conversion_code, unary_code, choice_code, code_code, abnormal_code, read_code, write_code, address_code, chosen_of, expression_code, locate_code, arguments_code, node_code, runs_blocks}
+use Rattle.lowering_invariants.specs.Words.{Pure, Signed, Long, Conversion, Expression, On, Node, Lvalue, Global, Stacked, Indirection, Element, Arguments, Done, Temporary, Instruction, ExceptionSource, NoException, OfFilter, KeptIn, Names, address_count, locate_size, read_size, conversion_size, expression_size, constant, copy, combine, conversion_code, unary_code, choice_code, code_code, abnormal_code, read_code, write_code, address_code, chosen_of, expression_code, locate_code, arguments_code, node_code, runs_blocks}
 use Rattle.c_operations.specs.declared.operation.Pure.TheVariants as pures
 use Rattle.c_checked.specs.Expression as nodes
 use Rattle.c_checked.specs.Expression.{Next}
@@ -30,6 +30,7 @@ operations_may_be_cold = record {
   of_change = λ d o. refl;
   of_combine = λ d o. refl;
   of_load = λ w address to. refl;
+  of_place = λ d base. refl;
   of_store = λ access address from to. refl;
   of_jump = λ label. refl;
   of_test = λ d label. refl;
@@ -83,6 +84,7 @@ module _ (names : Names) where
     locate_may_be_cold : (p : Lvalue) (d at : ℕ) → AllMayBeCold (locate_code names p d at)
     locate_may_be_cold (nodes.Local x) d at = tt
     locate_may_be_cold (Global access a) d at = (refl, tt)
+    locate_may_be_cold (Stacked access base offset) d at = (refl, (refl, tt))
     locate_may_be_cold (Indirection access e) d at = expression_may_be_cold e d at
     locate_may_be_cold (Element access e i) d at = operands e i d at (_ ∷ [])
         (expression_may_be_cold e d at)
@@ -98,6 +100,7 @@ module _ (names : Names) where
 
     node_may_be_cold : (node : Node) (d at : ℕ) → AllMayBeCold (node_code names node d at)
     node_may_be_cold (nodes.Constant z v) d at = (refl, tt)
+    node_may_be_cold (nodes.StackedArray base offset) d at = (refl, (refl, tt))
     node_may_be_cold (nodes.Read p) d at = append (locate_code names p d at) (read_code p d d)
         (locate_may_be_cold p d at) (read_may_be_cold p d d)
     node_may_be_cold (nodes.AddressOf p) d at = address_may_be_cold p d (locate_code names p d at)

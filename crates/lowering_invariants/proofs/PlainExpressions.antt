@@ -2,7 +2,10 @@
 use Rattle.std.proofs.Common.{◌≡◌, ℕ, suc, ◌+◌, ◌*◌, ◌<◌, ◌≤◌, List, [], ◌∷◌, ◌++◌, length, arith}
 use Rattle.std.specs.List.{AllByRecursion}
 use Rattle.std.specs.Prelude.{Bool, slice_get, Option, Some, None}
-use Rattle.lowering_invariants.specs.Words.{BuiltIn, Field, Operation, Pure, Signed, Long, Access, Conversion, Kept, Extend, Scale, Expression, On, Node, Lvalue, Global, Indirection, Element, Arguments, Done, Program, Function, Local, Temporary, Instruction, count_of, ExceptionSource, NoException, OfFilter, KeptIn, Names, address_count, locate_size, read_size, conversion_size, expression_size, instruction_temporaries, instruction_passes, constant, copy, change, combine, conversion_code, unary_code, choice_code, code_code, abnormal_code, load_code, read_code, write_code, address_code, chosen_of, expression_code, locate_code, arguments_code, node_code, size_of, argument_count, ExpressionFits, LvalueFits, ArgumentsFit, NodeFits, expression_nesting, expression_reads, parameters_for, lvalue_nesting, arguments_nesting, node_nesting, lvalue_reads, arguments_read, node_reads, IsPlain, IsField}
+use Rattle.c_checked.specs.declared.function.DataPart.{DataPart}
+use Rattle.lowering_expressions.specs.Expressions.{stacked_code}
+use Rattle.lowering_follows.specs.Fits.{IsStackedPlace}
+use Rattle.lowering_invariants.specs.Words.{BuiltIn, Field, Operation, Pure, Signed, Long, Access, Conversion, Kept, Extend, Scale, Expression, On, Node, Lvalue, Global, Stacked, Indirection, Element, Arguments, Done, Program, Function, Local, Temporary, Instruction, count_of, ExceptionSource, NoException, OfFilter, KeptIn, Names, address_count, locate_size, read_size, conversion_size, expression_size, instruction_temporaries, instruction_passes, constant, copy, change, combine, conversion_code, unary_code, choice_code, code_code, abnormal_code, load_code, read_code, write_code, address_code, chosen_of, expression_code, locate_code, arguments_code, node_code, size_of, argument_count, ExpressionFits, LvalueFits, ArgumentsFit, NodeFits, expression_nesting, expression_reads, parameters_for, lvalue_nesting, arguments_nesting, node_nesting, lvalue_reads, arguments_read, node_reads, IsPlain, IsField}
 use Rattle.c_operations.specs.declared.field.Field.TheVariants as fields
 use Rattle.c_operations.specs.declared.operation.Operation.TheVariants as operations
 use Rattle.c_operations.specs.declared.operation.Pure.TheVariants as pures
@@ -29,9 +32,14 @@ abbrev pub FlagAmong : ℕ → Option ℕ → Type 0
 FlagAmong n None = Unit {0}
 FlagAmong n (Some x) = x < n
 
+abbrev pub PartAmong : ℕ → Option DataPart → Type 0
+PartAmong n None = Unit {0}
+PartAmong n (Some p) = p.base < n
+
 pub record NamesAmong (n : ℕ) (names : Names) : Type 0 where
   pub source : SourceAmong n names.exception
   pub flag : FlagAmong n names.abnormal
+  pub part : PartAmong n names.part
 
 -- with so many temporaries and so many locals
 module _ (most n : ℕ) where
@@ -69,10 +77,7 @@ module _ (most n : ℕ) where
   conversion_good (Scale s from by) d le = (
     change_good d
         (operations.Pure (pures.Extend s from Long)) (omega arith),
-    (
-      constant_good (d + 1) by (omega arith),
-      (combine_good d (operations.Pure (pures.Multiply Long)) (omega arith), tt),
-    ),
+    (change_good d (operations.Pure (pures.MultiplyBy by)) (omega arith), tt),
   )
 
   unary_good : (o : Pure) (d : ℕ) → d + 2 ≤ most → AllGood (unary_code o d)
@@ -113,6 +118,7 @@ module _ (most n : ℕ) where
         → suc to ≤ most → AllGood (read_code p address to)
     read_good (nodes.Local x) address to f le le' = (fetched_good to x le' (omega arith), tt)
     read_good (Global access a) address to f le le' = load_good access address to le le'
+    read_good (Stacked access base offset) address to f le le' = load_good access address to le le'
     read_good (Indirection access e) address to f le le' = load_good access address to le le'
     read_good (Element access e i) address to f le le' = load_good access address to le le'
 
@@ -120,6 +126,8 @@ module _ (most n : ℕ) where
         → suc address ≤ most → suc from ≤ most → suc to ≤ most → Good (write_code p address from to)
     write_good (nodes.Local x) address from to f le le' le'' = kept_good x from le' (omega arith)
     write_good (Global access a) address from to f le le'
+        le'' = (omega arith, omega arith, (tt, tt, tt))
+    write_good (Stacked access base offset) address from to f le le'
         le'' = (omega arith, omega arith, (tt, tt, tt))
     write_good (Indirection access e) address from to f le le' le'' =
         (omega arith, omega arith, (tt, tt, tt))
@@ -130,6 +138,7 @@ module _ (most n : ℕ) where
         → AllGood located → AllGood (address_code p d located)
     address_good (nodes.Local x) d located le h = (constant_good d 0 le, tt)
     address_good (Global access a) d located le h = h
+    address_good (Stacked access base offset) d located le h = h
     address_good (Indirection access e) d located le h = h
     address_good (Element access e i) d located le h = h
 
@@ -142,6 +151,15 @@ module _ (most n : ℕ) where
     flag_good : (s : Option ℕ) (d : ℕ) → FlagAmong n s → suc d ≤ most → Good (abnormal_code s d)
     flag_good None d h le = constant_good d 0 le
     flag_good (Some x) d h le = fetched_good d x le h
+
+    stacked_good : (d base offset : ℕ) → IsStackedPlace own base offset → suc d ≤ most
+        → AllGood (stacked_code base offset d)
+    stacked_good d base offset f le =
+        let low = f.is_local in
+        let lt : base < n = omega arith in (
+          constant_good d offset le,
+          ((omega arith, omega arith, (tt, lt, tt)), tt),
+        )
 
     count_small : (p : Lvalue) → address_count p ≤ 1
     count_small (nodes.Local x) = omega arith
@@ -173,6 +191,7 @@ module _ (most n : ℕ) where
           → AllGood (locate_code names p d at)
       locate_good (nodes.Local x) d at f le r = tt
       locate_good (Global access a) d at f le r = (constant_good d a (omega arith), tt)
+      locate_good (Stacked access base offset) d at f le r = stacked_good d base offset f (omega arith)
       locate_good (Indirection access e) d at f le r = expression_good e d at f (omega arith) r
       locate_good (Element access e i) d at f le r =
           let code = expression_code names i (d + 1) (at + expression_size e) in
@@ -200,6 +219,8 @@ module _ (most n : ℕ) where
           → d + 7 * node_nesting node + 8 ≤ most → node_reads node ≤ 15
           → AllGood (node_code names node d at)
       node_good (nodes.Constant z v) d at f le r = (constant_good d v (omega arith), tt)
+      node_good (nodes.StackedArray base offset) d at f le r =
+          stacked_good d base offset f (omega arith)
       node_good (nodes.Read p) d at f le r = append (locate_code names p d at) (read_code p d d)
           (locate_good p d at f (omega arith) r) (read_good p d d f (omega arith) (omega arith))
       node_good (nodes.AddressOf p) d at f le r = address_good p d (locate_code names p d at)

@@ -3,10 +3,15 @@
 use Rattle.std.proofs.Common.{◌≡◌, ℕ, ◌+◌, ◌-◌, ◌*◌, ◌<◌, ◌≤◌, List, [], ◌∷◌, ◌++◌, length, sym, subst, arith}
 use Rattle.std.specs.List.{AllByRecursion}
 use Rattle.std.specs.Prelude.{Bool, true, false, slice_get, Option, Some, None}
+use Rattle.c_checked.specs.declared.function.DataPart.{DataPart}
+use Rattle.c_checked.specs.declared.statement.StackedVariable.{StackedVariable}
+use Rattle.seh_ir.specs.Funclets.{finally_begin}
+use Rattle.seh_ir.specs.Statements.{reset_code}
+use Rattle.seh_ir.proofs.StatementParts.{StackedHas}
 use Rattle.lowering_invariants.specs.Words.{Expression, Program, Function, count_up, Declared, Filter, Always, Funclet, Statement, Declare, Block, Evaluate, If, IfElse, For, DoWhile, Return, Break, Continue, Leave, TryExcept, TryFinally, Statements, Empty, Then, Local, Temporary, Instruction, LinearProgram, statements_notes, Owner, Names, LoweringContext, except_names, filter_names, finally_names, finally_scope, temporaries_in, passed_in, body_with, expression_code, statements_code, finally_funclet, expression_nesting, expression_reads, most_of_optional, most_of_declared, most_of_filter, most_of_statement, most_of, IsPlain, IsSmallBody, IsSmallFunclet, HasParent, ExpressionFits, filter_funclet}
 use Rattle.linear_code.specs.declared.instruction.Instruction.TheVariants as instructions
 use Rattle.lowering_invariants.proofs.Lemmas.{counted, both_right, OptionalHas, AllDeclaredHave, FilterHas, StatementHas, StatementsHave, HoldsOfInstructions, statements_all, HoldsOfFunclets}
-use Rattle.lowering_invariants.proofs.PlainExpressions.{NamesAmong, Good, AllGood, append, kept_good, constant_good, expression_good}
+use Rattle.lowering_invariants.proofs.PlainExpressions.{PartAmong, NamesAmong, Good, AllGood, append, kept_good, constant_good, expression_good}
 
 -- ---- what all instructions of a body have, the body has
 
@@ -36,11 +41,15 @@ module _ (f g : Expression → ℕ) (a b : ℕ) where
   optional_within None le r = tt
   optional_within (Some e) le r = (le, r)
 
+  any_base : (v : Option StackedVariable) → StackedHas (λ x. Unit {0}) v
+  any_base None = tt
+  any_base (Some v) = tt
+
   all_declared_within : (ds : List Declared) → most_of_declared f ds ≤ a
       → most_of_declared g ds ≤ b → AllDeclaredHave Within (λ x. Unit {0}) ds
   all_declared_within [] le r = tt
   all_declared_within (d ∷ ds) le r = (
-    (tt, optional_within d.value (omega arith) (omega arith)),
+    (tt, optional_within d.value (omega arith) (omega arith), any_base d.stacked),
     all_declared_within ds (omega arith) (omega arith),
   )
 
@@ -52,7 +61,7 @@ module _ (f g : Expression → ℕ) (a b : ℕ) where
   mutual
     statement_within : (s : Statement) → most_of_statement f s ≤ a → most_of_statement g s ≤ b
         → StatementHas Within Within (λ x. Unit {0}) s
-    statement_within (Declare d) le r = (tt, optional_within d.value le r)
+    statement_within (Declare d) le r = (tt, optional_within d.value le r, any_base d.stacked)
     statement_within (Block ss) le r = statements_within ss le r
     statement_within (Evaluate e) le r = optional_within e le r
     statement_within (If c s) le r =
@@ -117,13 +126,13 @@ except_named : (n : ℕ) (names : Names) (m k : ℕ) → 1 + k ≤ m → Named n
     → Named n (except_names names) k
 except_named n names m k le h = let room = h.1 in
     let lt : names.free < n = omega arith in
-    (record { source = lt; flag = h.0.flag }, omega arith)
+    (record { source = lt; flag = h.0.flag; part = h.0.part }, omega arith)
 
 finally_named : (n : ℕ) (names : Names) (m k : ℕ) → 1 + k ≤ m → Named n names m
     → Named n (finally_names names) k
 finally_named n names m k le h = let room = h.1 in
     let lt : names.free < n = omega arith in
-    (record { source = h.0.source; flag = lt }, omega arith)
+    (record { source = h.0.source; flag = lt; part = h.0.part }, omega arith)
 
 -- ---- bodies
 
@@ -157,6 +166,21 @@ module _ (program : Program) (most n own : ℕ) (wide : own ≤ n) (least : 8 �
 
   -- ---- statements
 
+  reset_good : (part : Option DataPart) → PartAmong n part → Good most n (reset_code part)
+  reset_good None h = (omega arith, omega arith, tt)
+  reset_good (Some p) h = (omega arith, omega arith, (h, h, h))
+
+  begin_good : (part : Option DataPart) (x : ℕ) → PartAmong n part → x < n
+      → AllGood most n (finally_begin part x)
+  begin_good None x h lt = (
+    (omega arith, omega arith, tt),
+    ((omega arith, omega arith, tt), ((omega arith, omega arith, tt), tt)),
+  )
+  begin_good (Some p) x h lt = (
+    (omega arith, omega arith, lt),
+    ((omega arith, omega arith, (h, h, h)), ((omega arith, omega arith, tt), tt)),
+  )
+
   instructions_good : HoldsOfInstructions (Good most n) (λ label. Unit {0}) (λ label. Unit {0})
       (Named n) (Value program most own false) (λ x. x < own)
   instructions_good = record {
@@ -171,6 +195,15 @@ module _ (program : Program) (most n own : ℕ) (wide : own ≤ n) (least : 8 �
     of_exit_jump = λ label l. (omega arith, omega arith, tt);
     of_exit = λ label l. (omega arith, omega arith, tt);
     of_landing = λ names m le k. let room = k.1 in (omega arith, omega arith, omega arith);
+    of_put = λ v d. let lt : v.base < n = omega arith in (omega arith, omega arith, (tt, lt, tt));
+    of_counted = λ names m k le h. let room = h.1 in
+        let lt : names.free < n = omega arith in (omega arith, omega arith, (lt, lt, lt));
+    of_rest_test = λ names m label le h l. let room = h.1 in
+        let lt : names.free < n = omega arith in (omega arith, omega arith, lt);
+    of_cleared = λ names m v le h d. let room = h.1 in
+        let lt : names.free < n = omega arith in
+        let low : v.base < n = omega arith in (omega arith, omega arith, (lt, low, lt));
+    of_reset = λ names m le h. reset_good names.part h.0.part;
     of_finally = λ k. (omega arith, omega arith, tt);
   }
 
@@ -196,7 +229,8 @@ module _ (program : Program) (most n own : ℕ) (wide : own ≤ n) (least : 8 �
         → Named n names m → Value program most own true e
         → IsSmallFunclet linear (filter_funclet owner (filter_names names) e)
     filter_small owner names m e fitting k h =
-        let among : NamesAmong n (filter_names names) = record { source = tt; flag = k.0.flag } in
+        let among : NamesAmong n (filter_names names) =
+        record { source = tt; flag = k.0.flag; part = k.0.part } in
         let code = expression_code (filter_names names) e 0 0 in
         let ends = instructions.Return (Temporary 0) ∷ [] in
         record {
@@ -217,18 +251,21 @@ module _ (program : Program) (most n own : ℕ) (wide : own ≤ n) (least : 8 �
     block_small owner names m last fitting le k h =
         let room = k.1 in
         let lt : names.free < n = omega arith in
-        let code = statements_code (finally_scope names) last 0 in
+        let begins = finally_begin names.part names.free in
+        let code = statements_code (finally_scope names) last 3 in
         let ends = instructions.Return (Local names.free) ∷ [] in
         record {
           kind = subst (λ m. names.free < m) (sym fitting.locals) lt;
           function = fitting.function;
           parent = fitting.parent;
-          body = owned_body owner fitting (code ++ ends)
+          body = owned_body owner fitting (begins ++ (code ++ ends))
               (finally_funclet owner names last).body.regions
-              (append most n code ends (statements_good last (finally_scope names) 0
+              (append most n begins (code ++ ends)
+              (begin_good names.part names.free k.0.part lt)
+              (append most n code ends (statements_good last (finally_scope names) 3
               (statements_notes last) (omega arith)
               (finally_named n names m (statements_notes last) le k) h)
-              ((omega arith, omega arith, lt), tt));
+              ((omega arith, omega arith, lt), tt)));
         }
 
     -- it holds of filters and blocks; the number of one that is a parent is there

@@ -57,7 +57,7 @@ mutual
   statement_within Leave at = tt
   statement_within (TryExcept body filter block) at =
       let ends = at + statements_size body in
-      let begins = ends + 1 + 1 in
+      let begins = ends + 1 + 2 in
       both_within _ _ at ends at (begins + statements_size block) (statements_regions body at) _
       (omega arith) (omega arith) (omega arith) (omega arith) (statements_within body at) (
         record { begins = omega arith; some = omega arith; ends = omega arith },
@@ -165,17 +165,17 @@ mutual
       let target = ends + 1 in
       let own = region at target (except_kind filter target) in
       let rs = statements_regions body at in
-      let qs = statements_regions block (target + 1) in
+      let qs = statements_regions block (target + 2) in
       let w = statements_within body at in
       subst NoneMeet (append_assoc rs (own ∷ []) qs)
-      (next_apart at (target + 1) (target + 1) (target + 1 + statements_size block)
+      (next_apart at (target + 1) (target + 2) (target + 2 + statements_size block)
       (rs ++ own ∷ []) qs (omega arith)
       (both_within at (target + 1) at ends at (target + 1) rs (own ∷ []) (omega arith)
       (omega arith) (omega arith) (omega arith) w
       (record { begins = omega arith; some = omega arith; ends = omega arith }, tt))
-      (statements_within block (target + 1))
+      (statements_within block (target + 2))
       (own_apart at ends rs own refl refl (omega arith) w (statements_none_meet body at))
-      (statements_none_meet block (target + 1)))
+      (statements_none_meet block (target + 2)))
   statement_none_meet (TryFinally body k last) at =
       let ends = at + statements_size body in
       own_apart at ends (statements_regions body at) (region at (ends + 1) (kinds.Finally (k - 1)))

@@ -2,13 +2,22 @@
 -- the places where regions begin and end is no call.
 use Rattle.std.proofs.Common.{◌≡◌, ℕ, zero, suc, ◌+◌, ◌<◌, List, [], ◌∷◌, ◌++◌, length, replicate, filter, refl, sym, ap, subst, ◌∙◌, arith, append-nil}
 use Rattle.std.specs.List.{AllByRecursion}
-use Rattle.std.specs.Prelude.{Bool, true, false, cond, ◌&&◌, nat_le, nat_lt, slice_get, Some}
+use Rattle.std.specs.Prelude.{Bool, true, false, cond, ◌&&◌, nat_le, nat_lt, slice_get, Option, Some, None}
+use Rattle.c_checked.specs.declared.function.DataPart.{DataPart}
+use Rattle.c_checked.specs.declared.function.StackedParameter.{StackedParameter}
+use Rattle.seh_ir.specs.Funclets.{finally_begin}
+use Rattle.c_checked.specs.Program.{DataFrame}
+use Rattle.c_operations.specs.declared.operation.Operation.TheVariants.{Place, Allocate}
+use Rattle.seh_ir.specs.Lowered.{bring_code, open_code, close_code, body_start}
+use Rattle.seh_ir.specs.Statements.{landed}
+use Rattle.linear_code.specs.declared.instruction.Instruction.TheVariants.{Compute}
+use Rattle.lowering_invariants.proofs.DepthStatements.{begin_three}
 use Rattle.lowering_invariants.specs.Words.{Expression, Program, Function, surplus, weight, Statements, Local, Temporary, Instruction, Jump, JumpIfZero, Separator, LocalUnwind, Region, LinearBody, BodyName, body_of, holds, statements_notes, Owner, Names, Way, Nowhere, Jumps, LoweringContext, finally_scope, constant, copy, expression_code, return_code, returned_code, statements_code, statements_regions, finally_funclet, first_separators, scope_of, lowered_function, lowered, LoweredIsApart, filter_funclet}
 use Rattle.linear_code.specs.declared.instruction.Instruction.TheVariants.{Return}
 use Rattle.lowering_expressions.specs.declared.scope.Way.TheVariants.{Unwinds}
-use Rattle.lowering_invariants.proofs.Lemmas.{length_first, statements_have, WaysHave, IsPlaced, HoldsOfPieces, statements_every, HoldsOfAnyPieces, neutral_of, all_append, IsSegmentAt, front, back, whole_is_at}
+use Rattle.lowering_invariants.proofs.Lemmas.{length_first, statements_have, WaysHave, IsPlaced, HoldsOfPieces, statements_every, HoldsOfAnyPieces, statements_any, neutral_of, all_append, IsSegmentAt, front, back, whole_is_at}
 use Rattle.lowering_invariants.specs.ReturnRegions.{is_call}
-use Rattle.lowering_invariants.proofs.FirstSeparators.{function_end, body_at}
+use Rattle.lowering_invariants.proofs.FirstSeparators.{function_begin, function_body_code, function_end, begin_length, code_is, body_at}
 use Rattle.lowering_invariants.proofs.EveryBody.{every_body}
 use Rattle.lowering_invariants.proofs.StackTargets.{same_it}
 
@@ -47,6 +56,10 @@ returned_ends xs Nowhere = ends_after xs Separator (Separator ∷ []) refl
 returned_ends xs (Jumps label) = ends_after xs (Jump label) (Separator ∷ []) refl
 returned_ends xs (Unwinds label) = ends_after xs (LocalUnwind label) (Separator ∷ []) refl
 
+landing_ends : (part : Option DataPart) (end x : ℕ) → EndsPlain (landed part end x)
+landing_ends None end x = refl
+landing_ends (Some p) end x = refl
+
 pieces_end : HoldsOfAnyPieces (λ at xs rs. EndsPlain xs)
 pieces_end = record {
   none = λ at. tt;
@@ -54,9 +67,15 @@ pieces_end = record {
   of_separator = λ at. refl;
   of_jump = λ at label l. refl;
   of_unwind = λ at label l. refl;
-  of_landing = λ names m begin end at f le n o b t l. refl;
+  of_landing = λ names m begin end at f le n o b t l. landing_ends names.part end names.free;
   of_finally = λ k begin at o b t. refl;
   of_zeroed = λ x at d. refl;
+  of_put_zero = λ v at d. refl;
+  of_put_initialiser = λ names m v e at n d h c. ends_after (expression_code names e 0 at)
+      (Compute (Temporary 0) (Place v.width v.offset) (Local v.base) (Temporary 0))
+      (Separator ∷ []) refl;
+  of_counted = λ names m k at le n. refl;
+  of_clearing = λ names m v end begin at le n d l b. refl;
   of_discarded = λ names m e at n h c. ends_after (expression_code names e 0 at) Separator [] refl;
   of_condition = λ names m e label at n h l c. ends_after (expression_code names e 0 at)
       (JumpIfZero (Temporary 0) label) [] refl;
@@ -117,6 +136,10 @@ module _ (code : List Instruction) where
     of_landing = λ names m begin end at f le n o b t l. ((b, t), tt);
     of_finally = λ k begin at o b t. ((b, t), tt);
     of_zeroed = λ x at d. tt;
+    of_put_zero = λ v at d. tt;
+    of_put_initialiser = λ names m v e at n d h c. tt;
+    of_counted = λ names m k at le n. tt;
+    of_clearing = λ names m v end begin at le n d l b. tt;
     of_discarded = λ names m e at n h c. tt;
     of_condition = λ names m e label at n h l c. tt;
     of_initialiser = λ names m x e at n d h c. tt;
@@ -185,33 +208,69 @@ statements_stay ss scope b at i is ends begins whole regions w =
       hold = λ label j g c. all_hold b.code label j g c b.regions all;
     }
 
+begin_ends : (part : Option DataPart) (x : ℕ) → EndsPlain (finally_begin part x)
+begin_ends None x = refl
+begin_ends (Some p) x = refl
+
 block_stays : (owner : Owner) (names : Names) (last : Statements)
     → CallsStay (finally_funclet owner names last).body
 block_stays owner names last =
     let b = (finally_funclet owner names last).body in
+    let begins = finally_begin names.part names.free in
+    let code = statements_code (finally_scope names) last 3 in
     let returns = Return (Local names.free) in
-    statements_stay last (finally_scope names) b 0 returns []
-    (ends_after (statements_code (finally_scope names) last 0) returns [] refl)
-    (λ q j n g. absurd (omega arith)) (whole_is_at b.code) refl
+    let three = begin_three names.part names.free in
+    statements_stay last (finally_scope names) b 3 returns []
+    (ends_both begins (code ++ returns ∷ []) (begin_ends names.part names.free)
+    (ends_after code returns [] refl))
+    (cut_after b.code 0 3 begins (omega arith) (begin_ends names.part names.free)
+    (λ q j n g. absurd (omega arith))
+    (front b.code 0 begins (code ++ returns ∷ []) (whole_is_at b.code)))
+    (back b.code 0 3 begins (code ++ returns ∷ []) (omega arith) (whole_is_at b.code)) refl
     (record { exit = tt; loop_end = tt; loop_next = tt; leave = tt })
 
 separators_end : (n : ℕ) → EndsPlain (Separator ∷ replicate n Separator)
 separators_end zero = refl
 separators_end (suc n) = separators_end n
 
+bring_ends : (base : ℕ) (ps : List StackedParameter) → EndsPlain (bring_code base ps)
+bring_ends base [] = tt
+bring_ends base (p ∷ []) = refl
+bring_ends base (p ∷ q ∷ ps) = bring_ends base (q ∷ ps)
+
+open_ends : (d : Option DataFrame) → EndsPlain (open_code d)
+open_ends None = tt
+open_ends (Some d) = of d.parameters
+  where
+    of : (ps : List StackedParameter) → EndsPlain (Compute (Local d.base) (Allocate d.size)
+        (Local d.base) (Local d.base) ∷ bring_code d.base ps)
+    of [] = refl
+    of (p ∷ ps) = bring_ends d.base (p ∷ ps)
+
+close_ends : (d : Option DataFrame)
+    → EndsPlain (constant 0 0 ∷ (close_code d ++ Return (Temporary 0) ∷ []))
+close_ends None = refl
+close_ends (Some d) = refl
+
 function_stays : (f : Function) → CallsStay (lowered_function f).body
 function_stays f =
     let b = (lowered_function f).body in
-    let at = weight f in
-    let first = first_separators f in
-    let code = statements_code (scope_of f) f.body at in
-    let returns = Return (Temporary 0) ∷ [] in
-    let l = length_first f in
-    statements_stay f.body (scope_of f) b at (constant 0 0) returns
-    (ends_after (first ++ code) (constant 0 0) returns refl)
-    (cut_last b.code 0 at Separator (replicate (surplus f) Separator) (omega arith)
-    (separators_end (surplus f)) (front b.code 0 first code
-    (front b.code 0 (first ++ code) function_end (whole_is_at b.code)))) (body_at f) refl
+    let first = function_begin f in
+    let code = function_body_code f in
+    let l = begin_length f in
+    let begins = ends_both (first_separators f) (open_code f.data_frame)
+    (separators_end (surplus f)) (open_ends f.data_frame) in
+    let whole = subst (λ is. IsSegmentAt b.code 0 is) (sym (code_is f)) (whole_is_at b.code) in
+    statements_stay f.body (scope_of f) b (body_start f) (constant 0 0)
+    (close_code f.data_frame ++ Return (Temporary 0) ∷ [])
+    (subst EndsPlain (code_is f) (ends_both (first ++ code) (function_end f)
+    (ends_both first code begins
+    (statements_any (λ at xs rs. EndsPlain xs) pieces_end f.body (scope_of f) (body_start f)))
+    (close_ends f.data_frame)))
+    (cut_after b.code 0 (body_start f) first (omega arith) begins
+    (λ q j n g. absurd (omega arith))
+    (front b.code 0 first code (front b.code 0 (first ++ code) (function_end f) whole)))
+    (body_at f) refl
     (record { exit = tt; loop_end = tt; loop_next = tt; leave = tt })
 
 pub calls_stay : (program : Program) (name : BodyName) (b : LinearBody)

@@ -3,6 +3,14 @@ use Rattle.std.proofs.Common.{◌≡◌, inl, inr, ℕ, ◌+◌, ◌<◌, ◌≤
 use Rattle.std.proofs.lemmas.Bool.{and_parts, leb-true, ltb-true}
 use Rattle.std.specs.List.{AllByRecursion}
 use Rattle.std.specs.Prelude.{Bool, true, false, nat_le, nat_lt, slice_get, Some}
+use Rattle.c_checked.specs.declared.function.DataPart.{DataPart}
+use Rattle.seh_ir.specs.Funclets.{finally_begin}
+use Rattle.c_checked.specs.Program.{DataFrame}
+use Rattle.seh_ir.specs.Lowered.{close_code, body_start}
+use Rattle.seh_ir.specs.Statements.{set_pointer}
+use Rattle.lowering_invariants.proofs.DepthStatements.{begin_three}
+use Rattle.std.specs.Prelude.{Option, None}
+use Rattle.lowering_invariants.specs.Words.{constant}
 use Rattle.lowering_invariants.specs.Words.{Expression, Filter, Always, Funclet, Function, Program, weight, Statements, Local, Temporary, Instruction, CallFinally, LocalUnwind, Region, RegionKind, LinearBody, BodyName, FunctionBody, FuncletBody, body_of, holds, statements_size, Owner, Names, LoweringContext, finally_scope, expression_code, statements_code, except_kind, statements_regions, finally_funclet, filter_funclet, first_separators, scope_of, lowered_function, lowered, IsInside, BeginsApart, HasBlock, LandsInside, HasLanding, is_target, HoldsStrictly, LeadsForth, LoweredHasSeparators}
 use Rattle.linear_code.specs.declared.instruction.Instruction.TheVariants.{Landing, Return}
 use Rattle.linear_code.specs.declared.program.RegionKind.TheVariants as kinds
@@ -10,7 +18,7 @@ use Rattle.linear_machine.proofs.Walks.{holds_yes}
 use Rattle.lowering_invariants.proofs.Lemmas.{length_first, statements_length, HoldsOfAnyPieces, statements_any, all_append, IsSegmentAt, front, back, whole_is_at}
 use Rattle.lowering_invariants.proofs.BlockSeparators.{lowered_is_followed}
 use Rattle.lowering_invariants.proofs.EveryBody.{every_body, every_function}
-use Rattle.lowering_invariants.proofs.FirstSeparators.{first_every, function_end, body_at}
+use Rattle.lowering_invariants.proofs.FirstSeparators.{open_every, function_begin, function_body_code, function_end, begin_every, begin_length, end_length, code_is, body_at}
 use Rattle.lowering_invariants.proofs.NoBlocks.{MayBeCold, expression_may_be_cold}
 use Rattle.lowering_invariants.proofs.ReturnRegions.{calls_stay}
 use Rattle.lowering_invariants.proofs.RegionRanges.{IsWithin, AreWithin, statements_within, NoneBegin, NoneMeet, statements_none_meet}
@@ -67,6 +75,10 @@ module _ (code : List Instruction) where
         (kind_lands f (at + 1) names.free s.1.0, tt);
     of_finally = λ k begin at o b t s. (s.1.0, tt);
     of_zeroed = λ x at d s. tt;
+    of_put_zero = λ v at d s. tt;
+    of_put_initialiser = λ names m v e at n d h c s. tt;
+    of_counted = λ names m k at le n s. tt;
+    of_clearing = λ names m v end begin at le n d l b s. tt;
     of_discarded = λ names m e at n h c s. tt;
     of_condition = λ names m e label at n h l c s. tt;
     of_initialiser = λ names m x e at n d h c s. tt;
@@ -159,50 +171,79 @@ filter_separate owner names e =
           (tt, tt)) g;
     }
 
+begin_may_be_cold : (part : Option DataPart) (x : ℕ)
+    → AllByRecursion MayBeCold (finally_begin part x)
+begin_may_be_cold None x = (refl, (refl, (refl, tt)))
+begin_may_be_cold (Some p) x = (refl, (refl, (refl, tt)))
+
 block_separate : (owner : Owner) (names : Names) (last : Statements)
     → IsSeparate (finally_funclet owner names last).body
 block_separate owner names last =
     let b = (finally_funclet owner names last).body in
     let scope = finally_scope names in
-    let code = statements_code scope last 0 in
+    let begins = finally_begin names.part names.free in
+    let code = statements_code scope last 3 in
     let ends = Return (Local names.free) ∷ [] in
     let n = length-append code ends in
-    let l = statements_length scope last 0 in
-    let to = statements_size last in
-    let s = front b.code 0 code ends (whole_is_at b.code) in
-    separate last scope b 0 refl (omega arith) s
-    (lead_append b.regions b.code 0 to code ends (omega arith)
-    (statements_lead b.regions b.code last scope 0 to (omega arith) s
-    (record { exit = tt; loop_end = tt; loop_next = tt }) (λ low high p q h. h)) (tt, tt))
+    let m = length-append begins (code ++ ends) in
+    let l = statements_length scope last 3 in
+    let three = begin_three names.part names.free in
+    let to = 3 + statements_size last in
+    let s = front b.code 3 code ends
+    (back b.code 0 3 begins (code ++ ends) (omega arith) (whole_is_at b.code)) in
+    separate last scope b 3 refl (omega arith) s
+    (lead_append b.regions b.code 0 3 begins (code ++ ends) (omega arith)
+    (plain_lead b.regions b.code 0 begins (begin_may_be_cold names.part names.free))
+    (lead_append b.regions b.code 3 to code ends (omega arith)
+    (statements_lead b.regions b.code last scope 3 to (omega arith) s
+    (record { exit = tt; loop_end = tt; loop_next = tt }) (λ low high p q h. h)) (tt, tt)))
+
+-- where a `return` leads
+exit_is : (code : List Instruction) (at : ℕ) (d : Option DataFrame)
+    → IsSegmentAt code at (constant 0 0 ∷ (close_code d ++ Return (Temporary 0) ∷ []))
+    → (i : Instruction) × (slice_get code (at + 1) ≡ Some i) × (is_target i ≡ true)
+exit_is code at None s = (Return (Temporary 0), s.1.0, refl)
+exit_is code at (Some d) s = (set_pointer d.base 0, s.1.0, refl)
+
+end_leads_on : (rs : List Region) (code : List Instruction) (at : ℕ) (d : Option DataFrame)
+    → AllLead rs code at (constant 0 0 ∷ (close_code d ++ Return (Temporary 0) ∷ []))
+end_leads_on rs code at None = (tt, (tt, tt))
+end_leads_on rs code at (Some d) = (tt, (tt, (tt, tt)))
 
 function_separate : (f : Function) → IsSeparate (lowered_function f).body
 function_separate f =
     let b = (lowered_function f).body in
     let scope = scope_of f in
-    let at = weight f in
-    let first = first_separators f in
-    let code = statements_code scope f.body at in
+    let at = body_start f in
+    let first = function_begin f in
+    let code = function_body_code f in
     let m = length-append first code in
-    let n = length-append (first ++ code) function_end in
-    let k = length_first f in
+    let n = length-append (first ++ code) (function_end f) in
+    let same = ap length (code_is f) in
+    let k = begin_length f in
+    let e = end_length f in
     let l = statements_length scope f.body at in
     let to = at + statements_size f.body in
     let exit = within_clear at to at (to + 1) b.regions (omega arith)
     (statements_within f.body at) in
     let whole = body_at f in
-    let s = front b.code at code function_end whole in
-    let own = (back b.code at to code function_end (omega arith) whole).1.0 in
+    let s = front b.code at code (function_end f) whole in
+    let own = exit_is b.code to f.data_frame
+    (back b.code at to code (function_end f) (omega arith) whole) in
     separate f.body scope b at refl (omega arith) s
-    (lead_append b.regions b.code 0 to (first ++ code) function_end (omega arith)
+    (subst (λ is. AllLead b.regions b.code 0 is) (code_is f)
+    (lead_append b.regions b.code 0 to (first ++ code) (function_end f) (omega arith)
     (lead_append b.regions b.code 0 at first code (omega arith)
-    (plain_lead b.regions b.code 0 first (first_every MayBeCold refl f))
+    (plain_lead b.regions b.code 0 first (begin_every MayBeCold refl f
+    (open_every MayBeCold f.data_frame (λ base size. refl) (λ base p. refl))))
     (statements_lead b.regions b.code f.body scope at to refl s
     (record {
-      exit = (omega arith, exit, (Return (Temporary 0), own, refl));
+      exit = (omega arith, exit, own);
       loop_end = tt;
       loop_next = tt;
     })
-    (λ low high p q h. h))) (tt, (tt, tt)))
+    (λ low high p q h. h)))
+    (end_leads_on b.regions b.code to f.data_frame)))
 
 -- ---- where bodies begin
 
@@ -212,9 +253,9 @@ StartsApart b = BeginsApart (FunctionBody 0) b
 function_starts : (f : Function) → StartsApart (lowered_function f).body
 function_starts f = (
   refl,
-  all_map (IsWithin (weight f) (weight f + statements_size f.body)) (λ (r : Region). 0 < r.begin)
-      (statements_regions f.body (weight f)) (λ r w. (let b = w.begins in omega arith))
-      (statements_within f.body (weight f)),
+  all_map (IsWithin (body_start f) (body_start f + statements_size f.body))
+      (λ (r : Region). 0 < r.begin) (statements_regions f.body (body_start f))
+      (λ r w. (let b = w.begins in omega arith)) (statements_within f.body (body_start f)),
 )
 
 begins_apart : (program : Program) (name : BodyName) (b : LinearBody)

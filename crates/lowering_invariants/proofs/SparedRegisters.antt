@@ -4,6 +4,14 @@ use Rattle.std.proofs.lemmas.Bool.{eq-eqb, eqb-true, or_from, or_left, or_right,
 use Rattle.std.proofs.lemmas.Option.{slice_get-map}
 use Rattle.std.specs.List.{AllByRecursion, list_any}
 use Rattle.std.specs.Prelude.{◌||◌, nat_eq, slice_get, option_map, Option, Some, None}
+use Rattle.c_checked.specs.declared.function.DataPart.{DataPart}
+use Rattle.c_checked.specs.declared.statement.StackedVariable.{StackedVariable}
+use Rattle.seh_ir.specs.Funclets.{finally_begin}
+use Rattle.c_checked.specs.Program.{DataFrame, part_of}
+use Rattle.lowering_registers.specs.Naming.{stacked_names}
+use Rattle.lowering_registers.specs.Shared.{is_stacked, is_brought, is_kept}
+use Rattle.seh_ir.specs.Statements.{reset_code}
+use Rattle.seh_ir.proofs.StatementParts.{StackedHas, DeclaredHas}
 use Rattle.lowering_invariants.specs.Words.{Expression, Function, Declared, Filter, Always, Funclet, Statement, Declare, Block, Evaluate, If, IfElse, For, DoWhile, Return, Break, Continue, Leave, TryExcept, TryFinally, Statements, Empty, Then, funclets, Local, Temporary, LinearProgram, LinearFunclet, Owner, Names, LoweringContext, statements_notes, except_names, filter_names, finally_names, finally_scope, expression_code, statements_code, filter_funclets, finally_funclet, in_funclet, statement_funclets, statements_funclets, own_locals, all_locals, scope_of, lowered_function, lowered_funclets, all_funclets, lowered}
 use Rattle.linear_code.specs.declared.instruction.Instruction.TheVariants as instructions
 use Rattle.seh_ir.specs.Funclets as funclets_of
@@ -34,13 +42,24 @@ module _ (L : ℕ → Type 0) where
   optional_keeps None h = tt
   optional_keeps (Some e) h = h
 
+  stacked_keeps : (v : Option StackedVariable) → NamedHave L (λ x. stacked_names x v)
+      → StackedHas L v
+  stacked_keeps None h = tt
+  stacked_keeps (Some v) h = h v.base (eq-eqb v.base v.base refl)
+
   declared_keeps : (d : Declared) → NamedHave L (λ x. declared_names x d)
-      → L d.local × OptionalHas Keeps d.value
-  declared_keeps d h = (
-    h d.local (or_left (nat_eq d.local d.local) (optional_names d.local d.value)
-        (eq-eqb d.local d.local refl)),
-    optional_keeps d.value (right (λ x. nat_eq x d.local) (λ x. optional_names x d.value) h),
-  )
+      → DeclaredHas Keeps L d
+  declared_keeps d h =
+      let rest = right (λ x. nat_eq x d.local)
+      (λ x. stacked_names x d.stacked || optional_names x d.value) h in (
+        h d.local (or_left (nat_eq d.local d.local)
+            (stacked_names d.local d.stacked || optional_names d.local d.value)
+            (eq-eqb d.local d.local refl)),
+        optional_keeps d.value (right (λ x. stacked_names x d.stacked)
+            (λ x. optional_names x d.value) rest),
+        stacked_keeps d.stacked (left (λ x. stacked_names x d.stacked)
+            (λ x. optional_names x d.value) rest),
+      )
 
   all_declared_keep : (ds : List Declared) → NamedHave L (λ x. all_declared_name x ds)
       → AllDeclaredHave Keeps L ds
@@ -122,23 +141,39 @@ module _ (L : ℕ → Type 0) where
 
   -- ---- code of statements
 
+  abbrev PartHas : Option DataPart → Type 0
+  PartHas None = Unit {0}
+  PartHas (Some p) = L p.base
+
   -- names of locals that have it, as all that are free do
   record Known (names : Names) (m : ℕ) : Type 0 where
     has : NamesHave L names
     free : (x : ℕ) → names.free ≤ x → L x
+    part : PartHas names.part
 
   except_known : (names : Names) (m k : ℕ) → 1 + k ≤ m → Known names m
       → Known (except_names names) k
   except_known names m k le h = record {
     has = record { source = h.free names.free (omega arith); flag = h.has.flag };
     free = λ x lt. h.free x (omega arith);
+    part = h.part;
   }
 
   finally_known : (names : Names) (m k : ℕ) → Known names m → Known (finally_names names) k
   finally_known names m k h = record {
     has = record { source = h.has.source; flag = h.free names.free (omega arith) };
     free = λ x lt. h.free x (omega arith);
+    part = h.part;
   }
+
+  reset_keeps : (part : Option DataPart) → PartHas part → SlotsHave L (reset_code part)
+  reset_keeps None h = tt
+  reset_keeps (Some p) h = (h, h, h)
+
+  begin_keeps : (part : Option DataPart) (x : ℕ) → PartHas part → L x
+      → AllByRecursion (SlotsHave L) (finally_begin part x)
+  begin_keeps None x h l = (tt, (tt, (tt, tt)))
+  begin_keeps (Some p) x h l = (l, ((h, h, h), (tt, tt)))
 
   instructions_keep : HoldsOfInstructions (SlotsHave L) (λ label. Unit {0}) (λ label. Unit {0})
       Known Keeps L
@@ -154,6 +189,13 @@ module _ (L : ℕ → Type 0) where
     of_exit_jump = λ label l. tt;
     of_exit = λ label l. tt;
     of_landing = λ names m le n. n.free names.free (omega arith);
+    of_put = λ v d. (tt, d, tt);
+    of_counted = λ names m k le n.
+        let l = n.free names.free (omega arith) in (l, l, l);
+    of_rest_test = λ names m label le n l. n.free names.free (omega arith);
+    of_cleared = λ names m v le n d.
+        let l = n.free names.free (omega arith) in (l, d, l);
+    of_reset = λ names m le n. reset_keeps names.part n.part;
     of_finally = λ k. tt;
   }
 
@@ -191,11 +233,15 @@ module _ (L : ℕ → Type 0) where
     block_spares owner names m last o n h = record {
       owner = o;
       flag = n.free names.free (omega arith);
-      code = all_append (SlotsHave L) (statements_code (finally_scope names) last 0)
+      code = all_append (SlotsHave L) (finally_begin names.part names.free)
+          (statements_code (finally_scope names) last 3
+          ++ instructions.Return (Local names.free) ∷ [])
+          (begin_keeps names.part names.free n.part (n.free names.free (omega arith)))
+          (all_append (SlotsHave L) (statements_code (finally_scope names) last 3)
           (instructions.Return (Local names.free) ∷ [])
-          (block_keeps last (finally_scope names) 0
+          (block_keeps last (finally_scope names) 3
           (finally_known names m (statements_notes last) n) h)
-          (n.free names.free (omega arith), tt);
+          (n.free names.free (omega arith), tt));
     }
 
     -- those inside a block, of which all is known
@@ -228,8 +274,9 @@ module _ (L : ℕ → Type 0) where
           (left (λ x. statement_shares x s) (λ x. statement_shares x t) h))
           (statement_spares t owner names o n
           (right (λ x. statement_shares x s) (λ x. statement_shares x t) h))
-      statement_spares (For ds first c next s) owner names o n h = statement_spares s owner names o
-          n h
+      statement_spares (For ds first c next s) owner names o n h =
+          statement_spares s owner names o n
+          (right (λ x. is_stacked x ds) (λ x. statement_shares x s) h)
       statement_spares (DoWhile s c) owner names o n h = statement_spares s owner names o n h
       statement_spares (Return e) owner names o n h = tt
       statement_spares Break owner names o n h = tt
@@ -247,7 +294,7 @@ module _ (L : ℕ → Type 0) where
           (filters_spare filter owner names o n (filter_keeps filter
           (left (λ x. naming.filter_names x filter) (λ x. statements_share x block) others)))
           (statements_spare block owner (except_names names) o
-          (except_known names 1 0 (omega arith) (record { has = n.has; free = n.free }))
+          (except_known names 1 0 (omega arith) (record { has = n.has; free = n.free; part = n.part }))
           (right (λ x. naming.filter_names x filter) (λ x. statements_share x block) others)))
       statement_spares (TryFinally body k last) owner names o n h =
           let inner = in_funclet (k - 1) owner in
@@ -289,12 +336,40 @@ weaker : (P Q : ℕ → Type 0) (xs : List ℕ) → ((x : ℕ) → P x → Q x) 
 weaker P Q [] f h = tt
 weaker P Q (x ∷ xs) f h = (f x h.0, weaker P Q xs f h.1)
 
+no_left : (a b : Bool) → (a || b) ≡ false → a ≡ false
+no_left true b h = absurd (cc)
+no_left false b h = refl
+
+no_right : (a b : Bool) → (a || b) ≡ false → b ≡ false
+no_right true b h = absurd (cc)
+no_right false b h = h
+
 shared_in_frame : (f : Function) → NamedHave (IsInFrame (register_locals f))
     (λ x. statements_share x f.body)
 shared_in_frame f x s = none_of x (register_locals f)
     (weaker (IsUnshared f) (λ r. x ≡ r → ⊥) (register_locals f) (λ r u same.
-    (let h : true ≡ false = sym s ∙ ap (λ z. statements_share z f.body) same ∙ u.unshared in
+    (let h : true ≡ false = sym s ∙ ap (λ z. statements_share z f.body) same
+    ∙ no_right (is_kept r f.data_frame) (statements_share r f.body) u.unshared in
     absurd (cc))) (are_unshared f))
+
+-- nor is the base of its part of the data stack one
+kept_in_frame : (f : Function) (x : ℕ) → is_kept x f.data_frame ≡ true
+    → IsInFrame (register_locals f) x
+kept_in_frame f x s = none_of x (register_locals f)
+    (weaker (IsUnshared f) (λ r. x ≡ r → ⊥) (register_locals f) (λ r u same.
+    (let h : true ≡ false = sym s ∙ ap (λ z. is_kept z f.data_frame) same
+    ∙ no_left (is_kept r f.data_frame) (statements_share r f.body) u.unshared in
+    absurd (cc))) (are_unshared f))
+
+base_in_frame : (f : Function) → PartHas (IsInFrame (register_locals f)) (part_of f.data_frame)
+base_in_frame f = of f.data_frame (kept_in_frame f)
+  where
+    of : (d : Option DataFrame)
+        → ((x : ℕ) → is_kept x d ≡ true → IsInFrame (register_locals f) x)
+        → PartHas (IsInFrame (register_locals f)) (part_of d)
+    of None h = tt
+    of (Some d) h = h d.base (or_left (nat_eq d.base d.base) (is_brought d.base d.parameters)
+        (eq-eqb d.base d.base refl))
 
 free_in_frame : (f : Function) (x : ℕ) → own_locals f ≤ x → IsInFrame (register_locals f) x
 free_in_frame f x le = none_of x (register_locals f)
@@ -331,6 +406,7 @@ module _ (linear : LinearProgram) where
       (record {
         has = record { source = tt; flag = tt };
         free = free_in_frame f;
+        part = base_in_frame f;
       }) (shared_in_frame f))
 
   of_functions : (number : ℕ) (fs : List Function)

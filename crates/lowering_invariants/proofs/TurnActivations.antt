@@ -5,7 +5,7 @@ use Rattle.std.specs.Prelude.{Bool, true, false, nat_eq, nat_lt, slice_get, take
 use Rattle.lowering_invariants.specs.Words.{Event, W32, low, signed, BuiltIn, Put, Protect, RaiseException, Walk, OperationResult, Gives, Raises, Undefined, performed, Exception, is_reserved, of_test, field_of, raised, noncontinuable, raise_event, Slot, Local, Temporary, Instruction, Region, RegionKind, FuncletKind, LinearProgram, LinearFunction, BodyName, FunctionBody, FuncletBody, Handler, Target, Resumption, AfterCall, SameOperation, Item, Waits, Searches, Unwinds, Store, Configuration, Seen, Finished, Stuck, Next, pick, read, write, with_temporary, with_temporaries, last_temporaries, set_local, at_label, forth, with_last, regions_at, regions_left, handlers, stops, flag_of, run_finally, arrive, target_past, left_store, leave_region, unwind_body, unwind, target_of, accept, consult, search, raise, resumed, answer, is_constant, operand, written, computed, tested, waiting, count_of, built_in, return, end_finally, end_funclet, end_body, not_landed, act, begin_function, instruction_at, start, main_arguments, IsTurn, IsReached, IsFinallyKind, IsFuncletOf, IsKindOf, IsWhole, MayWait, IsHandler, AreHandlers, IsStacked, owners_of, AreWorking, IsActivationOf, AreActivations, HasActivations}
 use Rattle.seh_num.specs.declared.event.Event.TheVariants as events
 use Rattle.source_meaning.specs.declared.ended.Ended.TheVariants as ends
-use Rattle.linear_code.specs.Program.{weight}
+use Rattle.linear_code.specs.Program.{depth_weight}
 use Rattle.linear_code.specs.declared.instruction.Instruction.TheVariants as instructions
 use Rattle.linear_code.specs.declared.program.RegionKind.TheVariants as kinds
 use Rattle.linear_code.specs.declared.program.FuncletKind.TheVariants as funclets
@@ -304,7 +304,7 @@ module _ (program : LinearProgram) (whole : IsWhole program) where
         some_turn (Ok program) c.events (last_temporaries c.frame.temporaries first count) _
         (λ vs e.
         some_turn (Ok program) c.events (slice_get program.functions f) _ (λ function g.
-        deeper_turn (Ok program) (weight function) c.frame.held c.store c.events _
+        deeper_turn (Ok program) (depth_weight function) c.frame.held c.store c.events _
         (call_turn c f first count vs function at e g o)))
     act_turn (instructions.CallBuiltIn k first) at =
         some_turn (Ok program) c.events (last_temporaries c.frame.temporaries first (count_of k)) _

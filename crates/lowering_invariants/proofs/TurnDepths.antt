@@ -7,7 +7,7 @@ use Rattle.std.specs.Prelude.{Bool, true, false, nat_eq, nat_le, nat_lt, slice_g
 use Rattle.lowering_invariants.specs.Words.{Event, W32, low, signed, BuiltIn, Put, Protect, RaiseException, Walk, Operation, OperationResult, Gives, Raises, Undefined, performed, Exception, is_reserved, field_of, raised, noncontinuable, raise_event, Slot, Local, Temporary, Instruction, Region, RegionKind, FuncletKind, LinearProgram, LinearBody, BodyName, FunctionBody, FuncletBody, body_of, Frame, Handler, Target, Resumption, AfterCall, SameOperation, Item, Waits, Searches, Unwinds, Store, Configuration, Seen, Finished, Stuck, Next, pick, read, write, with_temporary, with_temporaries, last_temporaries, set_local, at_label, forth, with_last, regions_at, regions_left, handlers, stops, flag_of, run_finally, arrive, target_past, left_store, leave_region, unwind_body, unwind, target_of, accept, consult, search, raise, resumed, answer, is_constant, operand, written, computed, tested, count_of, built_in, return, end_finally, end_funclet, end_body, not_landed, act, instruction_in, instruction_at, start, IsTurn, IsReached, IsWhole, MayWait, IsHandler, LandsAt, IsTarget, IsAbove, IsRaisedIn, AreHandlers, AreWaiting, IsStacked, IsAt, IsCalledBy, IsRunFor, with_written, after, depth_at, depth_in, taken, depth, WaitsDeep, AreDeep, HasDepths}
 use Rattle.seh_num.specs.declared.event.Event.TheVariants as events
 use Rattle.source_meaning.specs.declared.ended.Ended.TheVariants as ends
-use Rattle.linear_code.specs.Program.{weight}
+use Rattle.linear_code.specs.Program.{depth_weight}
 use Rattle.linear_code.specs.declared.instruction.Instruction.TheVariants as instructions
 use Rattle.linear_code.specs.declared.program.RegionKind.TheVariants as kinds
 use Rattle.linear_code.specs.declared.program.FuncletKind.TheVariants as funclets
@@ -437,7 +437,7 @@ module _ (program : LinearProgram) (whole : IsWhole program)
     act_turn (instructions.Call f first count) at =
         some_turn Ok c.events (last_temporaries c.frame.temporaries first count) _ (λ vs e.
         some_turn Ok c.events (slice_get program.functions f) _ (λ function g.
-        deeper_turn Ok (weight function) c.frame.held c.store c.events _ (Moves _ (record {
+        deeper_turn Ok (depth_weight function) c.frame.held c.store c.events _ (Moves _ (record {
           held = sym (starts_in (body_of program (FunctionBody f)));
           below = deep (instructions.Call f first count) at (take first c.frame.temporaries)
               (before first count vs e);

@@ -1,36 +1,80 @@
 -- Each turn keeps every number one of 64 bits.
-use Rattle.std.proofs.Common.{◌≡◌, ℕ, ◌+◌, ◌-◌, ◌^◌, ◌<◌, List, [], ◌∷◌, ◌++◌, length, refl, subst, arith}
+use Rattle.std.proofs.Common.{◌≡◌, ℕ, ◌+◌, ◌-◌, ◌^◌, ◌<◌, List, [], ◌∷◌, ◌++◌, length, refl, sym, ap, subst, arith}
+use Rattle.std.proofs.lemmas.Bool.{lt-ltb}
+use Rattle.host_layout.specs.declared.range.TheConstants.{DATA_STACK_START, FIRST_DATA_STACK, FIRST_DATA}
+use Rattle.flat_memory.specs.Memory.{Memory, first_byte, protected, rights_asked, with_rights}
+use Rattle.flat_memory.specs.declared.protection.Rights.{Rights}
+use Rattle.source_meaning.specs.Source.{first_memory}
+use Rattle.lowering_invariants.specs.SmallNumbers.{HasSmallPointer}
 use Rattle.std.specs.Prelude.{Bool, true, false, nat_eq, nat_lt, slice_get, take, drop, if◌then◌else◌, get_or, ℤ, Option, Some, None}
 use Rattle.lowering_invariants.specs.Words.{Event, W32, W64, low, signed, wrapped, BuiltIn, Put, Protect, RaiseException, Walk, OperationResult, Gives, Raises, Undefined, performed, Exception, is_reserved, of_test, field_of, raised, noncontinuable, raise_event, Slot, Local, Temporary, Instruction, Region, RegionKind, FuncletKind, LinearProgram, LinearFunction, BodyName, FunctionBody, FuncletBody, Frame, Handler, Target, Resumption, AfterCall, SameOperation, Item, Waits, Searches, Unwinds, Store, Configuration, Seen, Finished, Stuck, Next, pick, read, write, with_temporary, with_temporaries, last_temporaries, set_local, at_label, forth, with_last, regions_at, regions_left, handlers, stops, flag_of, run_finally, arrive, target_past, left_store, leave_region, unwind_body, unwind, target_of, accept, consult, search, raise, resumed, answer, is_constant, operand, written, computed, tested, waiting, count_of, built_in, return, end_finally, end_funclet, end_body, not_landed, act, start, main_arguments, IsTurn, IsReached, AreSmall, IsSmallCode, IsSmallException, IsSmallFrame, AreSmallItems, HasSmallNumbers}
 use Rattle.seh_num.specs.declared.event.Event.TheVariants as events
 use Rattle.source_meaning.specs.declared.ended.Ended.TheVariants as ends
-use Rattle.linear_code.specs.Program.{weight}
+use Rattle.linear_code.specs.Program.{depth_weight}
 use Rattle.linear_code.specs.declared.instruction.Instruction.TheVariants as instructions
 use Rattle.linear_code.specs.declared.program.RegionKind.TheVariants as kinds
 use Rattle.linear_code.specs.declared.program.FuncletKind.TheVariants as funclets
 use Rattle.lowering_invariants.proofs.Moves.{Turn, Halts, Moves, pick_turn, some_turn, deeper_turn, kept, kept_by_all}
 use Rattle.lowering_invariants.proofs.StackTargets.{same_it}
 use Rattle.lowering_invariants.proofs.Lemmas.{low_below, wrapped_below}
-use Rattle.lowering_invariants.proofs.Results.{IsSmallOutcome, outcome_small}
+use Rattle.lowering_invariants.proofs.Results.{IsSmallOutcome, KeepsPointer, written_keeps, outcome_small, outcome_keeps}
 use Rattle.lowering_invariants.proofs.SmallLists.{all_joined, all_taken, all_dropped, zeros, one_of, got_of, AllSmall, locals_in, locals_small, joined_small, left_small, local_small, test_small, field_small}
 
 -- ---- lists
 
 -- ---- what runs or waits, over a store
 
+record IsSmallStore (s : Store) : Type 0 where
+  locals : AllSmall s.activations
+  pointer : HasSmallPointer s.memory
+
 abbrev Over : List Item → Store → Type 0
-Over items store = AreSmallItems items × AllSmall store.activations
+Over items store = AreSmallItems items × IsSmallStore store
 
 abbrev at_rest : Configuration → Type 0
 at_rest c = Over (Waits c.frame ∷ c.below) c.store
 
 goes : (d : Configuration) → at_rest d → Turn HasSmallNumbers (λ next. next d)
-goes d o = Moves d (record { items = o.0; locals = o.1 }) (λ next. refl)
+goes d o = Moves d (record { items = o.0; locals = o.1.locals; pointer = o.1.pointer })
+    (λ next. refl)
 
 -- this body with other temporaries, and no exception taken over
 frame_with : (f : Frame) (ts : List ℕ) → AreSmall ts → IsSmallFrame f
     → IsSmallFrame (record f { temporaries = ts })
 frame_with f ts h s = record { temporaries = h; exception = s.exception; landed = s.landed }
+
+with_local : (s : Store) (k x v : ℕ) → IsSmallStore s → v < 2 ^ 64
+    → IsSmallStore (set_local s k x v)
+with_local s k x v h lt =
+    record { locals = local_small s k x v h.locals lt; pointer = h.pointer }
+
+left_behind : (name : BodyName) (k : ℕ) (s : Store) → IsSmallStore s
+    → IsSmallStore (left_store name k s)
+left_behind (FunctionBody f) k s h =
+    record { locals = left_small (FunctionBody f) k s h.locals; pointer = h.pointer }
+left_behind (FuncletBody j) k s h = h
+
+-- the rights of pages are no bytes
+protected_keeps : (m : Memory) (at : ℕ) (n : ℤ) → HasSmallPointer m
+    → HasSmallPointer (protected m at n)
+protected_keeps m at n h = of (rights_asked at n)
+  where
+    of : (o : Option Rights) → HasSmallPointer (with_rights m at o)
+    of None = h
+    of (Some r) = h
+
+-- the data stack's pointer, as a run begins
+first_small : (globals : List ℕ) → HasSmallPointer (first_memory globals)
+first_small globals a l r =
+    subst (λ b. b < 256) (sym (low_byte a (lt-ltb a FIRST_DATA (omega arith)) globals))
+    (started a)
+  where
+    low_byte : (a : ℕ) → nat_lt a FIRST_DATA ≡ true → (globals : List ℕ)
+        → (first_memory globals).byte a ≡ first_byte a
+    low_byte a e globals = ap (λ b. if b then first_byte a else get_or globals (a - FIRST_DATA) 0) e
+
+    started : (a : ℕ) → first_byte a < 256
+    started a = written_keeps (λ x. 0) 8 DATA_STACK_START FIRST_DATA_STACK a (omega arith)
 
 module _ (program : LinearProgram) where
   -- ---- unwinding
@@ -64,14 +108,14 @@ module _ (program : LinearProgram) where
   none_small = record { code = omega arith; access = tt }
 
   block_turn : (k held : ℕ) (abnormal : Bool) (items : List Item) (c : Configuration)
-      → AreSmallItems items → AllSmall c.store.activations
+      → AreSmallItems items → IsSmallStore c.store
       → Turn HasSmallNumbers (λ next. run_finally program k abnormal held items next c)
   block_turn k held abnormal items c w s =
       some_turn HasSmallNumbers c.events (flag_of (slice_get program.funclets k)) _ (λ flag g.
       deeper_turn HasSmallNumbers 2 held c.store c.events _
       (goes _ (
         (record { temporaries = tt; exception = none_small; landed = tt }, w),
-        local_small c.store c.frame.activation flag (of_test abnormal) s (test_small abnormal),
+        with_local c.store c.frame.activation flag (of_test abnormal) s (test_small abnormal),
       )))
 
   leave_turn : (r : RegionKind) (t : Target) (rest : List Region) (on : Next → Seen)
@@ -84,7 +128,7 @@ module _ (program : LinearProgram) where
 
   body_turn : (t : Target) (out : Next → Store → Seen) (rs : List Region) (c : Configuration)
       → IsSmallCode t.code → at_rest c
-      → (AllSmall (left_store c.frame.body c.frame.activation c.store).activations
+      → (IsSmallStore (left_store c.frame.body c.frame.activation c.store)
       → Turn HasSmallNumbers (λ next. out next
       (left_store c.frame.body c.frame.activation c.store)))
       → Turn HasSmallNumbers (λ next. unwind_body program next t (out next) rs c)
@@ -92,7 +136,7 @@ module _ (program : LinearProgram) where
       pick_turn HasSmallNumbers (nat_eq t.depth (length c.below)) (λ next. arrive t t.code next c)
       (λ next. out next (left_store c.frame.body c.frame.activation c.store))
       (λ e. arrive_turn t.code t c s o) (λ e. h
-      (left_small c.frame.body c.frame.activation c.store o.1))
+      (left_behind c.frame.body c.frame.activation c.store o.1))
   body_turn t out (x ∷ rs) c s o h =
       pick_turn HasSmallNumbers (stops t x (length c.below)) (λ next. arrive t t.code next c)
       (λ next. leave_region program next t x.kind rs (unwind_body program next t (out next) rs c)
@@ -252,7 +296,7 @@ module _ (program : LinearProgram) where
       → Turn HasSmallNumbers (λ next. end_body program next name v c)
   end_turn (FunctionBody f) v c lt o = return_turn v c.below c.events
       (left_store c.frame.body c.frame.activation c.store) lt
-      (o.0.1, left_small c.frame.body c.frame.activation c.store o.1)
+      (o.0.1, left_behind c.frame.body c.frame.activation c.store o.1)
   end_turn (FuncletBody k) v c lt o = some_turn HasSmallNumbers c.events
       (slice_get program.funclets k) (λ next f. end_funclet program next f.kind v c)
       (λ f g. funclet_turn f.kind v c (o.0.1, o.1))
@@ -275,7 +319,7 @@ module _ (program : LinearProgram) where
       → v < 2 ^ 64 → at_rest c → at_rest d
   write_small c (Local x) v d e lt o =
       subst at_rest (same_it (record c { store = set_local c.store c.frame.activation x v }) d e)
-      (o.0, local_small c.store c.frame.activation x v o.1 lt)
+      (o.0, with_local c.store c.frame.activation x v o.1 lt)
   write_small c (Temporary i) v d e lt o =
       stored_by c (with_temporary c.frame.temporaries i v) d e
       (λ us g. new_small _ (take i c.frame.temporaries ++ v ∷ []) us g
@@ -289,20 +333,21 @@ module _ (program : LinearProgram) where
       (moved_to (d.frame.next + 1) d (write_small c to v d e lt o)))
 
   computed_turn : (c : Configuration) (to : Slot) (r : OperationResult) → IsSmallOutcome r
-      → at_rest c → Turn HasSmallNumbers (λ next. computed program next to c r)
-  computed_turn c to (Gives v memory) s o = written_turn
-      (record c { store = record c.store { memory = memory } }) to v s o
-  computed_turn c to (Raises code access) s o = raise_turn
+      → KeepsPointer r → at_rest c → Turn HasSmallNumbers (λ next. computed program next to c r)
+  computed_turn c to (Gives v memory) s k o = written_turn
+      (record c { store = record c.store { memory = memory } }) to v s
+      (o.0, record { locals = o.1.locals; pointer = k })
+  computed_turn c to (Raises code access) s k o = raise_turn
       (record { code = code.0; flag = false; access = access }) SameOperation c
       (record { code = s.0; access = s.1 }) o
-  computed_turn c to (Undefined a) s o = Halts (Finished (ends.Undefined a) c.events) (λ next. refl)
+  computed_turn c to (Undefined a) s k o = Halts (Finished (ends.Undefined a) c.events) (λ next. refl)
 
   read_small : (c : Configuration) (slot : Slot) (v : ℕ) → read c slot ≡ Some v → at_rest c
       → v < 2 ^ 64
   read_small c (Local x) v e o =
       subst (λ y. y < 2 ^ 64) (same_it _ v e)
       (one_of (locals_in (slice_get c.store.activations c.frame.activation)) x
-      (locals_small c.store.activations c.frame.activation o.1))
+      (locals_small c.store.activations c.frame.activation o.1.locals))
   read_small c (Temporary i) v e o = got_of c.frame.temporaries i v o.0.0.temporaries e
 
   operand_small : (b : Bool) (c : Configuration) (slot : Slot) (v : ℕ) → operand b c slot ≡ Some v
@@ -318,7 +363,14 @@ module _ (program : LinearProgram) where
       → Turn HasSmallNumbers (λ next. built_in program next k vs c)
   built_in_turn c Put vs o = answers_turn (record c { events = _ }) 0 (omega arith) o
   built_in_turn c Protect vs o = answers_turn (record c { store = record c.store { memory = _ } })
-      (of_test _) (test_small _) o
+      (of_test _) (test_small _) (
+        o.0,
+        record {
+          locals = o.1.locals;
+          pointer = protected_keeps c.store.memory (get_or vs 0 0) (signed W32 (get_or vs 1 0))
+              o.1.pointer;
+        },
+      )
   built_in_turn c RaiseException vs o = raise_turn (raised (get_or vs 0 0) (get_or vs 1 0))
       AfterCall c (record { code = low_below W32 (get_or vs 0 0); access = tt }) o
   built_in_turn c Walk vs o = answers_turn (record c { events = _ }) 0 (omega arith) o
@@ -345,7 +397,8 @@ module _ (program : LinearProgram) where
         computed_turn c to (performed (is_reserved program.globals) p a b c.store.memory)
         (outcome_small (is_reserved program.globals) p a b c.store.memory
         (operand_small (is_constant p) c first a e o)
-        (operand_small (is_constant p) c second b g o)) o))
+        (operand_small (is_constant p) c second b g o) o.1.pointer)
+        (outcome_keeps (is_reserved program.globals) p a b c.store.memory o.1.pointer) o))
     act_turn (instructions.Information to field) = written_turn c to
         (field_of field c.frame.exception) (field_small field c.frame.exception o.0.0.exception) o
     act_turn (instructions.Jump label) = goes _ (moved_to label c o)
@@ -355,16 +408,19 @@ module _ (program : LinearProgram) where
         some_turn HasSmallNumbers c.events (last_temporaries c.frame.temporaries first count) _
         (λ vs e.
         some_turn HasSmallNumbers c.events (slice_get program.functions f) _ (λ function g.
-        deeper_turn HasSmallNumbers (weight function) c.frame.held c.store c.events _ (goes _ (
+        deeper_turn HasSmallNumbers (depth_weight function) c.frame.held c.store c.events _ (goes _ (
           (
             record { temporaries = tt; exception = none_small; landed = tt },
             (with_fewer (take first c.frame.temporaries) c
                 (all_taken first c.frame.temporaries o.0.0.temporaries) o).0,
           ),
-          joined_small c.store.activations _ o.1
-              (all_joined vs _ (new_small _ (drop first c.frame.temporaries) vs e
-              (all_dropped first c.frame.temporaries o.0.0.temporaries))
-              (zeros (function.body.locals - function.parameters))),
+          record {
+            locals = joined_small c.store.activations _ o.1.locals
+                (all_joined vs _ (new_small _ (drop first c.frame.temporaries) vs e
+                (all_dropped first c.frame.temporaries o.0.0.temporaries))
+                (zeros (function.body.locals - function.parameters)));
+            pointer = o.1.pointer;
+          },
         ))))
     act_turn (instructions.CallBuiltIn k first) =
         some_turn HasSmallNumbers c.events (last_temporaries c.frame.temporaries first (count_of k))
@@ -398,7 +454,8 @@ module _ (program : LinearProgram) where
   pub stays_small : (c d : Configuration) → IsTurn program c d → HasSmallNumbers c
       → HasSmallNumbers d
   stays_small c d r p = kept HasSmallNumbers (λ next. act program r.instruction next c) d
-      (act_turn c (p.items, p.locals) r.instruction) r.goes
+      (act_turn c (p.items, record { locals = p.locals; pointer = p.pointer }) r.instruction)
+      r.goes
 
   arguments_small : (b : Bool) (arg : ℤ) → AreSmall (if b then [] else wrapped W64 arg ∷ [])
   arguments_small true arg = tt
@@ -413,6 +470,7 @@ module _ (program : LinearProgram) where
           (zeros (main.body.locals - main.parameters)),
       tt,
     );
+    pointer = first_small program.globals;
   }
 
   pub reached_small : (c : Configuration) → IsReached program c → HasSmallNumbers c

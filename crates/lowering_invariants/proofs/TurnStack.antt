@@ -6,7 +6,7 @@ use Rattle.lowering_invariants.specs.Words.{Event, W32, signed, BuiltIn, Put, Pr
 use Rattle.seh_num.specs.declared.event.Event.TheVariants as events
 use Rattle.seh_num.specs.Widths.{low as low_bits}
 use Rattle.source_meaning.specs.declared.ended.Ended.TheVariants as ends
-use Rattle.linear_code.specs.Program.{weight}
+use Rattle.linear_code.specs.Program.{depth_weight}
 use Rattle.linear_code.specs.declared.instruction.Instruction.TheVariants as instructions
 use Rattle.linear_code.specs.declared.program.RegionKind.TheVariants as kinds
 use Rattle.linear_code.specs.declared.program.FuncletKind.TheVariants as funclets
@@ -377,7 +377,7 @@ module _ (program : LinearProgram) (bodies : AreBodies program) where
     act_turn (instructions.Call f first count) at =
         some_turn Ok c.events (last_temporaries c.frame.temporaries first count) _ (λ vs e.
         some_turn Ok c.events (slice_get program.functions f) _ (λ function g.
-        deeper_turn Ok (weight function) c.frame.held c.store c.events _ (Moves _ (record {
+        deeper_turn Ok (depth_weight function) c.frame.held c.store c.events _ (Moves _ (record {
           above = (first, count, at);
           below = waits (instructions.Call f first count) at refl (take first c.frame.temporaries)
               (taken first count c.frame.temporaries vs e);

@@ -3,6 +3,10 @@
 use Rattle.std.proofs.Common.{◌≡◌, ◌⊎◌, inl, inr, ℕ, zero, suc, ◌+◌, ◌-◌, ◌<◌, ◌≤◌, List, [], ◌∷◌, ◌++◌, length, refl, subst, arith}
 use Rattle.std.specs.List.{AllByRecursion}
 use Rattle.std.specs.Prelude.{true, slice_get, Option, Some, None}
+use Rattle.c_checked.specs.declared.statement.StackedVariable.{StackedVariable}
+use Rattle.seh_ir.specs.Statements.{put_initialiser_code, stacked_declared_code, declared_at_code}
+use Rattle.c_checked.specs.declared.function.DataPart.{DataPart}
+use Rattle.seh_ir.specs.Statements.{reset_code}
 use Rattle.lowering_invariants.specs.Words.{Expression, Declared, Statement, Declare, Block, Evaluate, If, IfElse, For, DoWhile, Return, Break, Continue, Leave, TryExcept, TryFinally, Statements, Empty, Then, Temporary, Instruction, Jump, JumpIfZero, Separator, LocalUnwind, Region, expression_size, discarded_size, condition_size, all_declared_size, statement_size, statements_size, Names, Way, Nowhere, Jumps, LoweringContext, expression_code, jump_code, return_code, leave_code, returned_code, discarded_code, condition_code, declared_code, all_declared_code, initialiser_code, repeated, statement_code, statements_code, except_kind, region, statement_regions, statements_regions, in_loop, in_try, in_except, in_guarded, is_target}
 use Rattle.linear_code.specs.declared.program.RegionKind.TheVariants as kinds
 use Rattle.lowering_expressions.specs.declared.scope.Way.TheVariants.{Unwinds}
@@ -42,12 +46,27 @@ module _ (names : Names) where
   initialiser_may_be_cold x None at = tt
   initialiser_may_be_cold x (Some e) at = used e at _ (refl, (refl, tt))
 
+  put_may_be_cold : (v : StackedVariable) (e : Option Expression) (at : ℕ)
+      → AllMayBeCold (put_initialiser_code names v e at)
+  put_may_be_cold v None at = tt
+  put_may_be_cold v (Some e) at = used e at _ (refl, (refl, tt))
+
+  stacked_may_be_cold : (v : StackedVariable) (n : Option ℕ) (e : Option Expression) (at : ℕ)
+      → AllMayBeCold (stacked_declared_code names v n e at)
+  stacked_may_be_cold v (Some n) e at = (refl, (refl, (refl, (refl, (refl, tt)))))
+  stacked_may_be_cold v None e at = (refl, (refl, (refl, put_may_be_cold v e (at + 3))))
+
+  pub declared_at_may_be_cold : (v : Option StackedVariable) (x : ℕ) (e : Option Expression)
+      (at : ℕ) → AllMayBeCold (declared_at_code names v x e at)
+  declared_at_may_be_cold None x e at = (refl, initialiser_may_be_cold x e (at + 1))
+  declared_at_may_be_cold (Some v) x e at = stacked_may_be_cold v v.elements e at
+
   pub declared_may_be_cold : (ds : List Declared) (at : ℕ)
       → AllMayBeCold (all_declared_code names ds at)
   declared_may_be_cold [] at = tt
   declared_may_be_cold (d ∷ ds) at =
       all_append MayBeCold (declared_code names d at) _
-      (refl, initialiser_may_be_cold d.local d.value (at + 1)) (declared_may_be_cold ds _)
+      (declared_at_may_be_cold d.stacked d.local d.value at) (declared_may_be_cold ds _)
 
 -- ---- ranges
 
@@ -236,6 +255,10 @@ module _ (regions : List Region) (code : List Instruction) where
         );
       }
 
+  reset_lead : (at : ℕ) (part : Option DataPart) → Leads at (reset_code part)
+  reset_lead at None = tt
+  reset_lead at (Some p) = tt
+
   mutual
     -- the local unwinds of a statement, where its ways out lead on
     pub statement_leads : (s : Statement) (scope : LoweringContext) (at to : ℕ)
@@ -244,7 +267,7 @@ module _ (regions : List Region) (code : List Instruction) where
         → AllLead at (statement_code scope s at)
     statement_leads (Declare d) scope at to e g w own =
         plain_lead at (declared_code scope.names d at)
-        (refl, initialiser_may_be_cold scope.names d.local d.value (at + 1))
+        (declared_at_may_be_cold scope.names d.stacked d.local d.value at)
     statement_leads (Block ss) scope at to e g w own = statements_lead ss scope at to e g w own
     statement_leads (Evaluate x) scope at to e g w own =
         plain_lead at (discarded_code scope.names x at) (discarded_may_be_cold scope.names x at)
@@ -357,14 +380,14 @@ module _ (regions : List Region) (code : List Instruction) where
     statement_leads (TryExcept body filter block) scope at to e g w own =
         let ends = at + statements_size body in
         let target = ends + 1 in
-        let end = target + 1 + statements_size block in
+        let end = target + 2 + statements_size block in
         let inner = in_try end scope in
         let mine = region at target (except_kind filter target) in
         let rs = statements_regions body at in
-        let qs = statements_regions block (target + 1) in
+        let qs = statements_regions block (target + 2) in
         let l = statements_length inner body at in
         let v = ways_from at to at ends scope (omega arith) (omega arith) w in
-        let u = ways_from at to (target + 1) to scope (omega arith) (omega arith) w in
+        let u = ways_from at to (target + 2) to scope (omega arith) (omega arith) w in
         let guarded = statements_code inner body at in
         let g1 = back code at ends guarded _ (omega arith) g in
         lead_append at ends guarded _ (omega arith)
@@ -372,19 +395,26 @@ module _ (regions : List Region) (code : List Instruction) where
         (record { exit = v.exit; loop_end = v.loop_end; loop_next = v.loop_next })
         (front_own at to at ends rs (mine ∷ qs) (omega arith) (omega arith) (
           inl (omega arith),
-          later_outside (target + 1) (target + 1 + statements_size block) at ends qs (omega arith)
-              (statements_within block (target + 1)),
+          later_outside (target + 2) (target + 2 + statements_size block) at ends qs (omega arith)
+              (statements_within block (target + 2)),
         ) own)) (
           tt,
           (
             tt,
-            statements_lead block (in_except scope) (target + 1) to (omega arith) g1.1.1
-                (record { exit = u.exit; loop_end = u.loop_end; loop_next = u.loop_next })
-                (back_own (target + 1) to (target + 1) to (mine ∷ []) qs (omega arith) (omega arith)
-                (inl (omega arith), tt)
-                (back_own at to (target + 1) to rs (mine ∷ qs) (omega arith) (omega arith)
-                (earlier_outside at ends (target + 1) to rs (omega arith)
-                (statements_within body at)) own)),
+            (
+              reset_lead (target + 1) scope.names.part,
+              subst (λ p. AllLead p (statements_code (in_except scope) block (target + 2)))
+                  (omega arith)
+                  (statements_lead block (in_except scope) (target + 2) to (omega arith)
+                  (subst (λ p. IsSegmentAt code p
+                  (statements_code (in_except scope) block (target + 2))) (omega arith) g1.1.1.1)
+                  (record { exit = u.exit; loop_end = u.loop_end; loop_next = u.loop_next })
+                  (back_own (target + 2) to (target + 2) to (mine ∷ []) qs (omega arith)
+                  (omega arith) (inl (omega arith), tt)
+                  (back_own at to (target + 2) to rs (mine ∷ qs) (omega arith) (omega arith)
+                  (earlier_outside at ends (target + 2) to rs (omega arith)
+                  (statements_within body at)) own))),
+            ),
           ),
         )
     statement_leads (TryFinally body k last) scope at to e g w own =

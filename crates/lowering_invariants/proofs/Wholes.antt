@@ -3,6 +3,11 @@
 use Rattle.std.proofs.Common.{◌≡◌, ℕ, ◌+◌, ◌-◌, ◌<◌, List, [], ◌∷◌, ◌++◌, length, refl, sym, ap, subst, ◌∙◌, arith, append_assoc, length-append}
 use Rattle.std.specs.List.{AllByRecursion}
 use Rattle.std.specs.Prelude.{true, false, slice_get, Option, Some, None}
+use Rattle.c_checked.specs.declared.function.DataPart.{DataPart}
+use Rattle.seh_ir.specs.Funclets.{finally_begin}
+use Rattle.seh_ir.specs.Statements.{reset_code}
+use Rattle.lowering_invariants.proofs.DepthStatements.{begin_three}
+use Rattle.lowering_invariants.specs.Bodies.{IsInstructionOf}
 use Rattle.lowering_invariants.specs.Words.{Expression, Program, funclets, count_up, funclets_in, Filter, Always, Funclet, Statement, Declare, Block, Evaluate, If, IfElse, For, DoWhile, Return, Break, Continue, Leave, TryExcept, TryFinally, Statements, Empty, Then, Local, Instruction, Region, LinearProgram, LinearBody, LinearFunclet, BodyName, FuncletBody, funclet_body, body_of, instruction_in, expression_size, statements_size, discarded_size, condition_size, all_declared_size, statement_size, Owner, Names, Way, Nowhere, Jumps, LoweringContext, except_names, filter_names, finally_names, finally_scope, expression_code, return_code, returned_code, statements_code, statements_regions, except_kind, region, statement_regions, finally_funclet, filter_funclets, in_funclet, statement_funclets, statements_funclets, IsCalled, IsFinallyKind, function_of, owner_of, IsFuncletOf, IsKindOf, IsRegionOf, IsCallee, IsBodyOf, parent_of}
 use Rattle.c_checked.specs.Sound.{filter_funclet}
 use Rattle.linear_code.specs.declared.instruction.Instruction.TheVariants as instructions
@@ -90,6 +95,14 @@ module _ (program : Program) (linear : LinearProgram)
     kind_is (Funclet k e) end x h landing =
         (h, (x, ap (λ p. instruction_in p end) there ∙ landing), refl)
 
+    reset_calls : (part : Option DataPart) → IsInstructionOf linear name (reset_code part)
+    reset_calls None = tt
+    reset_calls (Some p) = tt
+
+    begin_calls : (part : Option DataPart) (x : ℕ) → All (finally_begin part x)
+    begin_calls None x = (tt, (tt, (tt, tt)))
+    begin_calls (Some p) x = (tt, (tt, (tt, tt)))
+
     pieces_typed : HoldsOfPieces IsTyped (λ at xs. Unit {0}) (λ label. Unit {0})
         (λ label. Unit {0}) (λ names m. Unit {0}) (ExpressionFits program own false)
         (λ x. x < own)
@@ -107,7 +120,7 @@ module _ (program : Program) (linear : LinearProgram)
       of_jump = λ at label l r s. ((tt, tt), tt);
       of_unwind = λ at label l r s. ((tt, (tt, tt)), tt);
       of_landing = λ names m begin end at f le n o b' t l r s. (
-        (tt, (tt, tt)),
+        (tt, (tt, (reset_calls names.part, tt))),
         (
           record {
             begins = omega arith;
@@ -119,6 +132,10 @@ module _ (program : Program) (linear : LinearProgram)
       of_finally = λ k begin at o b' t r s.
           ((tt, (r.0, (tt, tt))), (record { begins = omega arith; kind = r.0 }, tt));
       of_zeroed = λ x at d r s. ((tt, tt), tt);
+      of_put_zero = λ v at d r s. ((tt, (tt, (tt, tt))), tt);
+      of_put_initialiser = λ names m v e at n d h c r s. (value names e at _ h (tt, (tt, tt)), tt);
+      of_counted = λ names m k at le n r s. ((tt, tt), tt);
+      of_clearing = λ names m v end begin at le n d l b' r s. ((tt, (tt, (tt, tt))), tt);
       of_discarded = λ names m e at n h c r s. (value names e at _ h (tt, tt), tt);
       of_condition = λ names m e label at n h l c r s. (value names e at _ h (tt, tt), tt);
       of_initialiser = λ names m x e at n d h c r s. (value names e at _ h (tt, (tt, tt)), tt);
@@ -206,7 +223,7 @@ module _ (program : Program) (linear : LinearProgram)
   block_has : (last : Statements) (name : BodyName) (owner : Owner) → IsOwner linear name owner
       → (names : Names) (k begin end : ℕ) → StatementsFit program own last
       → (IsOwner linear (FuncletBody (k - 1)) (in_funclet (k - 1) owner)
-      → HasFunclets (FuncletBody (k - 1)) (statements_regions last 0)
+      → HasFunclets (FuncletBody (k - 1)) (statements_regions last 3)
       (statements_funclets (in_funclet (k - 1) owner) (finally_names names) last) (funclets last))
       → HasFunclets name (region begin end (kinds.Finally (k - 1)) ∷ [])
       (finally_funclet owner names last
@@ -219,12 +236,16 @@ module _ (program : Program) (linear : LinearProgram)
       let there : slice_get linear.funclets (k - 1)
       ≡ Some funclet = ap (slice_get linear.funclets) same ∙ s.0 in
       let name' = FuncletBody (k - 1) in
-      let code = statements_code (finally_scope names) last 0 in
+      let begins = finally_begin names.part names.free in
+      let code = statements_code (finally_scope names) last 3 in
       let ends = instructions.Return (Local names.free) ∷ [] in
+      let three = begin_three names.part names.free in
       let inner = all (record { parent = refl; function = ap function_of there }) (j + 1) s.1
       (both_right _ _ n) in
-      let own_body = typed name' funclet.body (ap funclet_body there) last (finally_scope names) 0
-      fits inner.named (front funclet.body.code 0 code ends (whole_is_at funclet.body.code)) in
+      let own_body = typed name' funclet.body (ap funclet_body there) last (finally_scope names) 3
+      fits inner.named (front funclet.body.code 3 code ends
+      (back funclet.body.code 0 3 begins (code ++ ends) (omega arith)
+      (whole_is_at funclet.body.code))) in
       let fl = statements_funclets (in_funclet (k - 1) owner) (finally_names names) last in
       record {
         named = (
@@ -242,7 +263,9 @@ module _ (program : Program) (linear : LinearProgram)
             (one_part (Fine linear) j (subst (Fine linear) same
             (fine (k - 1) funclet there (record {
               regions = own_body.1;
-              code = append program linear callee name' code ends own_body.0 (tt, tt);
+              code = append program linear callee name' begins (code ++ ends)
+                  (begin_calls name' funclet.body (ap funclet_body there) names.part names.free)
+                  (append program linear callee name' code ends own_body.0 (tt, tt));
             })))) inner.funclets);
       }
 
@@ -288,14 +311,14 @@ module _ (program : Program) (linear : LinearProgram)
         (both name (region at target (except_kind filter target) ∷ []) _ ff fh nf (funclets block)
         (filter_count owner (filter_names names) filter)
         (filter_has name owner o names filter at target fits.1)
-        (statements_have block name owner o (except_names names) (target + 1) fits.2)))
+        (statements_have block name owner o (except_names names) (target + 2) fits.2)))
     statement_has (TryFinally body k last) name owner o names at fits =
         both name _ _ (statements_funclets owner names body) _ (funclets body) (k ∷ funclets last)
         (statements_count owner names body)
         (statements_have body name owner o names at fits.0)
         (block_has last name owner o names k at (at + statements_size body + 1) fits.1
         (λ inside. statements_have last (FuncletBody (k - 1)) (in_funclet (k - 1) owner) inside
-        (finally_names names) 0 fits.1))
+        (finally_names names) 3 fits.1))
 
     pub statements_have : (ss : Statements) (name : BodyName) (owner : Owner) → IsOwner linear name
         owner

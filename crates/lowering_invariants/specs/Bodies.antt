@@ -2,7 +2,7 @@
 use Rattle.std.specs.Prelude.{◌≡◌, ℕ, ◌<◌, ◌≤◌, slice_get, Option, Some, None}
 use Rattle.std.specs.List.{AllByRecursion}
 use Rattle.c_operations.specs.declared.operation.Operation.{Operation}
-use Rattle.c_operations.specs.declared.operation.Operation.TheVariants.{Pure}
+use Rattle.c_operations.specs.declared.operation.Operation.TheVariants.{Pure, Allocate, SetPointer, Place, Clear}
 use Rattle.linear_code.specs.declared.slot.Slot.{Slot}
 use Rattle.linear_code.specs.declared.slot.Slot.TheVariants.{Local, Temporary}
 use Rattle.linear_code.specs.declared.instruction.Instruction.{Instruction}
@@ -39,6 +39,10 @@ IsTemporary (Temporary i) = Unit {0}
 
 abbrev pub ReadsWell : Operation → Slot → Slot → Type 0
 ReadsWell (Pure p) first second = Unit {0}
+ReadsWell (Allocate n) first second = Unit {0}
+ReadsWell (SetPointer n) first second = Unit {0}
+ReadsWell (Place w offset) first second = Unit {0}
+ReadsWell (Clear w offset) first second = Unit {0}
 ReadsWell o first second = IsTemporary first × IsTemporary second
 
 module _ (program : LinearProgram) where

@@ -5,7 +5,7 @@ use Rattle.seh_num.specs.declared.size.TheConstants.{EXCEPTION_MAXIMUM_PARAMETER
 use Rattle.c_operations.specs.declared.field.Field.{Field}
 use Rattle.c_operations.specs.declared.field.Field.TheVariants.{ExceptionInformation}
 use Rattle.c_checked.specs.Expression as nodes
-use Rattle.c_checked.specs.Expression.{Expression, On, Node, Lvalue, Local, Global, Indirection, Element, Arguments, Done, Next}
+use Rattle.c_checked.specs.Expression.{Expression, On, Node, Lvalue, Local, Global, Stacked, Indirection, Element, Arguments, Done, Next}
 use Rattle.c_checked.specs.Program.{Function}
 use Rattle.c_checked.specs.Statement.{Declared, Filter, Always, Funclet, Statement, Declare, Block, Evaluate, If, IfElse, For, DoWhile, Return, Break, Continue, Leave, TryExcept, TryFinally, Statements, Empty, Then}
 use Rattle.lowering_sizes.specs.Sizes.{statements_notes}
@@ -20,6 +20,7 @@ abbrev mutual
   pub lvalue_nesting : Lvalue → ℕ
   lvalue_nesting (Local x) = 0
   lvalue_nesting (Global access a) = 0
+  lvalue_nesting (Stacked access base offset) = 0
   lvalue_nesting (Indirection access e) = 1 + expression_nesting e
   lvalue_nesting (Element access e i) = 1 + max (expression_nesting e) (expression_nesting i)
 
@@ -29,6 +30,7 @@ abbrev mutual
 
   pub node_nesting : Node → ℕ
   node_nesting (nodes.Constant z n) = 0
+  node_nesting (nodes.StackedArray base offset) = 0
   node_nesting (nodes.Read p) = lvalue_nesting p
   node_nesting (nodes.AddressOf p) = 1 + lvalue_nesting p
   node_nesting (nodes.Assign p e) = 1 + max (lvalue_nesting p) (expression_nesting e)
@@ -64,6 +66,7 @@ abbrev mutual
   pub lvalue_reads : Lvalue → ℕ
   lvalue_reads (Local x) = 0
   lvalue_reads (Global access a) = 0
+  lvalue_reads (Stacked access base offset) = 0
   lvalue_reads (Indirection access e) = expression_reads e
   lvalue_reads (Element access e i) = max (expression_reads e) (expression_reads i)
 
@@ -73,6 +76,7 @@ abbrev mutual
 
   pub node_reads : Node → ℕ
   node_reads (nodes.Constant z n) = 0
+  node_reads (nodes.StackedArray base offset) = 0
   node_reads (nodes.Read p) = lvalue_reads p
   node_reads (nodes.AddressOf p) = lvalue_reads p
   node_reads (nodes.Assign p e) = max (lvalue_reads p) (expression_reads e)
@@ -133,11 +137,12 @@ abbrev mutual
 
 -- ---- programs
 
--- within the limits of nesting, and of the parameters of an exception
+-- within the limits of nesting, and of the parameters of an exception; 65 blocks are around what is
+-- in the innermost, and an array has a note where it is declared
 pub record IsShallow (fn : Function) : Type 0 where
   pub expressions : most_of expression_nesting fn.body ≤ 64
   pub parameters : most_of expression_reads fn.body ≤ EXCEPTION_MAXIMUM_PARAMETERS
-  pub blocks : statements_notes fn.body ≤ 65
+  pub blocks : statements_notes fn.body ≤ 66
 
 abbrev pub AreShallow : List Function → Type 0
 AreShallow [] = Unit {0}

@@ -5,9 +5,11 @@
 -- that run `__finally` blocks, which end with their calls, is an instruction that does nothing.
 use Rattle.std.specs.Prelude.{◌≡◌, ℕ, ◌+◌, ◌<◌, Bool, true, false, length, slice_get, Some}
 use Rattle.std.specs.List.{AllByRecursion}
+use Rattle.c_operations.specs.declared.operation.Operation.{Operation}
+use Rattle.c_operations.specs.declared.operation.Operation.TheVariants.{SetPointer}
 use Rattle.linear_code.specs.declared.slot.Slot.TheVariants.{Local}
 use Rattle.linear_code.specs.declared.instruction.Instruction.{Instruction}
-use Rattle.linear_code.specs.declared.instruction.Instruction.TheVariants.{Landing, LocalUnwind, Return, Separator}
+use Rattle.linear_code.specs.declared.instruction.Instruction.TheVariants.{Compute, Landing, LocalUnwind, Return, Separator}
 use Rattle.linear_code.specs.declared.program.Region.{Region}
 use Rattle.linear_code.specs.declared.program.RegionKind.{RegionKind}
 use Rattle.linear_code.specs.declared.program.RegionKind.TheVariants.{Finally, Filter, Always}
@@ -51,10 +53,16 @@ HasLanding b (Finally k) = Unit {0}
 HasLanding b (Filter k target) = LandsInside b target
 HasLanding b (Always target) = LandsInside b target
 
--- where a local unwind may land: an instruction that does nothing, or the end of a function
+-- where a local unwind may land: an instruction that does nothing, or the end of a function, which
+-- gives its part of the data stack back
+abbrev pub sets_pointer : Operation → Bool
+sets_pointer (SetPointer n) = true
+sets_pointer o = false
+
 abbrev pub is_target : Instruction → Bool
 is_target Separator = true
 is_target (Return from) = true
+is_target (Compute to o first second) = sets_pointer o
 is_target i = false
 
 -- no region begins or ends at the target of a local unwind, so that each one that holds the target

@@ -1,6 +1,8 @@
 -- Every number that is kept is one of 64 bits.
-use Rattle.std.specs.Prelude.{ℕ, ◌^◌, ◌<◌, Bool, List, [], ◌∷◌, Option, Some, None}
+use Rattle.std.specs.Prelude.{ℕ, ◌+◌, ◌^◌, ◌<◌, ◌≤◌, Bool, List, [], ◌∷◌, Option, Some, None}
 use Rattle.std.specs.List.{AllByRecursion}
+use Rattle.host_layout.specs.declared.range.TheConstants.{DATA_STACK_START}
+use Rattle.flat_memory.specs.Memory.{Memory}
 use Rattle.source_meaning.specs.State.{Exception}
 use Rattle.linear_machine.specs.Frames.{Frame, Item, Waits, Searches, Unwinds, Configuration}
 
@@ -32,7 +34,13 @@ AreSmallItems (Searches exception resumption asked rest ∷ below) =
     IsSmallException exception × AreSmallItems below
 AreSmallItems (Unwinds rest target ∷ below) = IsSmallCode target.code × AreSmallItems below
 
--- in temporaries, locals and exceptions
+-- the bytes of the data stack's pointer have 8 bits
+abbrev pub HasSmallPointer : Memory → Type 0
+HasSmallPointer m =
+    (a : ℕ) → DATA_STACK_START ≤ a → a < DATA_STACK_START + 8 → m.byte a < 256
+
+-- in temporaries, locals and exceptions, and in the data stack's pointer
 pub record HasSmallNumbers (c : Configuration) : Type 0 where
   pub items : AreSmallItems (Waits c.frame ∷ c.below)
   pub locals : AllByRecursion AreSmall c.store.activations
+  pub pointer : HasSmallPointer c.store.memory

@@ -13,7 +13,7 @@ pub use Rattle.c_operations.specs.declared.operation.Operation.{Operation}
 pub use Rattle.c_operations.specs.declared.operation.Pure.{Pure}
 pub use Rattle.c_operations.specs.declared.operation.Signedness.TheVariants.{Signed, Unsigned}
 pub use Rattle.c_operations.specs.declared.operation.Size.TheVariants.{Long}
-pub use Rattle.c_checked.specs.Expression.{Expression, On, Node, Lvalue, Global, Indirection, Element, Arguments, Done}
+pub use Rattle.c_checked.specs.Expression.{Expression, On, Node, Lvalue, Global, Stacked, Indirection, Element, Arguments, Done}
 pub use Rattle.c_checked.specs.Program.{Program, Function, surplus, weight}
 pub use Rattle.c_checked.specs.Sound.{funclets, functions_sound, IsSound, count_up, function_sound, main_sound, Inside, funclets_in, optional_sound, test_sound, value_fits, declared_sound, all_declared_sound, result_sound, filter_sound, expression_sound, statement_sound, statements_sound}
 pub use Rattle.c_checked.specs.Statement.{Statements, Declared, Filter, Always, Funclet, Statement, Declare, Block, Evaluate, If, IfElse, For, DoWhile, Return, Break, Continue, Leave, TryExcept, TryFinally, Empty, Then}

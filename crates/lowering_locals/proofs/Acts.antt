@@ -1,7 +1,7 @@
 -- What each instruction leads to.
 use Rattle.std.proofs.Common.{◌≡◌, inl, inr, ℕ, ◌+◌, ◌<◌, ◌⊎◌, List, ◌∷◌, refl, sym, ap, subst, ◌∙◌}
 use Rattle.std.specs.Prelude.{true, false, nat_eq, length, slice_get, take, get_or, Option, Some, None}
-use Rattle.linear_code.specs.Program.{weight}
+use Rattle.linear_code.specs.Program.{depth_weight}
 use Rattle.lowering_locals.specs.Words.{BuiltIn, Put, Protect, RaiseException, Walk, Operation, OperationResult, Gives, Raises, Undefined, performed, is_reserved, field_of, raised, Slot, Local, Temporary, Instruction, LinearProgram, LinearFunction, BodyName, FunctionBody, SameOperation, AfterCall, Waits, Configuration, Finished, pick, read, with_temporary, with_temporaries, last_temporaries, set_local, at_label, forth, with_last, write, is_constant, operand, written, computed, tested, count_of, built_in, not_landed, act, instruction_at, IsTurn, IsWhole, IsCallee, Marks, outcome_of, local_given, local_in, local_written, SeenNames, IsPart, with_slot, IsLocalOf, locals_at, Leads, IsSetMap, Marked, here, AreKept, AreCovered, IsRecorded, IsGiven, Before, Written, Passed, IsStep, IsStacked}
 use Rattle.source_meaning.specs.declared.ended.Ended.TheVariants as ends
 use Rattle.linear_code.specs.declared.instruction.Instruction.TheVariants as instructions
@@ -175,7 +175,7 @@ module _ (program : LinearProgram) (whole : IsWhole program) (sets : BodyName �
       let Ok' = Ok (instructions.Call f first count) in
       some_turn Ok' c.events (last_temporaries c.frame.temporaries first count) _ (λ vs e.
       some_turn Ok' c.events (slice_get program.functions f) _ (λ function g.
-      deeper_turn Ok' (weight function) c.frame.held c.store c.events _ (Moves _ (record {
+      deeper_turn Ok' (depth_weight function) c.frame.held c.store c.events _ (Moves _ (record {
         running = λ x q. Passed f first count function refl g refl
             (passed f first count function at g x q);
         waiting = (now.running, now.waiting);

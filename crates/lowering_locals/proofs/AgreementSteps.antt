@@ -2,7 +2,7 @@
 use Rattle.std.proofs.Common.{◌≡◌, ℕ, zero, ◌+◌, ◌-◌, List, [], ◌∷◌, ◌++◌, length, refl, sym, ap, subst, ◌∙◌}
 use Rattle.std.specs.List.{AllByRecursion}
 use Rattle.std.specs.Prelude.{false, nat_lt, slice_get, replicate, Option, Some}
-use Rattle.linear_code.specs.Program.{weight}
+use Rattle.linear_code.specs.Program.{depth_weight}
 use Rattle.lowering_locals.specs.Words.{Deep, LinearProgram, LinearFunction, Frame, Waits, Configuration, Seen, Finished, Next, pick, with_some, deeper, last_temporaries, body_of, begin_function, waiting, act, instruction_at, instruction_in, start, main_arguments, Marks, next_marks, AreAlike, GoAlike, start_marks, called, IsReached}
 use Rattle.linear_code.specs.declared.instruction.Instruction.TheVariants as instructions
 use Rattle.lowering_invariants.specs.SmallNumbers.{AreSmall, HasSmallNumbers}
@@ -39,7 +39,7 @@ other_small (a ∷ acts) arguments zeros values h
 alike_small : (marks : Marks) (c d : Configuration) → AreAlike marks c d
     → AllSmall d.store.activations → HasSmallNumbers c → HasSmallNumbers d
 alike_small marks c d a s h = subst HasSmallNumbers (is_over marks c d a)
-    (record { items = h.items; locals = s })
+    (record { items = h.items; locals = s; pointer = h.pointer })
 
 pub agreeing_are_small : AgreeingAreSmall
 agreeing_are_small program c d t = alike_small t.marks c d t.alike t.small
@@ -83,7 +83,7 @@ call_goes : (program : LinearProgram) (c : Configuration) (f first count : ℕ)
     (function : LinearFunction) (arguments values : List ℕ)
     → last_temporaries c.frame.temporaries first count ≡ Some arguments
     → slice_get program.functions f ≡ Some function
-    → nat_lt 1000 (length c.store.activations + c.frame.held + weight function) ≡ false
+    → nat_lt 1000 (length c.store.activations + c.frame.held + depth_weight function) ≡ false
     → (next : Next)
     → act program (instructions.Call f first count) next c
     ≡ next (called c c f first function arguments values)
@@ -94,9 +94,10 @@ call_goes program c f first count function arguments values e g n next =
     c.events) in
     ap (λ (o : Option (List ℕ)). with_some c.events o
     (λ vs. with_some c.events (slice_get program.functions f)
-    (λ function. deeper (weight function) c.frame.held c.store c.events (begun vs function)))) e
+    (λ function. deeper (depth_weight function) c.frame.held c.store c.events
+    (begun vs function)))) e
     ∙ ap (λ (o : Option LinearFunction). with_some c.events o
-    (λ function. deeper (weight function) c.frame.held c.store c.events
+    (λ function. deeper (depth_weight function) c.frame.held c.store c.events
     (begun arguments function))) g
     ∙ ap (λ b. pick b (Finished (Deep 1001) c.events) (begun arguments function)) n
 
@@ -108,10 +109,10 @@ agreement_at_call program c d f first count function arguments values t at e g n
     let own : last_temporaries c.frame.temporaries first count
     ≡ Some arguments = ap (λ (k : Frame). last_temporaries k.temporaries first count)
     (sym t.alike.frame) ∙ e in
-    let held : nat_lt 1000 (length c.store.activations + c.frame.held + weight function)
+    let held : nat_lt 1000 (length c.store.activations + c.frame.held + depth_weight function)
     ≡ false =
-    ap (λ (k : Frame). nat_lt 1000 (length c.store.activations + k.held + weight function))
-    (sym t.alike.frame) ∙ ap (λ m. nat_lt 1000 (m + d.frame.held + weight function))
+    ap (λ (k : Frame). nat_lt 1000 (length c.store.activations + k.held + depth_weight function))
+    (sym t.alike.frame) ∙ ap (λ m. nat_lt 1000 (m + d.frame.held + depth_weight function))
     (sym (as_long t.marks c.store.activations d.store.activations t.alike.activations)) ∙ n in
     let goes = call_goes program c f first count function arguments values own g held in
     let on = called c d f first function arguments values in

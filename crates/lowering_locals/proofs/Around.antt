@@ -8,7 +8,7 @@ use Rattle.lowering_locals.proofs.Lemmas.{IsSegmentAt, sees_own, sees_before, it
 use Rattle.lowering_locals.proofs.StraightCode.{is_same_back}
 use Rattle.lowering_locals.proofs.ExpressionSets.{IsAround}
 use Rattle.lowering_locals.proofs.SetLists.{statements_long, statements_above, above_at}
-use Rattle.lowering_locals.proofs.StatementPieces.{code_kept, below_with, around_declared, declared_small, WayIn, LabelIn}
+use Rattle.lowering_locals.proofs.StatementPieces.{code_kept, base_kept, below_with, around_declared, declared_small, WayIn, LabelIn}
 
 pub around_finally : (locals : ℕ) (names : Names) (before seen : SeenNames) → names.free < locals
     → IsAround locals names before seen → IsAround locals (finally_names names) before
@@ -21,6 +21,7 @@ around_finally locals names before seen lt a =
       below = below_with locals names.free seen a.below lt;
       code = code_kept seen more names.exception g a.code;
       flag = sees_own seen names.free;
+      base = base_kept seen more names.part g a.base;
     }
 
 pub around_filter : (locals : ℕ) (names : Names) (before seen : SeenNames)
@@ -30,6 +31,7 @@ around_filter locals names before seen a = record {
   below = a.below;
   code = tt;
   flag = a.flag;
+  base = a.base;
 }
 
 pub around_after : (s : Statement) (i : Inside) (locals : ℕ) (names : Names)
@@ -37,7 +39,7 @@ pub around_after : (s : Statement) (i : Inside) (locals : ℕ) (names : Names)
     → IsAround locals names before seen → IsAround locals names (after_statement before s)
     (after_statement seen s)
 around_after (Declare d) i locals names before seen fits ok a = around_declared locals names before
-    seen d.local (declared_small i.scope d locals fits ok) a
+    seen d (declared_small i.scope d locals fits ok) a
 around_after (Block ss) i locals names before seen fits ok a = a
 around_after s i locals names before seen fits ok a = a
 

@@ -1,7 +1,7 @@
 -- The code of an expression reads locals alone that are seen, and jumps within itself.
 use Rattle.std.proofs.Common.{◌≡◌, ℕ, ◌+◌, ◌<◌, ◌≤◌, List, [], ◌∷◌, ◌++◌, arith}
 use Rattle.std.specs.Prelude.{true, Option, Some, None}
-use Rattle.lowering_locals.specs.Words.{Operation, Expression, On, Node, Lvalue, Global, Indirection, Element, Arguments, Done, Temporary, Instruction, is_constant, ExceptionSource, NoException, OfFilter, KeptIn, Names, expression_size, address_count, locate_size, read_size, conversion_size, arguments_size, node_size, expression_code, conversion_code, unary_code, choice_code, code_code, abnormal_code, read_code, write_code, locate_code, arguments_code, node_code, SeenNames, IsPart, expression_within, node_within, lvalue_within, arguments_within, OperandsIn}
+use Rattle.lowering_locals.specs.Words.{Operation, DataPart, Expression, On, Node, Lvalue, Global, Stacked, Indirection, Element, Arguments, Done, Temporary, Instruction, is_constant, ExceptionSource, NoException, OfFilter, KeptIn, Names, expression_size, address_count, locate_size, read_size, conversion_size, arguments_size, node_size, expression_code, conversion_code, unary_code, choice_code, code_code, abnormal_code, read_code, write_code, stacked_code, locate_code, arguments_code, node_code, SeenNames, IsPart, expression_within, node_within, lvalue_within, arguments_within, OperandsIn}
 use Rattle.c_operations.specs.declared.operation.Operation.TheVariants as operations
 use Rattle.c_operations.specs.declared.operation.Pure.{Pure}
 use Rattle.c_operations.specs.declared.operation.Pure.TheVariants as pures
@@ -22,6 +22,11 @@ abbrev pub FlagIn : SeenNames → Option ℕ → Type 0
 FlagIn seen None = Unit {0}
 FlagIn seen (Some x) = seen x ≡ true
 
+-- and the base of a function's part of the data stack
+abbrev pub BaseIn : SeenNames → Option DataPart → Type 0
+BaseIn seen None = Unit {0}
+BaseIn seen (Some part) = seen part.base ≡ true
+
 -- what is recorded around an expression: the locals that are seen and what its names are kept in,
 -- all
 -- of them locals of the body
@@ -30,6 +35,7 @@ pub record IsAround (locals : ℕ) (names : Names) (before seen : SeenNames) : T
   pub below : (x : ℕ) → seen x ≡ true → x < locals
   pub code : CodeIn seen names.exception
   pub flag : FlagIn seen names.abnormal
+  pub base : BaseIn seen names.part
 
 module _ (locals : ℕ) (names : Names) (before seen : SeenNames)
     (around : IsAround locals names before seen) (lo hi : ℕ) where
@@ -45,7 +51,7 @@ module _ (locals : ℕ) (names : Names) (before seen : SeenNames)
   conversion_fine : (c : Conversion) (d : ℕ) → All (conversion_code c d)
   conversion_fine Kept d = tt
   conversion_fine (Extend s from size) d = (((tt, tt), tt), tt)
-  conversion_fine (Scale s from by) d = (((tt, tt), tt), ((tt, tt), (((tt, tt), tt), tt)))
+  conversion_fine (Scale s from by) d = (((tt, tt), tt), (((tt, tt), tt), tt))
 
   -- an operation on temporaries alone
   combined : (o : Operation) (d : ℕ) → OperandsIn (is_constant o) seen (Temporary d)
@@ -67,6 +73,7 @@ module _ (locals : ℕ) (names : Names) (before seen : SeenNames)
       → All (read_code p address to)
   read_fine (nodes.Local x) address to w = (((around.part x w, around.part x w), tt), tt)
   read_fine (Global access a) address to w = (((tt, tt), tt), (((tt, tt), tt), tt))
+  read_fine (Stacked access base offset) address to w = (((tt, tt), tt), (((tt, tt), tt), tt))
   read_fine (Indirection access e) address to w = (((tt, tt), tt), (((tt, tt), tt), tt))
   read_fine (Element access e i) address to w = (((tt, tt), tt), (((tt, tt), tt), tt))
 
@@ -74,6 +81,7 @@ module _ (locals : ℕ) (names : Names) (before seen : SeenNames)
       → One (write_code p address from to)
   write_fine (nodes.Local x) address from to w = ((tt, tt), around.below x (around.part x w))
   write_fine (Global access a) address from to w = ((tt, tt), tt)
+  write_fine (Stacked access base offset) address from to w = ((tt, tt), tt)
   write_fine (Indirection access e) address from to w = ((tt, tt), tt)
   write_fine (Element access e i) address from to w = ((tt, tt), tt)
 
@@ -85,6 +93,10 @@ module _ (locals : ℕ) (names : Names) (before seen : SeenNames)
   flag_fine : (s : Option ℕ) (d : ℕ) → FlagIn seen s → One (abnormal_code s d)
   flag_fine None d h = (tt, tt)
   flag_fine (Some x) d h = ((h, h), tt)
+
+  -- where a variable on the data stack stands
+  stacked_fine : (base offset d : ℕ) → before base ≡ true → All (stacked_code base offset d)
+  stacked_fine base offset d w = ((tt, tt), (((around.part base w, tt), tt), tt))
 
   operands_fine : (e f : Expression) (d at : ℕ) (rest : List Instruction)
       → All (expression_code names e d at) → All
@@ -105,6 +117,7 @@ module _ (locals : ℕ) (names : Names) (before seen : SeenNames)
         → at + locate_size p ≤ hi → All (locate_code names p d at)
     locate_fine (nodes.Local x) d at w a b = tt
     locate_fine (Global access v) d at w a b = ((tt, tt), tt)
+    locate_fine (Stacked access base offset) d at w a b = stacked_fine base offset d w
     locate_fine (Indirection access e) d at w a b = expression_fine e d at w a b
     locate_fine (Element access e i) d at w a b =
         operands_fine e i d at (_ ∷ []) (expression_fine e d at (both_left _ _ w) a (omega arith))
@@ -124,11 +137,14 @@ module _ (locals : ℕ) (names : Names) (before seen : SeenNames)
     node_fine : (node : Node) (d at : ℕ) → node_within before node ≡ true → lo ≤ at
         → at + node_size node ≤ hi → All (node_code names node d at)
     node_fine (nodes.Constant z v) d at w a b = ((tt, tt), tt)
+    node_fine (nodes.StackedArray base offset) d at w a b = stacked_fine base offset d w
     node_fine (nodes.Read p) d at w a b = append (locate_code names p d at) (read_code p d d)
         (locate_fine p d at w a (omega arith)) (read_fine p d d w)
     node_fine (nodes.AddressOf (nodes.Local x)) d at w a b = ((tt, tt), tt)
     node_fine (nodes.AddressOf (Global access v)) d at w a b = locate_fine (Global access v) d at w
         a b
+    node_fine (nodes.AddressOf (Stacked access base offset)) d at w a b = stacked_fine base offset d
+        w
     node_fine (nodes.AddressOf (Indirection access e)) d at w a b = locate_fine
         (Indirection access e) d at w a b
     node_fine (nodes.AddressOf (Element access e i)) d at w a b = locate_fine (Element access e i) d

@@ -3,18 +3,33 @@ use Rattle.std.proofs.Common.{◌≡◌, ℕ, suc, ◌+◌, ◌-◌, ◌<◌, �
 use Rattle.std.proofs.lemmas.Bool.{leb-true, ltb-true}
 use Rattle.std.proofs.lemmas.List.{length-replicate}
 use Rattle.std.specs.List.{AllByRecursion}
-use Rattle.std.specs.Prelude.{true, false, replicate, slice_get, Some, None}
-use Rattle.lowering_locals.specs.Words.{Expression, funclets_in, funclets, filter_funclet, count_up, Filter, Always, Funclet, TryExcept, TryFinally, Statements, Local, Temporary, RegionKind, BodyName, FuncletBody, holds, flag_of, expression_size, statements_size, Owner, Names, LoweringContext, filter_names, finally_names, except_names, finally_scope, expression_code, statements_code, owner_of, function_of, SeenNames, with_local, IsPart, expression_within, filter_within, with_flag, function_locals, owner_locals, locals_at, FinallyBegins, statements_sets, filter_sets, finally_sets, statement_funclet_sets, statements_funclet_sets, except_kind, region, statements_regions, filter_funclets, finally_funclet, in_funclet, statement_funclets, statements_funclets}
+use Rattle.std.specs.Prelude.{true, false, replicate, slice_get, Option, Some, None}
+use Rattle.lowering_locals.specs.Words.{DataPart, Expression, funclets_in, funclets, filter_funclet, count_up, Filter, Always, Funclet, TryExcept, TryFinally, Statements, Local, Temporary, RegionKind, BodyName, FuncletBody, holds, flag_of, expression_size, statements_size, Owner, Names, LoweringContext, filter_names, finally_names, except_names, finally_scope, expression_code, statements_code, owner_of, function_of, SeenNames, with_local, IsPart, expression_within, filter_within, with_flag, function_locals, owner_locals, locals_at, FinallyBegins, statements_sets, filter_sets, finally_sets, statement_funclet_sets, statements_funclet_sets, except_kind, region, statements_regions, filter_funclets, finally_begin, finally_funclet, in_funclet, statement_funclets, statements_funclets}
 use Rattle.linear_code.specs.declared.instruction.Instruction.TheVariants as instructions
 use Rattle.linear_code.specs.declared.program.RegionKind.TheVariants as kinds
 use Rattle.lowering_locals.proofs.Lemmas.{Range, part_of, both_parts, no_part, one_part, expression_length, statements_length, filter_count, statements_count, IsSegmentAt, front, back, whole_is_at, same_it, both_left, both_right, sees_own, itself, within, part_with, counted}
 use Rattle.lowering_locals.proofs.Lemmas.{all_append}
 use Rattle.seh_ir.specs.Funclets as funclets_of
-use Rattle.lowering_locals.proofs.StraightCode.{is_same, head_recorded, past_end, even_list, Fine, both_lead, straight}
-use Rattle.lowering_locals.proofs.ExpressionSets.{IsAround, expression_fine}
+use Rattle.lowering_locals.proofs.StraightCode.{is_same, head_recorded, past_end, even_list, Fine, AllFine, both_lead, straight}
+use Rattle.lowering_locals.proofs.ExpressionSets.{BaseIn, IsAround, expression_fine}
 use Rattle.lowering_locals.proofs.SetLists.{statements_long, filter_many, statements_many, statements_first, begins}
 use Rattle.lowering_locals.proofs.Around.{around_finally, around_filter}
 use Rattle.lowering_locals.proofs.SetPlaces.{WithSets, sets, IsRecordedAt, Lead, IsFine, IsGuarded, IsPlace, HasFunclets, has_front, has_back, whole_body, fine_body}
+
+-- ---- the beginning of a `__finally` block
+
+finally_begin_length : (part : Option DataPart) (x : ℕ) → length (finally_begin part x) ≡ 3
+finally_begin_length None x = refl
+finally_begin_length (Some part) x = refl
+
+finally_begin_fine : (locals : ℕ) (part : Option DataPart) (x : ℕ) (seen : SeenNames)
+    → seen x ≡ true → BaseIn seen part → ((y : ℕ) → seen y ≡ true → y < locals)
+    → AllFine locals 0 3 seen (finally_begin part x)
+finally_begin_fine locals None x seen h b below = (tt, (tt, (tt, tt)))
+finally_begin_fine locals (Some part) x seen h b below = (
+  (h, (omega arith, omega arith)),
+  (((b, b), below part.base b), (tt, tt)),
+)
 
 module _ (program : WithSets) where
   open program use {linear, lists, funclet_lists, listed}
@@ -118,13 +133,13 @@ module _ (program : WithSets) where
       (before seen : SeenNames) : Type 0 where
     pub place : IsPlace program (FuncletBody k) (in_funclet k owner) (finally_scope names) before
         (with_local names.free seen)
-    pub is_there : IsSegmentAt (lists (FuncletBody k)) 0
+    pub is_there : IsSegmentAt (lists (FuncletBody k)) 3
         (statements_sets (names.free + 1) (with_local names.free seen) last)
-    pub end : IsRecordedAt program (FuncletBody k) (0 + statements_size last)
+    pub end : IsRecordedAt program (FuncletBody k) (3 + statements_size last)
         (with_local names.free seen)
     pub begun : (s : SeenNames) → IsPart seen s → FinallyBegins linear (sets program) k s
-    pub fine : Lead program (FuncletBody k) 0 (statements_code (finally_scope names) last 0)
-        → AllByRecursion (IsGuarded program (FuncletBody k)) (statements_regions last 0)
+    pub fine : Lead program (FuncletBody k) 3 (statements_code (finally_scope names) last 3)
+        → AllByRecursion (IsGuarded program (FuncletBody k)) (statements_regions last 3)
         → IsFine program k
 
   pub finally_alone : (owner : Owner) (names : Names) (last : Statements) (before seen : SeenNames)
@@ -143,45 +158,57 @@ module _ (program : WithSets) where
       let size = statements_size last in
       let ll = statements_sets (free + 1) more last in
       let long = statements_long last (free + 1) more in
-      let lc = statements_length (finally_scope names) last 0 in
-      let same : size ≡ 0 + size = omega arith in
+      let lc = statements_length (finally_scope names) last 3 in
+      let first = finally_begin names.part free in
+      let lb = finally_begin_length names.part free in
+      let own = ap (owner_locals linear) owned ∙ room in
+      let end = 3 + size in
       let whole : IsSegmentAt (lists home) 0 list =
       subst (λ (ls : List SeenNames). IsSegmentAt ls 0 list) (sym (listed k list recorded))
       (whole_is_at list) in
-      let here_last : sets program home size ≡ more =
-      head_recorded (lists home) size more [] (back (lists home) 0 size ll (replicate 1 more)
-      (omega arith) whole) in
-      let recorded_last : IsRecordedAt program home size more =
-      is_same (sets program home size) more here_last in
-      let is_there = front (lists home) 0 ll (replicate 1 more) whole in
-      let start = begins (lists home) 0 size ll more more is_there
+      let after = back (lists home) 0 3 (replicate 3 more) (ll ++ replicate 1 more) refl whole in
+      let here_last : sets program home end ≡ more =
+      head_recorded (lists home) end more [] (back (lists home) 3 end ll (replicate 1 more)
+      (omega arith) after) in
+      let recorded_last : IsRecordedAt program home end more =
+      is_same (sets program home end) more here_last in
+      let is_there = front (lists home) 3 ll (replicate 1 more) after in
+      let start = begins (lists home) 3 end ll more more is_there
       (statements_first last (free + 1) more more (itself more)) (omega arith) recorded_last in
-      let seen_flag : sets program home size free ≡ true = ap (λ (s : SeenNames). s free) here_last
+      let even = even_list (lists home) more 3 0 3 refl
+      (front (lists home) 0 (replicate 3 more) (ll ++ replicate 1 more) whole) start in
+      let begun = is_same (sets program home 0) more (even.inside 0 (omega arith) (omega arith)) in
+      let around = around_finally owner.locals names before seen lt a in
+      let first_leads = straight linear (sets program) home owner.locals own more 0 3 even 0 first
+      (omega arith) (omega arith) (finally_begin_fine owner.locals names.part free more
+      (sees_own seen free) around.base around.below) in
+      let seen_flag : sets program home end free ≡ true = ap (λ (s : SeenNames). s free) here_last
       ∙ sees_own seen free in
       record {
         place = record {
           owned = owned;
           room = room;
-          around =
-              around_finally owner.locals names before seen lt a;
+          around = around;
           exit = tt;
           loop_end = tt;
           loop_next = tt;
           leave = tt;
         };
         is_there = is_there;
-        end = subst (λ n. IsRecordedAt program home n more) same recorded_last;
+        end = recorded_last;
         begun = λ s q. subst (λ o. IsPart (sets program home 0) (with_flag o s))
-            (sym (ap flag_of there)) (within (sets program home 0) more (with_local free s) start
+            (sym (ap flag_of there)) (within (sets program home 0) more (with_local free s) begun
             (part_with seen s free q));
         fine = λ x r. record {
           body = fine_body program k f there (whole_body program home f.body
-              (both_lead linear (sets program) home 0 size
-              (statements_code (finally_scope names) last 0) (instructions.Return (Local free)
-              ∷ []) (omega arith) x (seen_flag, tt)) r);
+              (both_lead linear (sets program) home 0 3 first
+              (statements_code (finally_scope names) last 3 ++ instructions.Return (Local free)
+              ∷ []) (omega arith) first_leads (both_lead linear (sets program) home 3 end
+              (statements_code (finally_scope names) last 3) (instructions.Return (Local free)
+              ∷ []) (omega arith) x (seen_flag, tt))) r);
           flag = λ n g. subst (λ m. m < locals_at linear home)
               (same_it free n (sym (ap flag_of there) ∙ g))
-              (subst (λ m. free < m) (sym (ap (owner_locals linear) owned ∙ room)) lt);
+              (subst (λ m. free < m) (sym own) lt);
         };
       }
 

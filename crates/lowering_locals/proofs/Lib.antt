@@ -23,4 +23,5 @@ pub mod Around
 pub mod SetPlaces
 pub mod FuncletSets
 pub mod SetParts
+pub mod FunctionSets
 pub mod ProgramSets

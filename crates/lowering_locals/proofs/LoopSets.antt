@@ -2,7 +2,7 @@
 use Rattle.std.proofs.Common.{◌≡◌, ℕ, suc, ◌+◌, ◌≤◌, List, [], ◌∷◌, ◌++◌, length, refl, sym, subst, arith}
 use Rattle.std.proofs.lemmas.List.{length-replicate}
 use Rattle.std.specs.Prelude.{true, replicate, Option}
-use Rattle.lowering_locals.specs.Words.{Expression, all_declared_sound, Declared, Statement, For, DoWhile, Instruction, Jump, Separator, LinearProgram, BodyName, expression_size, discarded_size, condition_size, all_declared_size, statement_size, LoweringContext, in_loop, expression_code, discarded_code, condition_code, all_declared_code, statement_code, repeated, SeenNames, IsPart, after_all_declared, after_statement, expression_within, optional_within, all_declared_within, locals_at, statement_sets, all_declared_sets, set_in}
+use Rattle.lowering_locals.specs.Words.{Expression, all_declared_sound, Declared, Statement, For, DoWhile, Instruction, Jump, Separator, LinearProgram, BodyName, expression_size, discarded_size, condition_size, all_declared_size, declared_notes, statement_size, LoweringContext, in_loop, expression_code, discarded_code, condition_code, all_declared_code, statement_code, repeated, SeenNames, IsPart, after_all_declared, after_statement, expression_within, optional_within, all_declared_within, locals_at, statement_sets, all_declared_sets, set_in}
 use Rattle.c_checked.specs.Sound as sound
 use Rattle.lowering_locals.proofs.Lemmas.{expression_length, discarded_length, condition_length, all_declared_length, statement_length, IsSegmentAt, front, back, within}
 use Rattle.lowering_locals.proofs.StraightCode.{is_same, Even, even_part, even_list, AllLead, both_lead}
@@ -52,13 +52,13 @@ module _ (linear : LinearProgram) (lists : BodyName → List SeenNames) (name : 
       (s : Statement) (at begin iteration start again step : ℕ)
       → begin ≡ at + all_declared_size ds → iteration ≡ begin + discarded_size first
       → start ≡ iteration + condition_size c → again ≡ start + statement_size s
-      → step ≡ again + 1 + discarded_size next
+      → step ≡ again + 1 + discarded_size next → free + declared_notes ds ≤ locals
       → length scope'.sizes ≤ locals → all_declared_sound scope' ds ≡ true
       → all_declared_within before ds ≡ true
       → optional_within (after_all_declared before ds) first ≡ true
       → optional_within (after_all_declared before ds) c ≡ true
       → optional_within (after_all_declared before ds) next ≡ true
-      → At at (all_declared_sets seen ds) → Even (sets name) (after_all_declared seen ds) begin
+      → At at (all_declared_sets free seen ds) → Even (sets name) (after_all_declared seen ds) begin
       start → Even (sets name) (after_all_declared seen ds) again (step + 1 + 1)
       → Lead start (statement_code (in_loop (step + 1) again scope) s start)
       → Lead at (all_declared_code scope.names ds at
@@ -67,8 +67,8 @@ module _ (linear : LinearProgram) (lists : BodyName → List SeenNames) (name : 
       ++ (statement_code (in_loop (step + 1) again scope) s start
       ++ (Separator ∷ (discarded_code scope.names next (again + 1)
       ++ Jump iteration ∷ Separator ∷ []))))))
-  for_leads scope' ds first c next s at begin iteration start again step e1 e2 e3 e4 e5 fits ok w_ds
-      w_first w_c w_next d even last x =
+  for_leads scope' ds first c next s at begin iteration start again step e1 e2 e3 e4 e5 few fits ok
+      w_ds w_first w_c w_next d even last x =
       let names = scope.names in
       let inner = after_all_declared seen ds in
       let outer = after_all_declared before ds in
@@ -100,7 +100,7 @@ module _ (linear : LinearProgram) (lists : BodyName → List SeenNames) (name : 
       ++ (Separator ∷ (discarded_code names next (again + 1) ++ repeats)))))
       (omega arith)
       (all_declared_leads linear lists name locals room names scope' fits ds before seen at begin
-      (sym e1) around ok w_ds d recorded_begin)
+      (sym e1) few around ok w_ds d recorded_begin)
       (both_lead linear sets name begin iteration (discarded_code names first begin)
       (condition_code names c out iteration
       ++ (statement_code (in_loop out again scope) s start
@@ -130,7 +130,8 @@ module _ (linear : LinearProgram) (lists : BodyName → List SeenNames) (name : 
       ))))
 
   pub for_parts : (scope' : sound.TypingContext) (ds : List Declared)
-      (first c next : Option Expression) (s : Statement) (at : ℕ) → length scope'.sizes ≤ locals
+      (first c next : Option Expression) (s : Statement) (at : ℕ)
+      → free + declared_notes ds ≤ locals → length scope'.sizes ≤ locals
       → all_declared_sound scope' ds ≡ true → all_declared_within before ds ≡ true
       → optional_within (after_all_declared before ds) first ≡ true
       → optional_within (after_all_declared before ds) c ≡ true
@@ -140,7 +141,7 @@ module _ (linear : LinearProgram) (lists : BodyName → List SeenNames) (name : 
       → LoopParts (after_all_declared seen ds) s (for_start ds first c at)
       (for_again ds first c s at) (for_out ds first c next s at)
       (statement_code scope (For ds first c next s) at) at
-  for_parts scope' ds first c next s at fits ok w_ds w_first w_c w_next h end =
+  for_parts scope' ds first c next s at few fits ok w_ds w_first w_c w_next h end =
       let names = scope.names in
       let inner = after_all_declared seen ds in
       let outer = after_all_declared before ds in
@@ -150,11 +151,11 @@ module _ (linear : LinearProgram) (lists : BodyName → List SeenNames) (name : 
       let again = start + statement_size s in
       let step = again + 1 + discarded_size next in
       let out = step + 1 in
-      let dl = all_declared_sets seen ds in
+      let dl = all_declared_sets free seen ds in
       let tl = replicate (discarded_size first + condition_size c) inner in
       let bl = statement_sets free inner s in
       let rl = replicate (suc (discarded_size next + 2)) inner in
-      let ld = all_declared_long ds seen in
+      let ld = all_declared_long ds free seen in
       let lt = length-replicate (discarded_size first + condition_size c) inner in
       let ls = statement_long s free inner in
       let same : at + (all_declared_size ds +
@@ -182,7 +183,7 @@ module _ (linear : LinearProgram) (lists : BodyName → List SeenNames) (name : 
         next = recorded_again;
         leaves = is_same (sets name out) inner (last.inside out (omega arith) (omega arith));
         leads = for_leads scope' ds first c next s at begin iteration start again step refl refl
-            refl refl refl fits ok w_ds w_first w_c w_next
+            refl refl refl few fits ok w_ds w_first w_c w_next
             (front (lists name) at dl (tl ++ (bl ++ rl)) h) even last;
       }
 

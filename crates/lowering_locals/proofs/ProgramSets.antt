@@ -1,20 +1,21 @@
 -- The sets of a whole program tell what has been set.
-use Rattle.std.proofs.Common.{◌≡◌, ℕ, zero, suc, ◌+◌, ◌<◌, ◌≤◌, List, [], ◌∷◌, ◌++◌, length, map, refl, sym, ap, subst, ◌∙◌, arith, length-append}
+use Rattle.std.proofs.Common.{◌≡◌, ℕ, zero, suc, ◌+◌, ◌<◌, List, [], ◌∷◌, ◌++◌, length, map, refl, sym, ap, subst, ◌∙◌, arith, length-append}
 use Rattle.std.proofs.lemmas.List.{length-map, length-replicate}
 use Rattle.std.proofs.lemmas.Option.{slice_get_within}
-use Rattle.std.specs.Prelude.{true, slice_get, replicate, get_or, Option, Some, None}
-use Rattle.lowering_locals.specs.Words.{funclets, IsSound, function_sound, functions_sound, LinearProgram, LinearBody, LinearFunction, LinearFunclet, BodyName, FunctionBody, FuncletBody, funclet_body, body_of, function_body, flag_of, statements_size, Owner, statements_code, SeenNames, IsPart, first_seen, function_within, functions_within, IsScoped, function_locals, IsSetBody, IsSetMap, statements_sets, statements_funclet_sets, parameters_seen, function_sets, all_funclet_sets, list_of, sets_of}
+use Rattle.std.specs.Prelude.{true, false, slice_get, replicate, get_or, Option, Some, None}
+use Rattle.lowering_locals.specs.Words.{funclets, IsSound, function_sound, functions_sound, LinearProgram, LinearBody, LinearFunction, LinearFunclet, BodyName, FunctionBody, FuncletBody, funclet_body, body_of, function_body, flag_of, statements_size, Owner, statements_code, SeenNames, IsPart, first_seen, function_within, functions_within, IsScoped, function_locals, locals_at, IsSetBody, IsSetMap, statements_sets, statements_funclet_sets, parameters_seen, function_seen, open_sets, end_size, function_sets, all_funclet_sets, list_of, sets_of}
 use Rattle.c_checked.specs.Program.{Program, Function, weight}
 use Rattle.c_checked.specs.Sound as sound
-use Rattle.lowering_locals.proofs.Lemmas.{length_first, first_every, function_end, Range, part_of, both_parts, no_part, one_part, statements_length, statements_count, IsSegmentAt, front, back, whole_is_at, same_it, both_left, both_right, itself, is_parameter, within}
-use Rattle.seh_ir.specs.Lowered.{own_locals, all_locals, first_separators, scope_of, lowered_function, lowered_funclets, all_funclets, lowered}
+use Rattle.lowering_locals.proofs.Lemmas.{length_first, open_length, first_every, function_end, Range, part_of, both_parts, no_part, one_part, statements_length, statements_count, IsSegmentAt, front, back, whole_is_at, same_it, both_left, both_right, itself}
+use Rattle.seh_ir.specs.Lowered.{own_locals, all_locals, first_separators, open_code, body_start, scope_of, lowered_function, lowered_funclets, all_funclets, lowered}
 use Rattle.lowering_invariants.proofs.Lowered.{lowered_is_whole}
 use Rattle.lowering_locals.proofs.RunSets.{set_map_reads_no_unset}
 use Rattle.lowering_locals.specs.ScopedLaws.{ScopedHasSetMap, ScopedReadsNoUnset}
-use Rattle.lowering_locals.proofs.StraightCode.{is_same, is_same_back, head_recorded, even_list, Fine as FineIn, straight, both_lead}
+use Rattle.lowering_locals.proofs.StraightCode.{is_same, past_end, even_list, Fine as FineIn, straight, both_lead}
 use Rattle.lowering_locals.proofs.SetLists.{statements_long, statements_many, statements_first, begins}
 use Rattle.lowering_locals.proofs.SetPlaces.{WithSets, IsFine, IsPlace, HasFunclets, has_front, has_back, whole_body}
 use Rattle.lowering_locals.proofs.SetParts.{statements_are_set}
+use Rattle.lowering_locals.proofs.FunctionSets.{first_below, base_seen, are_brought, open_sets_long, opens_lead, end_long, two_at_least, end_fine}
 use Rattle.lowering_follows.proofs.SoundStatements.{inside_function}
 
 get_is : {X : Type 0} (xs : List X) (k : ℕ) (x other : X) → slice_get xs k ≡ Some x
@@ -53,7 +54,7 @@ module _ (program : Program) where
     body : (b : LinearBody) → body_of linear (FunctionBody k) ≡ Some b
         → IsSetBody linear sets (FunctionBody k) b
     begun : (f : LinearFunction) → slice_get linear.functions k ≡ Some f
-        → IsPart (sets (FunctionBody k) 0) (first_seen f.parameters)
+        → IsPart (sets (FunctionBody k) 0) (first_seen f.parameters None)
 
   abbrev Fine : ℕ → Type 0
   Fine k = IsFine with_sets k
@@ -68,78 +69,110 @@ module _ (program : Program) where
       → function_within fn ≡ true → slice_get linear.functions number ≡ Some (lowered_function fn)
       → lists (FunctionBody number) ≡ function_sets fn
       → Has j (lowered_funclets number fn) (statements_funclet_sets (own_locals fn)
-      (parameters_seen fn) fn.body) (funclets fn.body)
+      (function_seen fn) fn.body) (funclets fn.body)
       → IsGood number × Range Fine j (j + length (funclets fn.body))
   function_is_at fn number j ok w there recorded f =
       let name = FunctionBody number in
       let own = own_locals fn in
-      let seen = parameters_seen fn in
-      let size = statements_size fn.body in
+      let parameters = length fn.parameters in
+      let d = fn.data_frame in
+      let before = parameters_seen fn in
+      let seen = function_seen fn in
       let scope = scope_of fn in
       let body = (lowered_function fn).body in
-      let ll = statements_sets own seen fn.body in
-      let list = function_sets fn in
       let at = weight fn in
-      let first = replicate at seen in
-      let code = statements_code scope fn.body at in
+      let begin = body_start fn in
+      let end = begin + statements_size fn.body in
+      let first = replicate at before in
+      let opens = open_sets parameters d in
+      let ll = statements_sets own seen fn.body in
+      let ends = replicate (end_size d) seen in
+      let list = function_sets fn in
+      let code = statements_code scope fn.body begin in
       let long = statements_long fn.body own seen in
-      let many = length-replicate at seen in
-      let both = length-append first ll in
+      let many = length-replicate at before in
+      let opens_many = open_sets_long parameters d in
+      let ends_many = length-replicate (end_size d) seen in
       let lf = length_first fn in
-      let lc = statements_length scope fn.body at in
-      let lb = length-append (first_separators fn) code in
+      let lo = open_length d in
+      let lc = statements_length scope fn.body begin in
+      let le = end_long d in
       let ls = length-append fn.parameters fn.locals in
-      let end = at + size in
+      let two = two_at_least d in
       let whole : IsSegmentAt (lists name) 0 list = subst
       (λ (l : List SeenNames). IsSegmentAt l 0 list) (sym recorded) (whole_is_at list) in
-      let tail = back (lists name) 0 end (first ++ ll) (replicate 2 seen) (omega arith) whole in
-      let here = head_recorded (lists name) end seen (seen ∷ []) tail in
-      let here_exit = head_recorded (lists name) (end + 1) seen [] tail.1 in
-      let begins_part = front (lists name) 0 (first ++ ll) (replicate 2 seen) whole in
-      let front_part = back (lists name) 0 at first ll (omega arith) begins_part in
-      let recorded_end = is_same (sets name end) seen here in
-      let start = begins (lists name) at end ll seen seen front_part
+      let from_open = back (lists name) 0 at first (opens ++ (ll ++ ends)) (omega arith) whole in
+      let from_body = back (lists name) at begin opens (ll ++ ends) (omega arith) from_open in
+      let from_end = back (lists name) begin end ll ends (omega arith) from_body in
+      let sum = length-append first (opens ++ (ll ++ ends)) in
+      let sum_open = length-append opens (ll ++ ends) in
+      let sum_body = length-append ll ends in
+      let length_is = ap (λ (l : List SeenNames). length l) recorded in
+      let none = past_end (lists name) (end + end_size d) (omega arith) in
+      let ended : IsPart (sets name (end + end_size d)) seen =
+      λ x h. absurd (differ (sym (ap (λ (s : SeenNames). s x) none) ∙ h)) in
+      let even_end = even_list (lists name) seen (end_size d) end (end + end_size d) refl from_end
+      ended in
+      let recorded_end = is_same (sets name end) seen (even_end.inside end (omega arith)
+      (omega arith)) in
+      let is_there = front (lists name) begin ll ends from_body in
+      let start = begins (lists name) begin end ll seen seen is_there
       (statements_first fn.body own seen seen (itself seen)) (omega arith) recorded_end in
-      let few : length fn.parameters ≤ all_locals fn = omega arith in
+      let data_ok = both_right _ _ ok in
+      let below : (x : ℕ) → seen x ≡ true → x < all_locals fn =
+      λ x h. (let lt = first_below parameters fn.locals d data_ok x h in omega arith) in
+      let base = base_seen parameters d in
+      let room : locals_at linear name ≡ all_locals fn = ap function_locals there in
       let place : IsPlace with_sets name (owner number fn) scope seen
       seen = record {
         owned = refl;
         room = ap function_locals there;
         around = record {
           part = itself seen;
-          below = λ x h. (let lt = is_parameter (length fn.parameters) x h in omega arith);
+          below = below;
           code = tt;
           flag = tt;
+          base = base;
         };
-        exit = is_same (sets name (end + 1)) seen here_exit;
+        exit = is_same (sets name (end + 1)) seen
+            (even_end.inside (end + 1) (omega arith) (omega arith));
         loop_end = tt;
         loop_next = tt;
         leave = tt;
       } in
       let x = statements_are_set with_sets fn.body name (owner number fn)
-      (inside_function program fn) scope seen seen at j place (omega arith) (omega arith)
-      (both_left _ _ (both_left _ _ ok)) w front_part recorded_end f in
-      let even = even_list (lists name) seen at 0 at (omega arith)
-      (front (lists name) 0 first ll begins_part) start in
-      let begun = straight linear sets name (all_locals fn) (ap function_locals there) seen 0 at
+      (inside_function program fn) scope seen seen begin j place (omega arith) (omega arith)
+      (both_left _ _ (both_left _ _ (both_left _ _ ok))) w is_there recorded_end f in
+      let opened = opens_lead linear lists name (all_locals fn) room parameters d at below
+      (are_brought parameters fn.locals d data_ok)
+      (front (lists name) at opens (ll ++ ends) from_open) start in
+      let even = even_list (lists name) before at 0 at (omega arith)
+      (front (lists name) 0 first (opens ++ (ll ++ ends)) whole) opened.1 in
+      let begun = straight linear sets name (all_locals fn) room before 0 at
       even 0 (first_separators fn) (omega arith) (omega arith)
-      (first_every (FineIn (all_locals fn) 0 at seen) tt fn) in
-      let next = within (sets name (end + 1)) seen (sets name end)
-      (is_same (sets name (end + 1)) seen here_exit) (is_same_back (sets name end) seen here) in
-      let leads = both_lead linear sets name 0 end (first_separators fn ++ code) function_end
-      (omega arith) (both_lead linear sets name 0 at (first_separators fn) code (omega arith) begun
-      x.leads) ((tt, tt, next), (tt, tt)) in
+      (first_every (FineIn (all_locals fn) 0 at before) tt fn) in
+      let closed = straight linear sets name (all_locals fn) room seen end (end + end_size d)
+      even_end end (function_end fn) (omega arith) (omega arith)
+      (end_fine (all_locals fn) end (end + end_size d) d seen base below) in
+      let leads = both_lead linear sets name 0 at (first_separators fn)
+      (open_code d ++ (code ++ function_end fn)) (omega arith) begun
+      (both_lead linear sets name at begin (open_code d) (code ++ function_end fn) (omega arith)
+      opened.0 (both_lead linear sets name begin end code (function_end fn) (omega arith) x.leads
+      closed)) in
       let set : IsSetBody linear sets name body = whole_body with_sets name
       body leads x.regions in (
         record {
           body = λ b e. subst (IsSetBody linear sets name)
               (same_it body b (sym (ap function_body there) ∙ e)) set;
           begun = λ g e. subst (λ (h : LinearFunction). IsPart (sets name 0)
-              (first_seen h.parameters)) (same_it (lowered_function fn) g (sym there ∙ e))
-              (is_same (sets name 0) seen (even.inside 0 (omega arith) (omega arith)));
+              (first_seen h.parameters None)) (same_it (lowered_function fn) g (sym there ∙ e))
+              (is_same (sets name 0) before (even.inside 0 (omega arith) (omega arith)));
         },
         x.funclets,
       )
+    where
+      differ : false ≡ true → ⊥
+      differ e = cc
 
   functions_are_at : (fs : List Function) (number j : ℕ)
       → functions_sound program.functions fs ≡ true → functions_within fs ≡ true
@@ -153,12 +186,12 @@ module _ (program : Program) where
   )
   functions_are_at (fn ∷ fs) number j ok w g l f =
       let own = lowered_funclets number fn in
-      let own_sets = statements_funclet_sets (own_locals fn) (parameters_seen fn) fn.body in
+      let own_sets = statements_funclet_sets (own_locals fn) (function_seen fn) fn.body in
       let numbers = funclets fn.body in
       let rest = all_funclets (number + 1) fs in
       let mid = j + length numbers in
       let count = statements_count (owner number fn) (scope_of fn).names fn.body in
-      let many = statements_many fn.body (own_locals fn) (parameters_seen fn) in
+      let many = statements_many fn.body (own_locals fn) (function_seen fn) in
       let first : Has j own own_sets numbers = has_front with_sets j own
       rest own_sets (all_funclet_sets fs) numbers (sound.all_funclets fs) f in
       let after : Has mid rest (all_funclet_sets fs) (sound.all_funclets fs) =

@@ -4,8 +4,8 @@ use Rattle.std.proofs.lemmas.Bool.{cases_lt}
 use Rattle.std.proofs.lemmas.List.{length-replicate}
 use Rattle.std.specs.List.{AllByRecursion}
 use Rattle.std.specs.Prelude.{replicate, Option, Some, None}
-use Rattle.lowering_locals.specs.Words.{Expression, funclets_in, funclets, filter_funclet, Declared, Filter, Always, Funclet, Statement, Declare, Block, Evaluate, If, IfElse, For, DoWhile, Return, Break, Continue, Leave, TryExcept, TryFinally, Statements, Empty, Then, expression_size, discarded_size, condition_size, returned_size, declared_size, all_declared_size, statement_size, statements_size, SeenNames, with_local, IsPart, after_declared, after_all_declared, after_statement, initialiser_size, declared_sets, all_declared_sets, statement_sets, statements_sets, filter_sets, finally_sets, statement_funclet_sets, statements_funclet_sets, set_in}
-use Rattle.lowering_locals.proofs.Lemmas.{IsSegmentAt, sees_before, itself, within, all_append}
+use Rattle.lowering_locals.specs.Words.{Expression, StackedVariable, funclets_in, funclets, filter_funclet, Declared, Filter, Always, Funclet, Statement, Declare, Block, Evaluate, If, IfElse, For, DoWhile, Return, Break, Continue, Leave, TryExcept, TryFinally, Statements, Empty, Then, expression_size, discarded_size, condition_size, returned_size, initialiser_size, stacked_size, declared_at_size, declared_size, all_declared_size, statement_size, statements_size, SeenNames, with_local, with_declared, IsPart, after_declared, after_all_declared, after_statement, stacked_sets, declared_at_sets, declared_sets, all_declared_sets, statement_sets, statements_sets, filter_sets, finally_sets, statement_funclet_sets, statements_funclet_sets, set_in}
+use Rattle.lowering_locals.proofs.Lemmas.{IsSegmentAt, sees_before, after_before, itself, within, all_append}
 use Rattle.lowering_locals.proofs.StraightCode.{is_same, is_same_back, head_recorded}
 
 -- ---- lengths
@@ -13,27 +13,36 @@ use Rattle.lowering_locals.proofs.StraightCode.{is_same, is_same_back, head_reco
 two : {X : Type 0} (a b : List X) (m n : ℕ) → length a ≡ m → length b ≡ n → length (a ++ b) ≡ m + n
 two a b m n p q = let l = length-append a b in omega arith
 
-pub initialiser_is : (o : Option Expression) → initialiser_size o
-    ≡ elim o [ None ↦ 0 | Some e ↦ expression_size e + 2 ]
-initialiser_is None = refl
-initialiser_is (Some e) = refl
+stacked_long : (n : Option ℕ) (value : Option Expression) (free : ℕ) (seen : SeenNames)
+    → length (stacked_sets free seen n value) ≡ stacked_size n value
+stacked_long None value free seen =
+    let l = length-replicate (suc (suc (suc (initialiser_size value)))) seen in
+    omega arith
+stacked_long (Some n) value free seen = refl
 
-pub declared_long : (d : Declared) (seen : SeenNames)
-    → length (declared_sets seen d) ≡ declared_size d
-declared_long d seen = let l = length-replicate (initialiser_size d.value)
-    (after_declared seen d) in let i = initialiser_is d.value in omega arith
+declared_at_long : (v : Option StackedVariable) (x : ℕ) (value : Option Expression) (free : ℕ)
+    (seen : SeenNames) → length (declared_at_sets free seen v x value) ≡ declared_at_size v value
+declared_at_long None x value free seen =
+    let l = length-replicate (initialiser_size value) (with_local x seen) in
+    omega arith
+declared_at_long (Some v) x value free seen = stacked_long v.elements value free seen
 
-pub all_declared_long : (ds : List Declared) (seen : SeenNames)
-    → length (all_declared_sets seen ds) ≡ all_declared_size ds
-all_declared_long [] seen = refl
-all_declared_long (d ∷ ds) seen =
-    two (declared_sets seen d) (all_declared_sets (after_declared seen d) ds) (declared_size d)
-    (all_declared_size ds) (declared_long d seen) (all_declared_long ds (after_declared seen d))
+pub declared_long : (d : Declared) (free : ℕ) (seen : SeenNames)
+    → length (declared_sets free seen d) ≡ declared_size d
+declared_long d free seen = declared_at_long d.stacked d.local d.value free seen
+
+pub all_declared_long : (ds : List Declared) (free : ℕ) (seen : SeenNames)
+    → length (all_declared_sets free seen ds) ≡ all_declared_size ds
+all_declared_long [] free seen = refl
+all_declared_long (d ∷ ds) free seen =
+    two (declared_sets free seen d) (all_declared_sets free (after_declared seen d) ds)
+    (declared_size d) (all_declared_size ds) (declared_long d free seen)
+    (all_declared_long ds free (after_declared seen d))
 
 mutual
   pub statement_long : (s : Statement) (free : ℕ) (seen : SeenNames)
       → length (statement_sets free seen s) ≡ statement_size s
-  statement_long (Declare d) free seen = declared_long d seen
+  statement_long (Declare d) free seen = declared_long d free seen
   statement_long (Block ss) free seen = statements_long ss free seen
   statement_long (Evaluate e) free seen = length-replicate (discarded_size e) seen
   statement_long (If c s) free seen =
@@ -54,11 +63,11 @@ mutual
       let tests = replicate (discarded_size first + condition_size c) inner in
       let body = statement_sets free inner s in
       let again = replicate (suc (discarded_size next + 2)) inner in
-      let l = all_declared_long ds seen in
+      let l = all_declared_long ds free seen in
       let m = length-replicate (discarded_size first + condition_size c) inner in
       let n = statement_long s free inner in
       let k = length-replicate (suc (discarded_size next + 2)) inner in
-      let a = length-append (all_declared_sets seen ds) (tests ++ (body ++ again)) in
+      let a = length-append (all_declared_sets free seen ds) (tests ++ (body ++ again)) in
       let b = length-append tests (body ++ again) in
       let d = length-append body again in
       omega arith
@@ -72,11 +81,11 @@ mutual
   statement_long Continue free seen = refl
   statement_long Leave free seen = refl
   statement_long (TryExcept body filter block) free seen =
-      let rest = statements_sets (free + 1) (with_local free seen) block in
-      let l = statements_long block (free + 1) (with_local free seen) in
+      let more = with_local free seen in
+      let rest = statements_sets (free + 1) more block in
+      let l = statements_long block (free + 1) more in
       let m = statements_long body free seen in
-      let a = length-append (statements_sets free seen body) (replicate 2 seen ++ rest) in
-      let b = length-append (replicate 2 seen) rest in
+      let a = length-append (statements_sets free seen body) (seen ∷ (seen ∷ (more ∷ rest))) in
       omega arith
   statement_long (TryFinally body k last) free seen = two (statements_sets free seen body)
       (replicate 3 seen) (statements_size body) 3 (statements_long body free seen) refl
@@ -145,7 +154,7 @@ mutual
 -- ---- what is declared is seen beside what was
 
 pub grows : (s : Statement) (seen : SeenNames) → IsPart seen (after_statement seen s)
-grows (Declare d) seen = sees_before seen d.local
+grows (Declare d) seen = after_before seen d
 grows (Block ss) seen = itself seen
 grows (Evaluate e) seen = itself seen
 grows (If c s) seen = itself seen
@@ -162,7 +171,7 @@ grows (TryFinally body k last) seen = itself seen
 pub all_grow : (ds : List Declared) (seen : SeenNames) → IsPart seen (after_all_declared seen ds)
 all_grow [] seen = itself seen
 all_grow (d ∷ ds) seen = within seen (after_declared seen d)
-    (after_all_declared (after_declared seen d) ds) (sees_before seen d.local)
+    (after_all_declared (after_declared seen d) ds) (after_before seen d)
     (all_grow ds (after_declared seen d))
 
 -- ---- where a part begins, no more is recorded than is seen before it
@@ -186,15 +195,33 @@ pub replicate_first : (n : ℕ) (seen : SeenNames) → IsFirst seen seen (replic
 replicate_first zero seen = itself seen
 replicate_first (suc n) seen = itself seen
 
-pub all_declared_first : (ds : List Declared) (seen : SeenNames)
-    → IsFirst seen (after_all_declared seen ds) (all_declared_sets seen ds)
-all_declared_first [] seen = itself seen
-all_declared_first (d ∷ ds) seen = itself seen
+stacked_first : (n : Option ℕ) (value : Option Expression) (free : ℕ) (seen : SeenNames)
+    → IsFirst seen seen (stacked_sets free seen n value)
+stacked_first None value free seen = itself seen
+stacked_first (Some n) value free seen = itself seen
+
+declared_at_first : (v : Option StackedVariable) (x : ℕ) (value : Option Expression) (free : ℕ)
+    (seen : SeenNames)
+    → IsFirst seen (with_declared v x seen) (declared_at_sets free seen v x value)
+declared_at_first None x value free seen = itself seen
+declared_at_first (Some v) x value free seen = stacked_first v.elements value free seen
+
+declared_first : (d : Declared) (free : ℕ) (seen : SeenNames)
+    → IsFirst seen (after_declared seen d) (declared_sets free seen d)
+declared_first d free seen = declared_at_first d.stacked d.local d.value free seen
+
+pub all_declared_first : (ds : List Declared) (free : ℕ) (seen : SeenNames)
+    → IsFirst seen (after_all_declared seen ds) (all_declared_sets free seen ds)
+all_declared_first [] free seen = itself seen
+all_declared_first (d ∷ ds) free seen =
+    first_join seen (after_declared seen d) (after_all_declared (after_declared seen d) ds)
+    (declared_sets free seen d) (all_declared_sets free (after_declared seen d) ds)
+    (declared_first d free seen) (all_declared_first ds free (after_declared seen d))
 
 mutual
   pub statement_first : (s : Statement) (free : ℕ) (seen : SeenNames)
       → IsFirst seen (after_statement seen s) (statement_sets free seen s)
-  statement_first (Declare d) free seen = itself seen
+  statement_first (Declare d) free seen = declared_first d free seen
   statement_first (Block ss) free seen = statements_first ss free seen seen (itself seen)
   statement_first (Evaluate e) free seen = replicate_first (discarded_size e) seen
   statement_first (If c s) free seen = itself seen
@@ -204,8 +231,8 @@ mutual
       let tests = replicate (discarded_size first + condition_size c) inner in
       let body = statement_sets free inner s in
       let again = replicate (suc (discarded_size next + 2)) inner in
-      first_join seen inner seen (all_declared_sets seen ds) (tests ++ (body ++ again))
-      (all_declared_first ds seen)
+      first_join seen inner seen (all_declared_sets free seen ds) (tests ++ (body ++ again))
+      (all_declared_first ds free seen)
       (first_join inner inner seen tests (body ++ again)
       (replicate_first (discarded_size first + condition_size c) inner)
       (first_join inner (after_statement inner s) seen body again (statement_first s free inner)
@@ -219,7 +246,8 @@ mutual
   statement_first Leave free seen = itself seen
   statement_first (TryExcept body filter block) free seen =
       first_join seen seen seen (statements_sets free seen body)
-      (replicate 2 seen ++ statements_sets (free + 1) (with_local free seen) block)
+      (seen ∷ (seen ∷ (with_local free seen
+      ∷ statements_sets (free + 1) (with_local free seen) block)))
       (statements_first body free seen seen (itself seen)) (itself seen)
   statement_first (TryFinally body k last) free seen = first_join seen seen seen
       (statements_sets free seen body) (replicate 3 seen)
@@ -255,27 +283,41 @@ replicate_above : (n : ℕ) (base seen : SeenNames) → IsPart base seen → Abo
 replicate_above zero base seen p = tt
 replicate_above (suc n) base seen p = (p, replicate_above n base seen p)
 
-declared_above : (d : Declared) (base seen : SeenNames) → IsPart base seen
-    → Above base (declared_sets seen d)
-declared_above d base seen p = (
-  p,
-  replicate_above (initialiser_size d.value) base
-      (after_declared seen d) (within base seen (after_declared seen d) p
-      (sees_before seen d.local)),
-)
+more_above : (x n : ℕ) (base seen : SeenNames) → IsPart base seen
+    → Above base (seen ∷ replicate n (with_local x seen))
+more_above x n base seen p =
+    let more = with_local x seen in
+    (p, replicate_above n base more (within base seen more p (sees_before seen x)))
 
-all_declared_above : (ds : List Declared) (base seen : SeenNames) → IsPart base seen
-    → Above base (all_declared_sets seen ds)
-all_declared_above [] base seen p = tt
-all_declared_above (d ∷ ds) base seen p =
-    joined base (declared_sets seen d) (all_declared_sets (after_declared seen d) ds)
-    (declared_above d base seen p) (all_declared_above ds base (after_declared seen d)
-    (within base seen (after_declared seen d) p (sees_before seen d.local)))
+stacked_above : (n : Option ℕ) (value : Option Expression) (free : ℕ) (base seen : SeenNames)
+    → IsPart base seen → Above base (stacked_sets free seen n value)
+stacked_above None value free base seen p =
+    replicate_above (suc (suc (suc (initialiser_size value)))) base seen p
+stacked_above (Some n) value free base seen p = more_above free 4 base seen p
+
+declared_at_above : (v : Option StackedVariable) (x : ℕ) (value : Option Expression) (free : ℕ)
+    (base seen : SeenNames) → IsPart base seen → Above base (declared_at_sets free seen v x value)
+declared_at_above None x value free base seen p =
+    more_above x (initialiser_size value) base seen p
+declared_at_above (Some v) x value free base seen p =
+    stacked_above v.elements value free base seen p
+
+declared_above : (d : Declared) (free : ℕ) (base seen : SeenNames) → IsPart base seen
+    → Above base (declared_sets free seen d)
+declared_above d free base seen p = declared_at_above d.stacked d.local d.value free base seen p
+
+all_declared_above : (ds : List Declared) (free : ℕ) (base seen : SeenNames) → IsPart base seen
+    → Above base (all_declared_sets free seen ds)
+all_declared_above [] free base seen p = tt
+all_declared_above (d ∷ ds) free base seen p =
+    joined base (declared_sets free seen d) (all_declared_sets free (after_declared seen d) ds)
+    (declared_above d free base seen p) (all_declared_above ds free base (after_declared seen d)
+    (within base seen (after_declared seen d) p (after_before seen d)))
 
 mutual
   pub statement_above : (s : Statement) (free : ℕ) (base seen : SeenNames) → IsPart base seen
       → Above base (statement_sets free seen s)
-  statement_above (Declare d) free base seen p = declared_above d base seen p
+  statement_above (Declare d) free base seen p = declared_above d free base seen p
   statement_above (Block ss) free base seen p = statements_above ss free base seen p
   statement_above (Evaluate e) free base seen p = replicate_above (discarded_size e) base seen p
   statement_above (If c s) free base seen p = joined base (replicate (suc (expression_size c)) seen)
@@ -297,8 +339,8 @@ mutual
       let body = statement_sets free inner s in
       let again = replicate (suc (discarded_size next + 2)) inner in
       let q = within base seen inner p (all_grow ds seen) in
-      joined base (all_declared_sets seen ds) (tests ++ (body ++ again))
-      (all_declared_above ds base seen p)
+      joined base (all_declared_sets free seen ds) (tests ++ (body ++ again))
+      (all_declared_above ds free base seen p)
       (joined base tests (body ++ again) (replicate_above (discarded_size first + condition_size c)
       base inner q)
       (joined base body again (statement_above s free base inner q)
@@ -311,12 +353,12 @@ mutual
   statement_above Continue free base seen p = replicate_above 2 base seen p
   statement_above Leave free base seen p = replicate_above 1 base seen p
   statement_above (TryExcept body filter block) free base seen p =
-      let rest = statements_sets (free + 1) (with_local free seen) block in
-      joined base (statements_sets free seen body) (replicate 2 seen ++ rest)
+      let more = with_local free seen in
+      let q = within base seen more p (sees_before seen free) in
+      joined base (statements_sets free seen body)
+      (seen ∷ (seen ∷ (more ∷ statements_sets (free + 1) more block)))
       (statements_above body free base seen p)
-      (joined base (replicate 2 seen) rest (replicate_above 2 base seen p)
-      (statements_above block (free + 1) base (with_local free seen)
-      (within base seen (with_local free seen) p (sees_before seen free))))
+      (p, (p, (q, statements_above block (free + 1) base more q)))
   statement_above (TryFinally body k last) free base seen p = joined base
       (statements_sets free seen body) (replicate 3 seen) (statements_above body free base seen p)
       (replicate_above 3 base seen p)

@@ -2,7 +2,7 @@
 -- its regions guard no more, and so it is in its filters and `__finally` blocks.
 use Rattle.std.proofs.Common.{◌≡◌, ℕ, ◌+◌, ◌-◌, ◌<◌, ◌≤◌, [], ◌∷◌, length, refl, subst, arith}
 use Rattle.std.specs.Prelude.{true, false}
-use Rattle.lowering_locals.specs.Words.{Inside, funclets_in, funclets, filter_funclet, statement_sound, statements_sound, Statement, Declare, Block, Evaluate, If, IfElse, For, DoWhile, Return, Break, Continue, Leave, TryExcept, TryFinally, Statements, Empty, Then, BodyName, FuncletBody, expression_size, discarded_size, statement_size, statements_size, statement_notes, statements_notes, Owner, LoweringContext, in_loop, in_try, in_except, in_guarded, finally_scope, statement_code, statements_code, SeenNames, with_local, after_all_declared, after_statement, statement_within, statements_within, statement_sets, statements_sets, statement_funclet_sets, statements_funclet_sets, except_kind, region, statement_regions, statements_regions, in_funclet, statement_funclets, statements_funclets}
+use Rattle.lowering_locals.specs.Words.{Inside, funclets_in, funclets, filter_funclet, statement_sound, statements_sound, Statement, Declare, Block, Evaluate, If, IfElse, For, DoWhile, Return, Break, Continue, Leave, TryExcept, TryFinally, Statements, Empty, Then, BodyName, FuncletBody, expression_size, discarded_size, statement_size, statements_size, declared_notes, statement_notes, statements_notes, Owner, LoweringContext, in_loop, in_try, in_except, in_guarded, finally_scope, statement_code, statements_code, SeenNames, with_local, after_all_declared, after_statement, statement_within, statements_within, statement_sets, statements_sets, statement_funclet_sets, statements_funclet_sets, except_kind, region, statement_regions, statements_regions, in_funclet, statement_funclets, statements_funclets}
 use Rattle.linear_code.specs.declared.program.RegionKind.TheVariants as kinds
 use Rattle.lowering_locals.proofs.Lemmas.{statement_count, IsSegmentAt, both_left, both_right, sees_before, within, all_append}
 use Rattle.lowering_locals.proofs.StraightCode.{is_same, even_list}
@@ -33,7 +33,7 @@ module _ (program : WithSets) where
     statement_is_set (Declare d) name owner i scope before seen at j p fits notes ok w h end f =
         plain program name at _ j (declared_leads linear lists name owner.locals
         (locals_are program name owner scope before seen p) scope.names i.scope fits d before
-        seen at p.around ok w h end)
+        seen at notes p.around ok w h end)
     statement_is_set (Block ss) name owner i scope before seen at j p fits notes ok w h end f =
         statements_are_set ss name owner i scope before seen at j p fits notes ok w h end f
     statement_is_set (Evaluate e) name owner i scope before seen at j p fits notes ok w h end f =
@@ -79,6 +79,8 @@ module _ (program : WithSets) where
         }
     statement_is_set (For ds first c next s) name owner i scope before seen at j p fits notes ok w h
         end f =
+        let notes_ds : scope.names.free + declared_notes ds ≤ owner.locals = omega arith in
+        let notes_s : scope.names.free + statement_notes s ≤ owner.locals = omega arith in
         let ok_ds = both_left _ _ (both_left _ _ (both_left _ _ (both_left _ _ ok))) in
         let w1 = both_left _ _ w in
         let w2 = both_left _ _ w1 in
@@ -96,12 +98,12 @@ module _ (program : WithSets) where
         let out = again + 1 + discarded_size next + 1 in
         let q = loops.for_parts linear lists name owner.locals
         (locals_are program name owner scope before seen p) scope before seen p.around i.scope
-        ds first c next s at fits ok_ds (both_left _ _ w3) (both_right _ _ w3)
+        ds first c next s at notes_ds fits ok_ds (both_left _ _ w3) (both_right _ _ w3)
         (both_right _ _ w2) (both_right _ _ w1) h end in
         let x = statement_is_set s name owner (record i { loop = true })
         (in_loop out again scope) outer inner start j
         (loop_place program name owner scope outer inner out again q.leaves q.next more) fits
-        notes (both_right _ _ ok) (both_right _ _ w) q.is_there q.end f in
+        notes_s (both_right _ _ ok) (both_right _ _ w) q.is_there q.end f in
         record { leads = q.leads x.leads; regions = x.regions; funclets = x.funclets }
     statement_is_set (DoWhile s c) name owner i scope before seen at j p fits notes ok w h end f =
         let again = at + statement_size s in
@@ -133,7 +135,7 @@ module _ (program : WithSets) where
         let more = with_local free seen in
         let skip = at + statements_size body in
         let target = skip + 1 in
-        let out = target + 1 + statements_size block in
+        let out = target + 2 + statements_size block in
         let room : free < owner.locals = omega arith in
         let notes_body : free + statements_notes body ≤ owner.locals = omega arith in
         let notes_block : free + 1 + statements_notes block ≤ owner.locals = omega arith in
@@ -154,7 +156,7 @@ module _ (program : WithSets) where
         q.target in
         let z = statements_are_set block name owner
         (record i { scope = record i.scope { code = true } }) (in_except scope) before more
-        (target + 1) (j + nb + nf) (except_place program name owner scope before seen room p) fits
+        (target + 2) (j + nb + nf) (except_place program name owner scope before seen room p) fits
         notes_block (both_right _ _ ok) (both_right _ _ w)
         q.block_is_at (within (sets program name out) seen more q.leaves (sees_before seen free))
         fs.of_block in
@@ -162,7 +164,7 @@ module _ (program : WithSets) where
           leads = q.leads x.leads z.leads;
           regions = all_append (IsGuarded program name) (statements_regions body at)
               (region at target (except_kind filter target)
-              ∷ statements_regions block (target + 1)) x.regions (y.0, z.regions);
+              ∷ statements_regions block (target + 2)) x.regions (y.0, z.regions);
           funclets = three_ranges program j (funclets body) (filter_funclet filter)
               (funclets block) x.funclets y.1 z.funclets;
         }
@@ -196,7 +198,7 @@ module _ (program : WithSets) where
           loop = false;
           body = false;
           function = false;
-        }) (finally_scope names) before more 0 (mid + 1)
+        }) (finally_scope names) before more 3 (mid + 1)
         b.place fits notes_last (both_right _ _ ok)
         (both_right _ _ w) b.is_there b.end fs.of_last in
         let fine : IsFine program mid = subst (IsFine program) fs.same (b.fine y.leads y.regions) in

@@ -7,7 +7,7 @@ use Rattle.lowering_locals.specs.Words.{Instruction, Region, LinearProgram, Line
 use Rattle.lowering_locals.proofs.Lemmas.{Range, no_part, IsSegmentAt, front, back, same_it, all_map, sees_own, sees_before, within, count_front, count_back}
 use Rattle.lowering_locals.proofs.StraightCode.{AllLead, lead_at}
 use Rattle.lowering_locals.proofs.ExpressionSets.{IsAround}
-use Rattle.lowering_locals.proofs.StatementPieces.{flag_kept, below_with, WayIn, LabelIn}
+use Rattle.lowering_locals.proofs.StatementPieces.{flag_kept, base_kept, below_with, WayIn, LabelIn}
 use Rattle.lowering_locals.proofs.Around.{way_more, label_more, unwound_in}
 
 -- a linear program with the sets of its bodies, those of the funclets by their numbers
@@ -173,6 +173,7 @@ module _ (program : WithSets) where
           code = sees_own seen free;
           flag =
               flag_kept seen more scope.names.abnormal g p.around.flag;
+          base = base_kept seen more scope.names.part g p.around.base;
         };
         exit = way_more linear lists name seen more scope.exit g p.exit;
         loop_end = way_more linear lists name seen more scope.loop_end g p.loop_end;

@@ -4,7 +4,7 @@ use Rattle.std.proofs.Common.{◌≡◌, ℕ, ◌+◌, ◌-◌, List, [], ◌∷
 use Rattle.std.proofs.lemmas.List.{length-drop, length-replicate}
 use Rattle.std.specs.Prelude.{Bool, true, false, nat_eq, take, drop, get_or, replicate, slice_get, if◌then◌else◌, Option, Some, None}
 use Rattle.std.specs.Prelude.{is_some}
-use Rattle.linear_code.specs.Program.{weight}
+use Rattle.linear_code.specs.Program.{depth_weight}
 use Rattle.lowering_locals.specs.Words.{Event, W32, W64, signed, BuiltIn, Put, Protect, RaiseException, Walk, Operation, OperationResult, Gives, Raises, Undefined, performed, is_reserved, of_test, field_of, raised, no_exception, Slot, Local, Temporary, Instruction, LinearProgram, LinearFunction, FunctionBody, Item, Waits, AfterCall, SameOperation, Store, Configuration, Seen, Finished, Stuck, Next, pick, with_some, deeper, read, with_temporary, with_temporaries, last_temporaries, set_local, at_label, forth, with_last, is_constant, operand, written, computed, tested, waiting, begin_function, count_of, built_in, end_body, not_landed, act, Marks, flag_set, with_mark, first_marks, outcome_of, local_in, local_given, marks_left, next_marks, AreActivationsAlike, AreLocalsAlike, IsSet, AreOperandsSet, ReadsSet}
 use Rattle.seh_num.specs.declared.event.Event.TheVariants as events
 use Rattle.flat_memory.specs.Memory.{protected, rights_asked}
@@ -187,8 +187,9 @@ module _ (program : LinearProgram) (marks : Marks) (c : Configuration) (ys : Lis
       Move (begin_function f function arguments c.frame.held below c.store c.events) acts
       (called_alike f first count function arguments zs below e g
       (length-replicate (function.body.locals - function.parameters) 0)) (λ next. refl)
-      (λ next. ap (λ n. next (begun_in n f (c.frame.held + function.surplus) below
-      (over_store c.store acts) c.events))
+      (λ next. ap (λ n. next (begun_in n f
+      (c.frame.held + (function.surplus + function.data_surplus)) below (over_store c.store acts)
+      c.events))
       (as_long marks c.store.activations ys h))
 
   -- ---- reads
@@ -269,7 +270,7 @@ module _ (program : LinearProgram) (marks : Marks) (c : Configuration) (ys : Lis
       (Waits (waiting c first).frame ∷ c.below) store c.events in
       let vs = last_temporaries c.frame.temporaries first count in
       let called : Store → Next → List ℕ → LinearFunction
-      → Seen = λ store next vs function. deeper (weight function) c.frame.held store c.events
+      → Seen = λ store next vs function. deeper (depth_weight function) c.frame.held store c.events
       (next (begin function vs store)) in
       let found : Store → Next → List ℕ → Seen = λ store next vs. with_some c.events
       (slice_get program.functions f) (called store next vs) in
@@ -278,7 +279,7 @@ module _ (program : LinearProgram) (marks : Marks) (c : Configuration) (ys : Lis
       some_both R c.events (slice_get program.functions f) (slice_get program.functions f)
       (λ next. called c.store next arguments)
       (λ next. called (over_store c.store ys) next arguments) refl (λ function g.
-      deeper_both R (weight function) c.frame.held c.store ys c.events
+      deeper_both R (depth_weight function) c.frame.held c.store ys c.events
       (λ next. next (begin function arguments c.store))
       (λ next. next (begin function arguments (over_store c.store ys)))
       (as_long marks c.store.activations ys h)

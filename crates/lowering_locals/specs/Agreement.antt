@@ -5,7 +5,7 @@ use Rattle.std.specs.List.{AllByRecursion}
 use Rattle.source_meaning.specs.declared.depth.TheConstants.{DEEPEST}
 use Rattle.linear_code.specs.declared.instruction.Instruction.{Instruction}
 use Rattle.linear_code.specs.declared.instruction.Instruction.TheVariants as instructions
-use Rattle.linear_code.specs.Program.{LinearProgram, LinearFunction, weight}
+use Rattle.linear_code.specs.Program.{LinearProgram, LinearFunction, depth_weight}
 use Rattle.linear_machine.specs.Frames.{Configuration, Seen, Next, last_temporaries}
 use Rattle.linear_machine.specs.Instructions.{act}
 use Rattle.linear_machine.specs.Run.{instruction_at, exec, start}
@@ -52,7 +52,7 @@ AgreementAtCall =
     → instruction_at program d ≡ Some (instructions.Call f first count)
     → last_temporaries d.frame.temporaries first count ≡ Some arguments
     → slice_get program.functions f ≡ Some function
-    → nat_lt DEEPEST (length d.store.activations + d.frame.held + weight function) ≡ false
+    → nat_lt DEEPEST (length d.store.activations + d.frame.held + depth_weight function) ≡ false
     → length values ≡ function.body.locals - function.parameters → AreSmall values
     → GoesToAgreeing program (instructions.Call f first count) c
     (called_with c d f first function arguments values)

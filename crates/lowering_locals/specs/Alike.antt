@@ -36,7 +36,7 @@ pub record AreAlike (marks : Marks) (c d : Configuration) : Type 0 where
   pub activations : AreActivationsAlike marks c.store.activations d.store.activations
 
 -- a function begins: its arguments are its first locals, and the others are these numbers; what it
--- weighs above 1 is held until it ends
+-- counts above 1 is held until it ends
 abbrev pub freshly : ℕ → LinearFunction → List ℕ → List ℕ → ℕ → List Item → Store → List Event
     → Configuration
 freshly f function arguments values held below store es = record {
@@ -46,7 +46,7 @@ freshly f function arguments values held below store es = record {
         next = 0;
         activation = length store.activations;
         exception = no_exception;
-        held = held + function.surplus;
+        held = held + (function.surplus + function.data_surplus);
         temporaries = [];
         landed = None;
       };

@@ -4,29 +4,37 @@
 use Rattle.std.specs.Prelude.{ℕ, suc, ◌+◌, false, List, [], ◌∷◌, ◌++◌, length, map, replicate, get_or, Option, Some, None}
 use Rattle.c_checked.specs.Expression.{Expression}
 use Rattle.c_checked.specs.Statement.{Declared, Filter, Always, Funclet, Statement, Declare, Block, Evaluate, If, IfElse, For, DoWhile, Return, Break, Continue, Leave, TryExcept, TryFinally, Statements, Empty, Then}
-use Rattle.c_checked.specs.Program.{Program, Function, weight}
+use Rattle.c_checked.specs.Program.{DataFrame, Program, Function, weight}
+use Rattle.c_checked.specs.declared.statement.StackedVariable.{StackedVariable}
 use Rattle.linear_machine.specs.Frames.{BodyName, FunctionBody, FuncletBody}
-use Rattle.lowering_sizes.specs.Sizes.{expression_size, discarded_size, condition_size, returned_size}
+use Rattle.lowering_sizes.specs.Sizes.{expression_size, initialiser_size, discarded_size, condition_size, returned_size}
 use Rattle.seh_ir.specs.Lowered.{own_locals}
 use Rattle.c_checked.specs.LocalScopes.{SeenNames, with_local, first_seen, after_declared, after_all_declared, after_statement}
 
 -- ---- statements, with the first free local
 
-abbrev pub initialiser_size : Option Expression → ℕ
-initialiser_size None = 0
-initialiser_size (Some e) = expression_size e + 2
+-- of a number on the data stack, and of an array there, whose rest stands in the first free local
+abbrev pub stacked_sets : ℕ → SeenNames → Option ℕ → Option Expression → List SeenNames
+stacked_sets free seen None value = replicate (suc (suc (suc (initialiser_size value)))) seen
+stacked_sets free seen (Some n) value = seen ∷ replicate 4 (with_local free seen)
 
-abbrev pub declared_sets : SeenNames → Declared → List SeenNames
-declared_sets seen d = seen ∷ replicate (initialiser_size d.value) (after_declared seen d)
+abbrev pub declared_at_sets : ℕ → SeenNames → Option StackedVariable → ℕ → Option Expression
+    → List SeenNames
+declared_at_sets free seen None x value =
+    seen ∷ replicate (initialiser_size value) (with_local x seen)
+declared_at_sets free seen (Some v) x value = stacked_sets free seen v.elements value
 
-abbrev pub all_declared_sets : SeenNames → List Declared → List SeenNames
-all_declared_sets seen [] = []
-all_declared_sets seen (d ∷ ds) =
-    declared_sets seen d ++ all_declared_sets (after_declared seen d) ds
+abbrev pub declared_sets : ℕ → SeenNames → Declared → List SeenNames
+declared_sets free seen d = declared_at_sets free seen d.stacked d.local d.value
+
+abbrev pub all_declared_sets : ℕ → SeenNames → List Declared → List SeenNames
+all_declared_sets free seen [] = []
+all_declared_sets free seen (d ∷ ds) =
+    declared_sets free seen d ++ all_declared_sets free (after_declared seen d) ds
 
 abbrev mutual
   pub statement_sets : ℕ → SeenNames → Statement → List SeenNames
-  statement_sets free seen (Declare d) = declared_sets seen d
+  statement_sets free seen (Declare d) = declared_sets free seen d
   statement_sets free seen (Block ss) = statements_sets free seen ss
   statement_sets free seen (Evaluate e) = replicate (discarded_size e) seen
   statement_sets free seen (If c s) =
@@ -36,7 +44,7 @@ abbrev mutual
       ++ (statement_sets free seen s ++ (seen ∷ (statement_sets free seen t ++ seen ∷ [])))
   statement_sets free seen (For ds first c next s) =
       let inner = after_all_declared seen ds in
-      all_declared_sets seen ds
+      all_declared_sets free seen ds
       ++ (replicate (discarded_size first + condition_size c) inner
       ++ (statement_sets free inner s ++ replicate (suc (discarded_size next + 2)) inner))
   statement_sets free seen (DoWhile s c) =
@@ -47,8 +55,9 @@ abbrev mutual
   statement_sets free seen Leave = replicate 1 seen
   -- an `__except` block sees its code
   statement_sets free seen (TryExcept body filter block) =
-      statements_sets free seen body ++ (replicate 2 seen
-      ++ statements_sets (free + 1) (with_local free seen) block)
+      let more = with_local free seen in
+      statements_sets free seen body
+      ++ (seen ∷ (seen ∷ (more ∷ statements_sets (free + 1) more block)))
   statement_sets free seen (TryFinally body k last) =
       statements_sets free seen body ++ replicate 3 seen
 
@@ -66,7 +75,8 @@ filter_sets seen (Funclet k e) = replicate (suc (expression_size e)) seen ∷ []
 -- a `__finally` block sees its flag
 abbrev pub finally_sets : ℕ → SeenNames → Statements → List SeenNames
 finally_sets free seen last =
-    statements_sets (free + 1) (with_local free seen) last ++ replicate 1 (with_local free seen)
+    let more = with_local free seen in
+    replicate 3 more ++ (statements_sets (free + 1) more last ++ replicate 1 more)
 
 abbrev mutual
   pub statement_funclet_sets : ℕ → SeenNames → Statement → List (List SeenNames)
@@ -99,20 +109,37 @@ abbrev mutual
 
 -- ---- programs
 
+-- at the separators that a function begins with its parameters are seen
 abbrev pub parameters_seen : Function → SeenNames
-parameters_seen f = first_seen (length f.parameters)
+parameters_seen f = first_seen (length f.parameters) None
 
--- at the separators that a function begins with, and at its end, its parameters are seen
+-- and in its body its base
+abbrev pub function_seen : Function → SeenNames
+function_seen f = first_seen (length f.parameters) f.data_frame
+
+-- where its part of the data stack is taken, and its parameters are brought there
+abbrev pub open_sets : ℕ → Option DataFrame → List SeenNames
+open_sets parameters None = []
+open_sets parameters (Some d) =
+    first_seen parameters None
+    ∷ replicate (length d.parameters) (first_seen parameters (Some d))
+
+-- how many instructions a function ends with
+abbrev pub end_size : Option DataFrame → ℕ
+end_size None = 2
+end_size (Some d) = 3
+
 abbrev pub function_sets : Function → List SeenNames
 function_sets f =
     replicate (weight f) (parameters_seen f)
-    ++ statements_sets (own_locals f) (parameters_seen f) f.body
-    ++ replicate 2 (parameters_seen f)
+    ++ (open_sets (length f.parameters) f.data_frame
+    ++ (statements_sets (own_locals f) (function_seen f) f.body
+    ++ replicate (end_size f.data_frame) (function_seen f)))
 
 abbrev pub all_funclet_sets : List Function → List (List SeenNames)
 all_funclet_sets [] = []
 all_funclet_sets (f ∷ fs) =
-    statements_funclet_sets (own_locals f) (parameters_seen f) f.body ++ all_funclet_sets fs
+    statements_funclet_sets (own_locals f) (function_seen f) f.body ++ all_funclet_sets fs
 
 abbrev pub list_of : Program → BodyName → List SeenNames
 list_of p (FunctionBody f) = get_or (map function_sets p.functions) f []

@@ -103,7 +103,7 @@ module _ (program : LinearProgram) (sets : BodyName → ℕ → SeenNames) where
   -- function's locals
   pub record IsSetMap : Type 0 where
     pub begins : (f : ℕ) (function : LinearFunction) → slice_get program.functions f ≡ Some function
-        → IsPart (sets (FunctionBody f) 0) (first_seen function.parameters)
+        → IsPart (sets (FunctionBody f) 0) (first_seen function.parameters None)
     pub bodies : (name : BodyName) (b : LinearBody) → body_of program name ≡ Some b
         → IsSetBody name b
     pub flags : (k flag : ℕ) → flag_of (slice_get program.funclets k) ≡ Some flag

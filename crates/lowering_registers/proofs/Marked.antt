@@ -1,15 +1,18 @@
 -- Marks that a part sets are those of the locals that it names, or that its filters and `__finally`
--- blocks name.
+-- blocks name, or those of variables on the data stack.
 use Rattle.std.proofs.Common.{◌≡◌, ℕ, zero, suc, ◌+◌, ◌<◌, Bool, true, false, List, [], ◌∷◌, refl, sym, ap, ◌∙◌, arith}
 use Rattle.std.proofs.Math.Bool.{or_assoc, or-false, or-true}
 use Rattle.std.proofs.lemmas.Bool.{eq-eqb, eqb-true, false_from_ne_true}
 use Rattle.std.specs.Prelude.{◌||◌, nat_eq, slice_set, Option, Some, None}
+use Rattle.c_checked.specs.declared.statement.StackedVariable.{StackedVariable}
+use Rattle.c_checked.specs.declared.function.StackedParameter.{StackedParameter}
+use Rattle.c_checked.specs.Program.{DataFrame}
 use Rattle.c_checked.specs.Expression as nodes
-use Rattle.c_checked.specs.Expression.{Expression, On, Node, Lvalue, Local, Global, Indirection, Element, Arguments, Done, Next}
+use Rattle.c_checked.specs.Expression.{Expression, On, Node, Lvalue, Local, Global, Stacked, Indirection, Element, Arguments, Done, Next}
 use Rattle.c_checked.specs.Statement.{Declared, Filter, Always, Funclet, Statement, Declare, Block, Evaluate, If, IfElse, For, DoWhile, Return, Break, Continue, Leave, TryExcept, TryFinally, Statements, Empty, Then}
-use Rattle.lowering_registers.specs.Naming.{expression_names, node_names, lvalue_names, arguments_name, optional_names, declared_names, all_declared_name, filter_names, statement_names, statements_name}
-use Rattle.lowering_registers.specs.Shared.{statement_shares, statements_share}
-use Rattle.lowering_registers.specs.Marks.{with_mark, with_expression, with_node, with_lvalue, with_arguments, with_optional, with_declared, with_all_declared, with_filter, with_statement, with_statements, with_shared, with_all_shared}
+use Rattle.lowering_registers.specs.Naming.{expression_names, node_names, lvalue_names, arguments_name, optional_names, stacked_names, declared_names, all_declared_name, filter_names, statement_names, statements_name}
+use Rattle.lowering_registers.specs.Shared.{is_declared_at, is_stacked, is_brought, is_kept, statement_shares, statements_share}
+use Rattle.lowering_registers.specs.Marks.{with_mark, with_expression, with_node, with_lvalue, with_arguments, with_optional, with_base, with_declared, with_all_declared, with_filter, with_statement, with_statements, with_mark_at, with_stacked, with_all_stacked, with_shared, with_all_shared, with_brought, with_kept}
 
 -- marks from a local on, with those of all that have a property
 abbrev pub marked : (ℕ → Bool) → ℕ → List Bool → List Bool
@@ -86,6 +89,7 @@ mutual
 
   node_sets : (n : Node) → IsMarking (λ x. node_names x n) (with_node n)
   node_sets (nodes.Constant z v) marks = nothing marks
+  node_sets (nodes.StackedArray base offset) marks = one base marks
   node_sets (nodes.Read p) marks = lvalue_sets p marks
   node_sets (nodes.AddressOf p) marks = lvalue_sets p marks
   node_sets (nodes.Assign p e) marks = assigned p e (lvalue_sets p) (expression_sets e) marks
@@ -113,6 +117,7 @@ mutual
   lvalue_sets : (p : Lvalue) → IsMarking (λ x. lvalue_names x p) (with_lvalue p)
   lvalue_sets (Local y) marks = one y marks
   lvalue_sets (Global access a) marks = nothing marks
+  lvalue_sets (Stacked access base offset) marks = one base marks
   lvalue_sets (Indirection access e) marks = expression_sets e marks
   lvalue_sets (Element access e i) marks = pair e i (expression_sets e) (expression_sets i) marks
 
@@ -128,9 +133,16 @@ optional_sets : (e : Option Expression) → IsMarking (λ x. optional_names x e)
 optional_sets None marks = nothing marks
 optional_sets (Some e) marks = expression_sets e marks
 
+base_sets : (v : Option StackedVariable) → IsMarking (λ x. stacked_names x v) (with_base v)
+base_sets None marks = nothing marks
+base_sets (Some v) marks = one v.base marks
+
 declared_sets : (d : Declared) → IsMarking (λ x. declared_names x d) (with_declared d)
-declared_sets d = two (λ x. nat_eq x d.local) (λ x. optional_names x d.value) (with_mark d.local)
-    (with_optional d.value) (one d.local) (optional_sets d.value)
+declared_sets d =
+    two (λ x. nat_eq x d.local) (λ x. stacked_names x d.stacked || optional_names x d.value)
+    (with_mark d.local) (λ bs. with_optional d.value (with_base d.stacked bs)) (one d.local)
+    (two (λ x. stacked_names x d.stacked) (λ x. optional_names x d.value) (with_base d.stacked)
+    (with_optional d.value) (base_sets d.stacked) (optional_sets d.value))
 
 all_declared_set : (ds : List Declared)
     → IsMarking (λ x. all_declared_name x ds) (with_all_declared ds)
@@ -193,18 +205,31 @@ mutual
       two (λ x. statement_names x s) (λ x. statements_name x ss) (with_statement s)
       (with_statements ss) (statement_sets s) (statements_set ss) marks
 
--- ---- filters and `__finally` blocks
+-- ---- filters and `__finally` blocks, and variables on the data stack
+
+mark_at_sets : (v : Option StackedVariable) (local : ℕ)
+    → IsMarking (λ x. is_declared_at x v local) (with_mark_at v local)
+mark_at_sets None local marks = nothing marks
+mark_at_sets (Some v) local marks = one local marks
+
+all_stacked_set : (ds : List Declared) → IsMarking (λ x. is_stacked x ds) (with_all_stacked ds)
+all_stacked_set [] marks = nothing marks
+all_stacked_set (d ∷ ds) marks =
+    two (λ x. is_declared_at x d.stacked d.local) (λ x. is_stacked x ds) (with_stacked d)
+    (with_all_stacked ds) (mark_at_sets d.stacked d.local) (all_stacked_set ds) marks
 
 mutual
   shared_sets : (s : Statement) → IsMarking (λ x. statement_shares x s) (with_shared s)
-  shared_sets (Declare d) marks = nothing marks
+  shared_sets (Declare d) marks = mark_at_sets d.stacked d.local marks
   shared_sets (Block ss) marks = all_shared_set ss marks
   shared_sets (Evaluate e) marks = nothing marks
   shared_sets (If c s) marks = shared_sets s marks
   shared_sets (IfElse c s t) marks =
       two (λ x. statement_shares x s) (λ x. statement_shares x t) (with_shared s) (with_shared t)
       (shared_sets s) (shared_sets t) marks
-  shared_sets (For ds first c next s) marks = shared_sets s marks
+  shared_sets (For ds first c next s) marks =
+      two (λ x. is_stacked x ds) (λ x. statement_shares x s) (with_all_stacked ds) (with_shared s)
+      (all_stacked_set ds) (shared_sets s) marks
   shared_sets (DoWhile s c) marks = shared_sets s marks
   shared_sets (Return e) marks = nothing marks
   shared_sets Break marks = nothing marks
@@ -221,9 +246,30 @@ mutual
       (with_statements last) (all_shared_set body) (statements_set last) marks
 
   -- the marks of the locals that filters and `__finally` blocks of statements name
-  pub all_shared_set : (ss : Statements)
+  all_shared_set : (ss : Statements)
       → IsMarking (λ x. statements_share x ss) (with_all_shared ss)
   all_shared_set Empty marks = nothing marks
   all_shared_set (Then s ss) marks =
       two (λ x. statement_shares x s) (λ x. statements_share x ss) (with_shared s)
       (with_all_shared ss) (shared_sets s) (all_shared_set ss) marks
+
+-- ---- of a whole function
+
+brought_set : (ps : List StackedParameter) → IsMarking (λ x. is_brought x ps) (with_brought ps)
+brought_set [] marks = nothing marks
+brought_set (p ∷ ps) marks =
+    two (λ x. nat_eq x p.parameter) (λ x. is_brought x ps) (with_mark p.parameter)
+    (with_brought ps) (one p.parameter) (brought_set ps) marks
+
+kept_set : (frame : Option DataFrame) → IsMarking (λ x. is_kept x frame) (with_kept frame)
+kept_set None marks = nothing marks
+kept_set (Some d) marks =
+    two (λ x. nat_eq x d.base) (λ x. is_brought x d.parameters) (with_mark d.base)
+    (with_brought d.parameters) (one d.base) (brought_set d.parameters) marks
+
+pub function_set : (frame : Option DataFrame) (body : Statements)
+    → IsMarking (λ x. is_kept x frame || statements_share x body)
+    (λ marks. with_all_shared body (with_kept frame marks))
+function_set frame body =
+    two (λ x. is_kept x frame) (λ x. statements_share x body) (with_kept frame)
+    (with_all_shared body) (kept_set frame) (all_shared_set body)

@@ -1,32 +1,37 @@
 -- Locals in registers are the first seven that aren't shared.
 use Rattle.std.proofs.Common.{◌≡◌, ◌⊎◌, inl, inr, ℕ, zero, suc, ◌+◌, ◌<◌, ◌≤◌, Bool, true, false, List, [], ◌∷◌, length, replicate, refl, sym, ap, subst, ◌∙◌, arith}
-use Rattle.std.specs.Prelude.{take, nat_eq, slice_index, slice_index_or}
+use Rattle.std.specs.Prelude.{◌||◌, Option, take, nat_eq, slice_index, slice_index_or}
 use Rattle.std.specs.List.{AllByRecursion, Contains}
 use Rattle.std.specs.List.Sorted.{IsStrictlyIncreasing}
 use Rattle.std.proofs.lemmas.Bool.{eqb-true, eqb-false}
 use Rattle.c_checked.specs.Statement.{Statements}
-use Rattle.c_checked.specs.Program.{Function}
-use Rattle.lowering_registers.specs.Shared.{statements_share, unshared, unshared_if, own_locals, register_locals}
-use Rattle.lowering_registers.specs.Marks.{with_all_shared, unmarked}
+use Rattle.c_checked.specs.Program.{DataFrame, Function}
+use Rattle.lowering_registers.specs.Shared.{is_kept, statements_share, unshared, unshared_if, own_locals, register_locals}
+use Rattle.lowering_registers.specs.Marks.{with_all_shared, with_kept, unmarked}
 use Rattle.lowering_registers.specs.RegisterLaws.{AreFew, IsUnshared, AreUnshared, AreInOrder, AreFirst, AreAll}
-use Rattle.lowering_registers.proofs.Marked.{marked, all_shared_set}
+use Rattle.lowering_registers.proofs.Marked.{marked, function_set}
+
+-- a local that can't stand in a register
+abbrev is_outside : Option DataFrame → Statements → ℕ → Bool
+is_outside frame body x = is_kept x frame || statements_share x body
 
 -- ---- the code's are these
 
-unmarked_are : (body : Statements) (n x : ℕ)
-    → unmarked (marked (λ y. statements_share y body) x (replicate n false)) x ≡ unshared body x n
-unmarked_are body zero x = refl
-unmarked_are body (suc n) x = ap (unshared_if (statements_share x body) x)
-    (unmarked_are body n (x + 1))
+unmarked_are : (frame : Option DataFrame) (body : Statements) (n x : ℕ)
+    → unmarked (marked (is_outside frame body) x (replicate n false)) x ≡ unshared frame body x n
+unmarked_are frame body zero x = refl
+unmarked_are frame body (suc n) x = ap (unshared_if (is_outside frame body x) x)
+    (unmarked_are frame body n (x + 1))
 
 pub registers_are : (f : Function) (count : ℕ) (marks new : List Bool) (chosen : List ℕ)
-    → count ≡ own_locals f → marks ≡ replicate count false → new ≡ with_all_shared f.body marks
+    → count ≡ own_locals f → marks ≡ replicate count false → new ≡ with_all_shared f.body (with_kept f.data_frame marks)
     → chosen ≡ take 7 (unmarked new 0) → chosen ≡ register_locals f
 registers_are f count marks new chosen own m n c =
-    c ∙ ap (λ bs. take 7 (unmarked bs 0)) (n ∙ ap (with_all_shared f.body)
+    c ∙ ap (λ bs. take 7 (unmarked bs 0))
+    (n ∙ ap (λ bs. with_all_shared f.body (with_kept f.data_frame bs))
     (m ∙ ap (λ k. replicate k false) own)
-    ∙ all_shared_set f.body (replicate (own_locals f) false))
-    ∙ ap (take 7) (unmarked_are f.body (own_locals f) 0)
+    ∙ function_set f.data_frame f.body (replicate (own_locals f) false))
+    ∙ ap (take 7) (unmarked_are f.data_frame f.body (own_locals f) 0)
 
 -- ---- few
 
@@ -36,7 +41,7 @@ take_few (suc n) [] = omega arith
 take_few (suc n) (x ∷ xs) = let e = take_few n xs in omega arith
 
 pub are_few : AreFew
-are_few f = take_few 7 (unshared f.body 0 (own_locals f))
+are_few f = take_few 7 (unshared f.data_frame f.body 0 (own_locals f))
 
 -- ---- unshared
 
@@ -47,19 +52,19 @@ all_taken f (suc n) [] h = tt
 all_taken f (suc n) (x ∷ xs) h = (h.0, all_taken f n xs h.1)
 
 one_more : (f : Function) (x : ℕ) (others : List ℕ) → x < own_locals f
-    → AllByRecursion (IsUnshared f) others → (b : Bool) → statements_share x f.body ≡ b
+    → AllByRecursion (IsUnshared f) others → (b : Bool) → is_outside f.data_frame f.body x ≡ b
     → AllByRecursion (IsUnshared f) (unshared_if b x others)
 one_more f x others lt h true e = h
 one_more f x others lt h false e = (record { own = lt; unshared = e }, h)
 
 all_unshared : (f : Function) (x n : ℕ) → x + n ≤ own_locals f
-    → AllByRecursion (IsUnshared f) (unshared f.body x n)
+    → AllByRecursion (IsUnshared f) (unshared f.data_frame f.body x n)
 all_unshared f x zero le = tt
-all_unshared f x (suc n) le = one_more f x (unshared f.body (x + 1) n) (omega arith)
-    (all_unshared f (x + 1) n (omega arith)) (statements_share x f.body) refl
+all_unshared f x (suc n) le = one_more f x (unshared f.data_frame f.body (x + 1) n) (omega arith)
+    (all_unshared f (x + 1) n (omega arith)) (is_outside f.data_frame f.body x) refl
 
 pub are_unshared : AreUnshared
-are_unshared f = all_taken f 7 (unshared f.body 0 (own_locals f))
+are_unshared f = all_taken f 7 (unshared f.data_frame f.body 0 (own_locals f))
     (all_unshared f 0 (own_locals f) (omega arith))
 
 -- ---- in order
@@ -78,10 +83,12 @@ one_lower : (b : Bool) (x : ℕ) (others : List ℕ) → AreRising (x + 1) other
 one_lower true x others h = lower x others h
 one_lower false x others h = (omega arith, h)
 
-unshared_rise : (body : Statements) (x n : ℕ) → AreRising x (unshared body x n)
-unshared_rise body x zero = tt
-unshared_rise body x (suc n) = one_lower (statements_share x body) x (unshared body (x + 1) n)
-    (unshared_rise body (x + 1) n)
+unshared_rise : (frame : Option DataFrame) (body : Statements) (x n : ℕ)
+    → AreRising x (unshared frame body x n)
+unshared_rise frame body x zero = tt
+unshared_rise frame body x (suc n) =
+    one_lower (is_outside frame body x) x (unshared frame body (x + 1) n)
+    (unshared_rise frame body (x + 1) n)
 
 taken_rise : (low n : ℕ) (xs : List ℕ) → AreRising low xs → AreRising low (take n xs)
 taken_rise low zero xs h = tt
@@ -98,8 +105,9 @@ increasing low (x ∷ y ∷ ys) h (suc k) lt =
     (increasing (x + 1) (y ∷ ys) h.1 k (omega arith))
 
 pub are_in_order : AreInOrder
-are_in_order f = increasing 0 (register_locals f) (taken_rise 0 7 (unshared f.body 0 (own_locals f))
-    (unshared_rise f.body 0 (own_locals f)))
+are_in_order f =
+    increasing 0 (register_locals f) (taken_rise 0 7 (unshared f.data_frame f.body 0 (own_locals f))
+    (unshared_rise f.data_frame f.body 0 (own_locals f)))
 
 -- ---- the first
 
@@ -132,19 +140,19 @@ one_placed true y x most rest le other p q = let apart = other refl in p (omega 
 one_placed false y x most rest le other p q = head_placed y x most (take most rest) le
     (λ d. (let apart = eqb-false x y d in q (omega arith))) (nat_eq x y) refl
 
-placed : (body : Statements) (most y n x : ℕ) → y ≤ x → x < y + n
-    → statements_share x body ≡ false → IsPlaced x most (take most (unshared body y n))
-placed body zero y n x le lt e = inr (refl, tt)
-placed body (suc most) y zero x le lt e = absurd (omega arith)
-placed body (suc most) y (suc n) x le lt e =
-    one_placed (statements_share y body) y x most (unshared body (y + 1) n) le (λ s same.
-    (let h : false ≡ true = sym e ∙ ap (λ z. statements_share z body) same ∙ s in absurd (cc)))
-    (λ above. placed body (suc most) (y + 1) n x above (omega arith) e)
-    (λ above. placed body most (y + 1) n x above (omega arith) e)
+placed : (frame : Option DataFrame) (body : Statements) (most y n x : ℕ) → y ≤ x → x < y + n
+    → is_outside frame body x ≡ false → IsPlaced x most (take most (unshared frame body y n))
+placed frame body zero y n x le lt e = inr (refl, tt)
+placed frame body (suc most) y zero x le lt e = absurd (omega arith)
+placed frame body (suc most) y (suc n) x le lt e =
+    one_placed (is_outside frame body y) y x most (unshared frame body (y + 1) n) le (λ s same.
+    (let h : false ≡ true = sym e ∙ ap (is_outside frame body) same ∙ s in absurd (cc)))
+    (λ above. placed frame body (suc most) (y + 1) n x above (omega arith) e)
+    (λ above. placed frame body most (y + 1) n x above (omega arith) e)
 
 of_function : (f : Function) (x : ℕ) → IsUnshared f x → IsPlaced x 7 (register_locals f)
 of_function f x u = let lt = u.own in
-    placed f.body 7 0 (own_locals f) x (omega arith) (omega arith) u.unshared
+    placed f.data_frame f.body 7 0 (own_locals f) x (omega arith) (omega arith) u.unshared
 
 -- what all have, one of them has
 one_of : (x : ℕ) (xs : List ℕ) → AllByRecursion (λ y. y < x) xs → (k z : ℕ) → k < length xs

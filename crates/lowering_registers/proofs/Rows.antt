@@ -17,6 +17,7 @@ with_locals locals body = record {
   name = [];
   parameters = Int ∷ Int ∷ [];
   locals = locals;
+  data_frame = None;
   returns = None;
   body = body;
 }
@@ -33,7 +34,7 @@ shared : register_locals (with_locals eight
     (Then (TryExcept (Then (Evaluate (Some (variable 0))) Empty) (Funclet 1 (variable 1))
     (Then (Evaluate (Some (variable 2))) Empty))
     (Then (TryFinally (Then (Evaluate (Some (variable 3))) Empty) 2
-    (Then (Declare (record { local = 4; value = None })) Empty)) Empty)))
+    (Then (Declare (record { local = 4; stacked = None; value = None })) Empty)) Empty)))
     ≡ 0 ∷ 2 ∷ 3 ∷ 5 ∷ 6 ∷ 7 ∷ 8 ∷ []
 shared = refl
 

@@ -1,8 +1,11 @@
 -- Marks of locals, one for each, and a part that marks those that it names, or that its filters and
--- `__finally` blocks name.
+-- `__finally` blocks name, or those of variables on the data stack.
 use Rattle.std.specs.Prelude.{ℕ, ◌+◌, Bool, true, List, [], ◌∷◌, Option, Some, None, slice_set}
+use Rattle.c_checked.specs.declared.statement.StackedVariable.{StackedVariable}
+use Rattle.c_checked.specs.declared.function.StackedParameter.{StackedParameter}
+use Rattle.c_checked.specs.Program.{DataFrame}
 use Rattle.c_checked.specs.Expression as nodes
-use Rattle.c_checked.specs.Expression.{Expression, On, Node, Lvalue, Local, Global, Indirection, Element, Arguments, Done, Next}
+use Rattle.c_checked.specs.Expression.{Expression, On, Node, Lvalue, Local, Global, Stacked, Indirection, Element, Arguments, Done, Next}
 use Rattle.c_checked.specs.Statement.{Declared, Filter, Always, Funclet, Statement, Declare, Block, Evaluate, If, IfElse, For, DoWhile, Return, Break, Continue, Leave, TryExcept, TryFinally, Statements, Empty, Then}
 use Rattle.lowering_registers.specs.Shared.{unshared_if}
 
@@ -17,6 +20,7 @@ abbrev mutual
 
   pub with_node : Node → List Bool → List Bool
   with_node (nodes.Constant z n) marks = marks
+  with_node (nodes.StackedArray base offset) marks = with_mark base marks
   with_node (nodes.Read p) marks = with_lvalue p marks
   with_node (nodes.AddressOf p) marks = with_lvalue p marks
   with_node (nodes.Assign p e) marks = with_expression e (with_lvalue p marks)
@@ -41,6 +45,7 @@ abbrev mutual
   pub with_lvalue : Lvalue → List Bool → List Bool
   with_lvalue (Local y) marks = with_mark y marks
   with_lvalue (Global access a) marks = marks
+  with_lvalue (Stacked access base offset) marks = with_mark base marks
   with_lvalue (Indirection access e) marks = with_expression e marks
   with_lvalue (Element access e i) marks = with_expression i (with_expression e marks)
 
@@ -54,8 +59,12 @@ abbrev pub with_optional : Option Expression → List Bool → List Bool
 with_optional None marks = marks
 with_optional (Some e) marks = with_expression e marks
 
+abbrev pub with_base : Option StackedVariable → List Bool → List Bool
+with_base None marks = marks
+with_base (Some v) marks = with_mark v.base marks
+
 abbrev pub with_declared : Declared → List Bool → List Bool
-with_declared d marks = with_optional d.value (with_mark d.local marks)
+with_declared d marks = with_optional d.value (with_base d.stacked (with_mark d.local marks))
 
 abbrev pub with_all_declared : List Declared → List Bool → List Bool
 with_all_declared [] marks = marks
@@ -90,16 +99,27 @@ abbrev mutual
   with_statements Empty marks = marks
   with_statements (Then s ss) marks = with_statements ss (with_statement s marks)
 
--- ---- what filters and `__finally` blocks name
+-- ---- what filters and `__finally` blocks name, and what is declared on the data stack
+
+abbrev pub with_mark_at : Option StackedVariable → ℕ → List Bool → List Bool
+with_mark_at None x marks = marks
+with_mark_at (Some v) x marks = with_mark x marks
+
+abbrev pub with_stacked : Declared → List Bool → List Bool
+with_stacked d marks = with_mark_at d.stacked d.local marks
+
+abbrev pub with_all_stacked : List Declared → List Bool → List Bool
+with_all_stacked [] marks = marks
+with_all_stacked (d ∷ ds) marks = with_all_stacked ds (with_stacked d marks)
 
 abbrev mutual
   pub with_shared : Statement → List Bool → List Bool
-  with_shared (Declare d) marks = marks
+  with_shared (Declare d) marks = with_stacked d marks
   with_shared (Block ss) marks = with_all_shared ss marks
   with_shared (Evaluate e) marks = marks
   with_shared (If c s) marks = with_shared s marks
   with_shared (IfElse c s t) marks = with_shared t (with_shared s marks)
-  with_shared (For ds first c next s) marks = with_shared s marks
+  with_shared (For ds first c next s) marks = with_shared s (with_all_stacked ds marks)
   with_shared (DoWhile s c) marks = with_shared s marks
   with_shared (Return e) marks = marks
   with_shared Break marks = marks
@@ -113,6 +133,16 @@ abbrev mutual
   pub with_all_shared : Statements → List Bool → List Bool
   with_all_shared Empty marks = marks
   with_all_shared (Then s ss) marks = with_all_shared ss (with_shared s marks)
+
+-- ---- the base of a function's part of the data stack, and its parameters there
+
+abbrev pub with_brought : List StackedParameter → List Bool → List Bool
+with_brought [] marks = marks
+with_brought (p ∷ ps) marks = with_brought ps (with_mark p.parameter marks)
+
+abbrev pub with_kept : Option DataFrame → List Bool → List Bool
+with_kept None marks = marks
+with_kept (Some d) marks = with_brought d.parameters (with_mark d.base marks)
 
 -- ---- the locals from a number on that aren't marked
 

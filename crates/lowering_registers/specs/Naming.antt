@@ -1,7 +1,8 @@
 -- A part of a checked program names a local.
 use Rattle.std.specs.Prelude.{ℕ, Bool, false, ◌||◌, nat_eq, List, [], ◌∷◌, Option, Some, None}
+use Rattle.c_checked.specs.declared.statement.StackedVariable.{StackedVariable}
 use Rattle.c_checked.specs.Expression as nodes
-use Rattle.c_checked.specs.Expression.{Expression, On, Node, Lvalue, Local, Global, Indirection, Element, Arguments, Done, Next}
+use Rattle.c_checked.specs.Expression.{Expression, On, Node, Lvalue, Local, Global, Stacked, Indirection, Element, Arguments, Done, Next}
 use Rattle.c_checked.specs.Statement.{Declared, Filter, Always, Funclet, Statement, Declare, Block, Evaluate, If, IfElse, For, DoWhile, Return, Break, Continue, Leave, TryExcept, TryFinally, Statements, Empty, Then}
 
 -- ---- expressions
@@ -12,6 +13,7 @@ abbrev mutual
 
   pub node_names : ℕ → Node → Bool
   node_names x (nodes.Constant z n) = false
+  node_names x (nodes.StackedArray base offset) = nat_eq x base
   node_names x (nodes.Read p) = lvalue_names x p
   node_names x (nodes.AddressOf p) = lvalue_names x p
   node_names x (nodes.Assign p e) = lvalue_names x p || expression_names x e
@@ -36,6 +38,7 @@ abbrev mutual
   pub lvalue_names : ℕ → Lvalue → Bool
   lvalue_names x (Local y) = nat_eq x y
   lvalue_names x (Global access a) = false
+  lvalue_names x (Stacked access base offset) = nat_eq x base
   lvalue_names x (Indirection access e) = expression_names x e
   lvalue_names x (Element access e i) = expression_names x e || expression_names x i
 
@@ -47,9 +50,13 @@ abbrev pub optional_names : ℕ → Option Expression → Bool
 optional_names x None = false
 optional_names x (Some e) = expression_names x e
 
--- a declaration names what it declares
+-- a declaration names what it declares, and the base of what stands on the data stack
+abbrev pub stacked_names : ℕ → Option StackedVariable → Bool
+stacked_names x None = false
+stacked_names x (Some v) = nat_eq x v.base
+
 abbrev pub declared_names : ℕ → Declared → Bool
-declared_names x d = nat_eq x d.local || optional_names x d.value
+declared_names x d = nat_eq x d.local || (stacked_names x d.stacked || optional_names x d.value)
 
 abbrev pub all_declared_name : ℕ → List Declared → Bool
 all_declared_name x [] = false

@@ -1,14 +1,15 @@
 -- What holds of locals in registers.
-use Rattle.std.specs.Prelude.{◌≡◌, ℕ, ◌<◌, ◌≤◌, false, length}
+use Rattle.std.specs.Prelude.{◌≡◌, ℕ, ◌<◌, ◌≤◌, false, ◌||◌, length}
 use Rattle.std.specs.List.{AllByRecursion, Contains}
 use Rattle.std.specs.List.Sorted.{IsStrictlyIncreasing}
 use Rattle.c_checked.specs.Program.{Function}
-use Rattle.lowering_registers.specs.Shared.{statements_share, own_locals, register_locals}
+use Rattle.lowering_registers.specs.Shared.{is_kept, statements_share, own_locals, register_locals}
 
--- a local of a function that no filter and no `__finally` block of it names
+-- a local of a function that no filter and no `__finally` block of it names, that isn't the base of
+-- its part of the data stack, and whose variable doesn't stand there
 pub record IsUnshared (f : Function) (x : ℕ) : Type 0 where
   pub own : x < own_locals f
-  pub unshared : statements_share x f.body ≡ false
+  pub unshared : (is_kept x f.data_frame || statements_share x f.body) ≡ false
 
 abbrev pub AreFew : Type 0
 AreFew = (f : Function) → length (register_locals f) ≤ 7

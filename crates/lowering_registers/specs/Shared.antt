@@ -1,19 +1,30 @@
 -- Which locals of a function stand in registers: the first seven that no filter and no `__finally`
--- block of it names.
-use Rattle.std.specs.Prelude.{ℕ, zero, suc, ◌+◌, Bool, true, false, ◌||◌, List, [], ◌∷◌, length, take}
-use Rattle.c_checked.specs.Statement.{Statement, Declare, Block, Evaluate, If, IfElse, For, DoWhile, Return, Break, Continue, Leave, TryExcept, TryFinally, Statements, Empty, Then}
-use Rattle.c_checked.specs.Program.{Function}
+-- block of it names, without those of variables on the data stack and of its base.
+use Rattle.std.specs.Prelude.{ℕ, zero, suc, ◌+◌, Bool, true, false, ◌||◌, nat_eq, List, [], ◌∷◌, length, take, Option, Some, None}
+use Rattle.c_checked.specs.Statement.{Declared, Statement, Declare, Block, Evaluate, If, IfElse, For, DoWhile, Return, Break, Continue, Leave, TryExcept, TryFinally, Statements, Empty, Then}
+use Rattle.c_checked.specs.declared.function.StackedParameter.{StackedParameter}
+use Rattle.c_checked.specs.declared.statement.StackedVariable.{StackedVariable}
+use Rattle.c_checked.specs.Program.{DataFrame, Function}
 use Rattle.lowering_registers.specs.Naming.{filter_names, statements_name}
 
--- a filter or a `__finally` block of a part names it
+-- it is declared on the data stack
+abbrev pub is_declared_at : ℕ → Option StackedVariable → (local : ℕ) → Bool
+is_declared_at x None local = false
+is_declared_at x (Some v) local = nat_eq x local
+
+abbrev pub is_stacked : ℕ → List Declared → Bool
+is_stacked x [] = false
+is_stacked x (d ∷ ds) = is_declared_at x d.stacked d.local || is_stacked x ds
+
+-- a filter or a `__finally` block of a part names it, or the part declares it on the data stack
 abbrev mutual
   pub statement_shares : ℕ → Statement → Bool
-  statement_shares x (Declare d) = false
+  statement_shares x (Declare d) = is_declared_at x d.stacked d.local
   statement_shares x (Block ss) = statements_share x ss
   statement_shares x (Evaluate e) = false
   statement_shares x (If c s) = statement_shares x s
   statement_shares x (IfElse c s t) = statement_shares x s || statement_shares x t
-  statement_shares x (For ds first c next s) = statement_shares x s
+  statement_shares x (For ds first c next s) = is_stacked x ds || statement_shares x s
   statement_shares x (DoWhile s c) = statement_shares x s
   statement_shares x (Return e) = false
   statement_shares x Break = false
@@ -28,15 +39,25 @@ abbrev mutual
   statements_share x Empty = false
   statements_share x (Then s ss) = statement_shares x s || statements_share x ss
 
+-- a parameter that is brought to the data stack
+abbrev pub is_brought : ℕ → List StackedParameter → Bool
+is_brought x [] = false
+is_brought x (p ∷ ps) = nat_eq x p.parameter || is_brought x ps
+
+-- it, or the base
+abbrev pub is_kept : ℕ → Option DataFrame → Bool
+is_kept x None = false
+is_kept x (Some d) = nat_eq x d.base || is_brought x d.parameters
+
 -- of so many locals from a number on, those that aren't shared, in their order
 abbrev pub unshared_if : Bool → ℕ → List ℕ → List ℕ
 unshared_if true x others = others
 unshared_if false x others = x ∷ others
 
-abbrev pub unshared : Statements → ℕ → ℕ → List ℕ
-unshared body x zero = []
-unshared body x (suc n) =
-    unshared_if (statements_share x body) x (unshared body (x + 1) n)
+abbrev pub unshared : Option DataFrame → Statements → ℕ → ℕ → List ℕ
+unshared frame body x zero = []
+unshared frame body x (suc n) =
+    unshared_if (is_kept x frame || statements_share x body) x (unshared frame body (x + 1) n)
 
 -- parameters come first, then the others in the order of their declarations
 abbrev pub own_locals : Function → ℕ
@@ -45,4 +66,4 @@ own_locals f = length f.parameters + length f.locals
 -- RBX, RSI, RDI and R12 to R15 are those that a function keeps for its caller and that no template
 -- needs (Microsoft x64 ABI, "x64 calling convention", callee-saved registers)
 abbrev pub register_locals : Function → List ℕ
-register_locals f = take 7 (unshared f.body 0 (own_locals f))
+register_locals f = take 7 (unshared f.data_frame f.body 0 (own_locals f))

@@ -32,6 +32,7 @@ fn mark_lvalue(marks: &mut Vec<bool>, place: &Lvalue)
     match place {
         Lvalue::Local(local) => mark(marks, *local),
         Lvalue::Global { .. } => (),
+        Lvalue::Stacked { base, .. } => mark(marks, *base),
         Lvalue::Indirection { pointer, .. } => mark_expression(marks, pointer),
         Lvalue::Element { array, index, .. } => {
             mark_expression(marks, array);
@@ -111,6 +112,7 @@ fn mark_node(marks: &mut Vec<bool>, node: &Node)
 {
     match node {
         Node::Constant { .. } => (),
+        Node::StackedArray { base, .. } => mark(marks, *base),
         Node::Read(place) => mark_lvalue(marks, place),
         Node::AddressOf(place) => mark_lvalue(marks, place),
         Node::Increment { target, .. } => mark_lvalue(marks, target),

@@ -2,7 +2,8 @@
 
 ghost use Rattle.lowering_registers.specs.RegisterLaws.{AreFew, AreUnshared, AreInOrder, AreFirst, AreAll};
 
-/// They are the first seven, or all, that no filter and no `__finally` block of the function names.
+/// They are the first seven, or all, that no filter and no `__finally` block of the function names
+/// and that the data stack leaves.
 pub fn register_locals_are_first()
     ensures few { AreFew }
     ensures unshared { AreUnshared }

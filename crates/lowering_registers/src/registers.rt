@@ -1,13 +1,14 @@
 //! The locals that stand in registers.
 
-ghost use Rattle.std.specs.Prelude.{◌≡◌, ◌+◌, length, take, replicate, false, IfOk};
+ghost use Rattle.std.specs.Prelude.{◌≡◌, ◌+◌, length, take, replicate, false, IfOk, option_map};
 ghost use Rattle.c_checked.specs.Program as programs;
 ghost use Rattle.lowering_registers.specs.Marks as marked;
 ghost use Rattle.lowering_registers.specs.Shared as spec;
 
+use crate::expression_marks::mark;
 use crate::statement_marks::mark_all_shared;
 use arrayvec::ArrayVec;
-use c_checked::function::Function;
+use c_checked::function::{DataFrame, Function, StackedParameter};
 use lowering_sizes::sums::sum;
 use std::alloc::{AllocError, Global};
 
@@ -24,6 +25,30 @@ fn unset(alloc: Global, count: usize) -> Result<Vec<bool>, AllocError>
     ensures { IfOk result (λ v. v.items ≡ replicate count false) }
 {
     vec![in alloc; false; count]
+}
+
+/// Marks the parameters that are brought to the data stack.
+fn mark_brought(marks: &mut Vec<bool>, parameters: &[StackedParameter])
+    ensures { marks.new.items ≡ marked.with_brought parameters.now marks.old.items }
+{
+    for parameter in parameters {
+        mark(marks, parameter.parameter);
+    }
+}
+
+/// Marks the base of a function's part of the data stack, and the parameters that are brought
+/// there.
+fn mark_kept(marks: &mut Vec<bool>, frame: &Option<DataFrame>)
+    ensures { marks.new.items ≡ marked.with_kept (option_map programs.data_frame_of frame.now)
+        marks.old.items }
+{
+    match frame {
+        None => (),
+        Some(part) => {
+            mark(marks, part.base);
+            mark_brought(marks, &part.parameters)
+        }
+    }
 }
 
 /// The numbers of the first seven locals that aren't marked.
@@ -46,6 +71,7 @@ pub fn register_locals(alloc: Global, f: &Function) -> Result<ArrayVec<u64, 7>, 
 {
     let count = own_locals(f)?;
     let mut marks = unset(alloc, count as usize)?;
+    mark_kept(&mut marks, &f.data_frame);
     mark_all_shared(&mut marks, &f.body);
     Ok(first_unmarked(&marks))
 }

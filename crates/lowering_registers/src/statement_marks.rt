@@ -1,5 +1,5 @@
-//! Marks of the locals that statements name, and of those that their filters and `__finally` blocks
-//! name.
+//! Marks of the locals that statements name, of those that their filters and `__finally` blocks
+//! name, and of those of variables on the data stack.
 
 ghost use Rattle.std.specs.Prelude.{◌≡◌, map, option_map, true};
 ghost use Rattle.c_checked.specs.Expression as tree;
@@ -9,7 +9,7 @@ ghost use Rattle.lowering_registers.specs.Marks as spec;
 
 use crate::expression_marks::{mark, mark_expression};
 use c_checked::expression::Expr;
-use c_checked::statement::{Declared, Filter, Stmt};
+use c_checked::statement::{Declared, Filter, StackedVariable, Stmt};
 
 fn mark_optional(marks: &mut Vec<bool>, expr: &Option<Expr>)
     ensures { marks.new.items ≡ spec.with_optional (option_map tree.expression expr.now)
@@ -21,11 +21,22 @@ fn mark_optional(marks: &mut Vec<bool>, expr: &Option<Expr>)
     }
 }
 
+/// Marks the base of a variable on the data stack.
+fn mark_base(marks: &mut Vec<bool>, variable: Option<StackedVariable>)
+    ensures { marks.new.items ≡ spec.with_base variable marks.old.items }
+{
+    match variable {
+        None => (),
+        Some(place) => mark(marks, place.base),
+    }
+}
+
 fn mark_declared(marks: &mut Vec<bool>, declared: &Declared)
     ensures { marks.new.items ≡ spec.with_declared (statements.declared declared.now)
         marks.old.items }
 {
     mark(marks, declared.local);
+    mark_base(marks, declared.stacked);
     mark_optional(marks, &declared.value);
 }
 
@@ -134,7 +145,28 @@ fn mark_loop_or_try(marks: &mut Vec<bool>, stmt: &Stmt)
     }
 }
 
-/// Marks the locals that filters and `__finally` blocks of statements name.
+/// Marks the local of a variable that is declared on the data stack.
+fn mark_stacked(marks: &mut Vec<bool>, declared: &Declared)
+    ensures { marks.new.items ≡ spec.with_stacked (statements.declared declared.now)
+        marks.old.items }
+{
+    match declared.stacked {
+        None => (),
+        Some(_) => mark(marks, declared.local),
+    }
+}
+
+fn mark_all_stacked(marks: &mut Vec<bool>, declared: &[Declared])
+    ensures { marks.new.items ≡ spec.with_all_stacked (map statements.declared declared.now)
+        marks.old.items }
+{
+    for one in declared {
+        mark_stacked(marks, one);
+    }
+}
+
+/// Marks the locals that filters and `__finally` blocks of statements name, and those of variables
+/// on the data stack.
 #[cycle(sharing)]
 pub fn mark_all_shared(marks: &mut Vec<bool>, stmts: &[Stmt])
     ensures { marks.new.items ≡ spec.with_all_shared
@@ -151,7 +183,7 @@ fn mark_shared(marks: &mut Vec<bool>, stmt: &Stmt)
         marks.old.items }
 {
     match stmt {
-        Stmt::Declare(_) => (),
+        Stmt::Declare(declared) => mark_stacked(marks, declared),
         Stmt::Block(stmts) => mark_all_shared(marks, stmts),
         Stmt::Evaluate(_) => (),
         Stmt::If {
@@ -167,7 +199,10 @@ fn mark_shared(marks: &mut Vec<bool>, stmt: &Stmt)
             mark_shared(marks, then);
             mark_shared(marks, otherwise)
         }
-        Stmt::For { body, .. } => mark_shared(marks, body),
+        Stmt::For { declared, body, .. } => {
+            mark_all_stacked(marks, declared);
+            mark_shared(marks, body)
+        }
         Stmt::Do { body, .. } => mark_shared(marks, body),
         Stmt::Return(_) => (),
         Stmt::Break => (),

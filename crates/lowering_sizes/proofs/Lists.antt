@@ -5,7 +5,7 @@ use Rattle.c_checked.specs.Expression.{expression, arguments}
 use Rattle.c_checked.specs.declared.statement.Declared.{Declared}
 use Rattle.c_checked.specs.declared.statement.Stmt.{Stmt}
 use Rattle.c_checked.specs.Statement.{statement, statements, declared}
-use Rattle.lowering_sizes.specs.Sizes.{expression_size, arguments_size, declared_size, all_declared_size, statement_notes, statements_notes}
+use Rattle.lowering_sizes.specs.Sizes.{expression_size, arguments_size, declared_size, all_declared_size, stacked_notes, declared_notes, statement_notes, statements_notes}
 
 -- one argument more
 size_next : (items : List Expr) (i : ℕ) (d : Expr) → i < length items
@@ -67,4 +67,25 @@ notes_next items i most own next item lt is t s n =
     let e = note_next items i item lt in
     let f : statement_notes (statement item) ≡ statement_notes
     (statement (get_or items i item)) = ap (λ x. statement_notes (statement x)) is in
+    rw one (omega arith)
+
+variable_note_next : (items : List Declared) (i : ℕ) (d : Declared) → i < length items
+    → declared_notes (map declared (take (suc i) items))
+    ≡ max (declared_notes (map declared (take i items)))
+    (stacked_notes (declared (get_or items i d)).stacked)
+variable_note_next [] i d lt = absurd (omega arith)
+variable_note_next (x ∷ xs) zero d lt = omega arith
+variable_note_next (x ∷ xs) (suc i) d lt =
+    let r = variable_note_next xs i d (omega arith) in omega arith
+
+pub declared_notes_next : (items : List Declared) (i most own next : ℕ) (item : Declared)
+    → i < length items → item ≡ get_or items i item
+    → most ≡ declared_notes (map declared (take i items)) → own ≡ stacked_notes item.stacked
+    → next ≡ max most own → next ≡ declared_notes (map declared (take (i + 1) items))
+declared_notes_next items i most own next item lt is t s n =
+    let one : i + 1 ≡ suc i = omega arith in
+    let e = variable_note_next items i item lt in
+    let f : stacked_notes (declared item).stacked
+    ≡ stacked_notes (declared (get_or items i item)).stacked = ap
+    (λ (x : Declared). stacked_notes (declared x).stacked) is in
     rw one (omega arith)

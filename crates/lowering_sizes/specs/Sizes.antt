@@ -4,14 +4,15 @@ use Rattle.c_operations.specs.declared.operation.Pure.{Pure}
 use Rattle.c_operations.specs.declared.operation.Pure.TheVariants.{First}
 use Rattle.c_checked.specs.declared.expression.Conversion.{Conversion}
 use Rattle.c_checked.specs.declared.expression.Conversion.TheVariants.{Kept, Extend, Scale}
+use Rattle.c_checked.specs.declared.statement.StackedVariable.{StackedVariable}
 use Rattle.c_checked.specs.Expression as nodes
-use Rattle.c_checked.specs.Expression.{Expression, On, Node, Lvalue, Local, Global, Indirection, Element, Arguments, Done, Next}
+use Rattle.c_checked.specs.Expression.{Expression, On, Node, Lvalue, Local, Global, Stacked, Indirection, Element, Arguments, Done, Next}
 use Rattle.c_checked.specs.Statement.{Declared, Statement, Declare, Block, Evaluate, If, IfElse, For, DoWhile, Return, Break, Continue, Leave, TryExcept, TryFinally, Statements, Empty, Then}
 
 abbrev pub conversion_size : Conversion → ℕ
 conversion_size Kept = 0
 conversion_size (Extend s from size) = 1
-conversion_size (Scale s from by) = 3
+conversion_size (Scale s from by) = 2
 
 abbrev pub unary_size : Pure → ℕ
 unary_size First = 0
@@ -23,18 +24,21 @@ unary_size o = 2
 abbrev pub address_count : Lvalue → ℕ
 address_count (Local x) = 0
 address_count (Global access a) = 1
+address_count (Stacked access base offset) = 1
 address_count (Indirection access e) = 1
 address_count (Element access e i) = 1
 
 abbrev pub read_size : Lvalue → ℕ
 read_size (Local x) = 1
 read_size (Global access a) = 2
+read_size (Stacked access base offset) = 2
 read_size (Indirection access e) = 2
 read_size (Element access e i) = 2
 
 abbrev pub address_size : Lvalue → ℕ → ℕ
 address_size (Local x) located = 1
 address_size (Global access a) located = located
+address_size (Stacked access base offset) located = located
 address_size (Indirection access e) located = located
 address_size (Element access e i) located = located
 
@@ -47,6 +51,7 @@ abbrev mutual
   pub locate_size : Lvalue → ℕ
   locate_size (Local x) = 0
   locate_size (Global access a) = 1
+  locate_size (Stacked access base offset) = 2
   locate_size (Indirection access e) = expression_size e
   locate_size (Element access e i) = expression_size e + (expression_size i + 1)
 
@@ -56,6 +61,7 @@ abbrev mutual
 
   pub node_size : Node → ℕ
   node_size (nodes.Constant z n) = 1
+  node_size (nodes.StackedArray base offset) = 2
   node_size (nodes.Read p) = locate_size p + read_size p
   node_size (nodes.AddressOf p) = address_size p (locate_size p)
   node_size (nodes.Assign p e) = locate_size p + (expression_size e + 1)
@@ -92,8 +98,22 @@ abbrev pub condition_size : Option Expression → ℕ
 condition_size None = 0
 condition_size (Some e) = expression_size e + 1
 
+abbrev pub initialiser_size : Option Expression → ℕ
+initialiser_size None = 0
+initialiser_size (Some e) = expression_size e + 2
+
+-- a variable on the data stack takes a number by three instructions, an array is cleared by a loop
+-- of five
+abbrev pub stacked_size : Option ℕ → Option Expression → ℕ
+stacked_size None value = 3 + initialiser_size value
+stacked_size (Some n) value = 5
+
+abbrev pub declared_at_size : Option StackedVariable → Option Expression → ℕ
+declared_at_size None value = 1 + initialiser_size value
+declared_at_size (Some v) value = stacked_size v.elements value
+
 abbrev pub declared_size : Declared → ℕ
-declared_size d = 1 + elim d.value [ None ↦ 0 | Some e ↦ expression_size e + 2 ]
+declared_size d = declared_at_size d.stacked d.value
 
 abbrev pub all_declared_size : List Declared → ℕ
 all_declared_size [] = 0
@@ -119,23 +139,36 @@ abbrev mutual
   statement_size Break = 2
   statement_size Continue = 2
   statement_size Leave = 1
-  statement_size (TryExcept body filter block) = statements_size body + (2 + statements_size block)
+  statement_size (TryExcept body filter block) = statements_size body + (3 + statements_size block)
   statement_size (TryFinally body k last) = statements_size body + 3
 
   pub statements_size : Statements → ℕ
   statements_size Empty = 0
   statements_size (Then s ss) = statement_size s + statements_size ss
 
--- ---- locals for codes and flags, which blocks inside one another can't share
+-- ---- locals for codes and flags, which blocks inside one another can't share, and for how many
+-- bytes of an array are left to clear
+
+abbrev pub elements_notes : Option ℕ → ℕ
+elements_notes None = 0
+elements_notes (Some n) = 1
+
+abbrev pub stacked_notes : Option StackedVariable → ℕ
+stacked_notes None = 0
+stacked_notes (Some v) = elements_notes v.elements
+
+abbrev pub declared_notes : List Declared → ℕ
+declared_notes [] = 0
+declared_notes (d ∷ ds) = max (stacked_notes d.stacked) (declared_notes ds)
 
 abbrev mutual
   pub statement_notes : Statement → ℕ
-  statement_notes (Declare d) = 0
+  statement_notes (Declare d) = stacked_notes d.stacked
   statement_notes (Block ss) = statements_notes ss
   statement_notes (Evaluate e) = 0
   statement_notes (If c s) = statement_notes s
   statement_notes (IfElse c s t) = max (statement_notes s) (statement_notes t)
-  statement_notes (For ds first c next s) = statement_notes s
+  statement_notes (For ds first c next s) = max (declared_notes ds) (statement_notes s)
   statement_notes (DoWhile s c) = statement_notes s
   statement_notes (Return e) = 0
   statement_notes Break = 0

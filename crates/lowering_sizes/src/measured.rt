@@ -90,7 +90,7 @@ fn measure_loop_or_try(stmt: &Stmt, parts: &mut Vec<u64>) -> Result<u64, AllocEr
             let block = measure_all(handler, parts)?;
             let size = measure_block(body, parts)?;
             parts.push(block)?;
-            sum(size, sum(block, 2)?)
+            sum(size, sum(block, 3)?)
         }
         Stmt::TryFinally { body, .. } => {
             let size = measure_block(body, parts)?;

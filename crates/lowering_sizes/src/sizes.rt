@@ -16,7 +16,7 @@ pub fn conversion_size(conversion: Conversion) -> u64
     match conversion {
         Conversion::Kept => 0,
         Conversion::Extend { .. } => 1,
-        Conversion::Scale { .. } => 3,
+        Conversion::Scale { .. } => 2,
     }
 }
 
@@ -36,6 +36,7 @@ pub fn address_count(place: &Lvalue) -> u64
     match place {
         Lvalue::Local(_) => 0,
         Lvalue::Global { .. } => 1,
+        Lvalue::Stacked { .. } => 1,
         Lvalue::Indirection { .. } => 1,
         Lvalue::Element { .. } => 1,
     }
@@ -47,6 +48,7 @@ pub fn read_size(place: &Lvalue) -> u64
     match place {
         Lvalue::Local(_) => 1,
         Lvalue::Global { .. } => 2,
+        Lvalue::Stacked { .. } => 2,
         Lvalue::Indirection { .. } => 2,
         Lvalue::Element { .. } => 2,
     }
@@ -67,6 +69,7 @@ pub fn locate_size(place: &Lvalue) -> Result<u64, AllocError>
     match place {
         Lvalue::Local(_) => Ok(0),
         Lvalue::Global { .. } => Ok(1),
+        Lvalue::Stacked { .. } => Ok(2),
         Lvalue::Indirection { pointer, .. } => expression_size(pointer),
         Lvalue::Element { array, index, .. } => more_size(array, more_size(index, 1)?),
     }
@@ -112,6 +115,7 @@ fn address_size(place: &Lvalue) -> Result<u64, AllocError>
     match place {
         Lvalue::Local(_) => Ok(1),
         Lvalue::Global { .. } => Ok(located),
+        Lvalue::Stacked { .. } => Ok(located),
         Lvalue::Indirection { .. } => Ok(located),
         Lvalue::Element { .. } => Ok(located),
     }
@@ -158,6 +162,7 @@ fn node_size(node: &Node) -> Result<u64, AllocError>
 {
     match node {
         Node::Constant { .. } => Ok(1),
+        Node::StackedArray { .. } => Ok(2),
         Node::Read(place) => more_located(place, read_size(place)),
         Node::AddressOf(place) => address_size(place),
         Node::Increment {

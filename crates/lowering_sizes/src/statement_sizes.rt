@@ -8,7 +8,7 @@ ghost use Rattle.lowering_sizes.specs.Sizes as spec;
 use crate::sizes::more_size;
 use crate::sums::{larger, sum};
 use c_checked::expression::Expr;
-use c_checked::statement::{Declared, Stmt};
+use c_checked::statement::{Declared, StackedVariable, Stmt};
 use std::alloc::AllocError;
 
 /// An expression whose value isn't used.
@@ -41,12 +41,32 @@ pub fn return_size(expr: &Option<Expr>) -> Result<u64, AllocError>
     }
 }
 
+fn initialiser_size(expr: &Option<Expr>) -> Result<u64, AllocError>
+    ensures { IfOk result (λ n. n ≡ spec.initialiser_size (option_map tree.expression expr.now)) }
+{
+    match expr {
+        None => Ok(0),
+        Some(e) => more_size(e, 2),
+    }
+}
+
+/// How many instructions the declaration of a variable on the data stack is lowered to.
+fn stacked_size(elements: Option<u64>, value: &Option<Expr>) -> Result<u64, AllocError>
+    ensures { IfOk result (λ n. n ≡
+        spec.stacked_size elements (option_map tree.expression value.now)) }
+{
+    match elements {
+        None => sum(3, initialiser_size(value)?),
+        Some(_) => Ok(5),
+    }
+}
+
 pub fn declared_size(declared: &Declared) -> Result<u64, AllocError>
     ensures { IfOk result (λ n. n ≡ spec.declared_size (statements.declared declared.now)) }
 {
-    match &declared.value {
-        None => Ok(1),
-        Some(e) => more_size(e, 3),
+    match declared.stacked {
+        None => sum(1, initialiser_size(&declared.value)?),
+        Some(variable) => stacked_size(variable.elements, &declared.value),
     }
 }
 
@@ -59,6 +79,30 @@ pub fn all_declared_size(declared: &[Declared]) -> Result<u64, AllocError>
         total = sum(total, size)?;
     }
     Ok(total)
+}
+
+/// How many locals the declaration of this variable needs.
+fn stacked_notes(variable: Option<StackedVariable>) -> u64
+    ensures { result ≡ spec.stacked_notes variable }
+{
+    match variable {
+        None => 0,
+        Some(place) => match place.elements {
+            None => 0,
+            Some(_) => 1,
+        },
+    }
+}
+
+fn declared_notes(declared: &[Declared]) -> u64
+    ensures { result ≡ spec.declared_notes (map statements.declared declared.now) }
+{
+    let mut most = 0;
+    for one in declared {
+        let next = larger(most, stacked_notes(one.stacked));
+        most = next;
+    }
+    most
 }
 
 #[cycle(notes)]
@@ -80,7 +124,7 @@ fn statement_notes(stmt: &Stmt) -> Result<u64, AllocError>
     ensures { IfOk result (λ n. n ≡ spec.statement_notes (statements.statement stmt.now)) }
 {
     match stmt {
-        Stmt::Declare(_) => Ok(0),
+        Stmt::Declare(declared) => Ok(stacked_notes(declared.stacked)),
         Stmt::Block(stmts) => statements_notes(stmts),
         Stmt::Evaluate(_) => Ok(0),
         Stmt::If {
@@ -93,7 +137,9 @@ fn statement_notes(stmt: &Stmt) -> Result<u64, AllocError>
             otherwise: Some(otherwise),
             ..
         } => { Ok(larger(statement_notes(then)?, statement_notes(otherwise)?)) }
-        Stmt::For { body, .. } => statement_notes(body),
+        Stmt::For { declared, body, .. } => {
+            Ok(larger(declared_notes(declared), statement_notes(body)?))
+        }
         Stmt::Do { body, .. } => statement_notes(body),
         Stmt::Return(_) => Ok(0),
         Stmt::Break => Ok(0),

@@ -10,6 +10,7 @@ use Rattle.linear_machine.specs.Frames as linear
 use Rattle.match_bodies.proofs.Lemmas.{compute_length, compute_run}
 use Rattle.lowering_invariants.specs.Ready as ready
 use Rattle.lowering_invariants.specs.Registers.{SlotHas}
+use Rattle.match_bodies.proofs.HiddenBytes.{said_of_hidden}
 use Rattle.match_bodies.proofs.BodyViews.{IsCounted, count, room_here, holds_here, slots_here, locals_here}
 use Rattle.match_bodies.proofs.TemplateSlots.{Leaves}
 use Rattle.match_bodies.proofs.TemplateRuns.{code, frame, slots, v, sp_is, are_here, keeps_here, template_spared, has_slots, template_here, next_address, Surroundings}
@@ -38,10 +39,11 @@ exactly ts i value le = omega (
   length-take-le i ts le,
 )
 
--- a constant reads nothing
+-- a constant reads nothing, and neither does what takes room on the data stack
 pub same_constant : (reserved : ℕ → Bool) (o : Operation) (a b x y : ℕ) (m : Memory)
     → is_constant o ≡ true → performed reserved o a b m ≡ performed reserved o x y m
 same_constant reserved (operations.Pure (Constant n)) a b x y m e = refl
+same_constant reserved (operations.Allocate n) a b x y m e = refl
 same_constant reserved o a b x y m e = absurd cc
 
 module _ (setting : Setting) (roomy : HaveRoom setting.program) (s : State)
@@ -198,6 +200,8 @@ module _ (setting : Setting) (roomy : HaveRoom setting.program) (s : State)
       ≡ next (stored to value m) = λ next. reads next ∙ ap (computed program next to c) gives
       ∙ writes to value m fits next in
       let lt = inside (stored to value m) acts body b.body.slots.body in
+      let hides = said_of_hidden program.globals o (now.slots first) (now.slots second)
+      c.store.memory (Gives value m) tt gives in
       let at = next_address setting roomy s c b counted
       (instructions.Compute to o first second) e refl in
       let small = label_small setting roomy s c b counted around (c.frame.next + 1)
@@ -206,7 +210,7 @@ module _ (setting : Setting) (roomy : HaveRoom setting.program) (s : State)
       (v setting roomy s c b counted) s.cpu.rip s.cpu.flags now
       (kept to now.slots (Gives value m)) =
       subst (λ x. Computed (frame setting roomy s c b counted) to o first second
-      (v setting roomy s c b counted) s.cpu.rip s.cpu.flags now (kept to now.slots x)) gives
+      (v setting roomy s c b counted) s.cpu.rip s.cpu.flags now (kept to now.slots x)) hides
       (compute_run (frame setting roomy s c b counted) to o first second
       (v setting roomy s c b counted) s.cpu.rip s.cpu.flags now (room_here setting s c b counted)
       there.0 there.1 there.2
@@ -229,7 +233,7 @@ module _ (setting : Setting) (roomy : HaveRoom setting.program) (s : State)
       (let z = compute_size y to o first second in omega arith) lt
       (let z = compute_size y to o first second in omega arith)
       (leaves_stored to value m held fits there.0 reached.0) free
-      (compute_keeps setting roomy s c b counted around to o first second e value m gives)
+      (compute_keeps setting roomy s c b counted around to o first second e value m hides)
       (template_spared setting roomy s c b counted (instructions.Compute to o first second) e
       (λ h. h)) acts
       (some_code y to o first second) (omega arith)

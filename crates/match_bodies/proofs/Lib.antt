@@ -40,6 +40,7 @@ pub mod LocalPlaces
 pub mod ReachedSlots
 pub mod SlotPlaces
 pub mod BodyViews
+pub mod HiddenBytes
 pub mod ProgramKeeping
 pub mod MemoryKeeping
 pub mod ChainKeeping

@@ -1,6 +1,6 @@
 -- A memory in which no byte of the image has changed is the machine's, as before.
 use Rattle.std.proofs.Common.{◌≡◌, ℕ, List, sym, ap, ◌∙◌}
-use Rattle.match_bodies.specs.Words.{Protection, is_writable, Memory, Functions, Funclet, is_reserved, LinearProgram, Agrees, ImagePlan, Sites, IsProgramImage, AreBytes, IsMachineMemory}
+use Rattle.match_bodies.specs.Words.{Protection, is_writable, Memory, Functions, Funclet, is_hidden, LinearProgram, Agrees, ImagePlan, Sites, IsProgramImage, AreBytes, IsMachineMemory}
 use Rattle.match_bodies.proofs.ProgramKeeping.{KeepsImage, program_stays}
 
 module _ (t : Functions) (fs : List Funclet) (program : LinearProgram) (p : ImagePlan) (q : Sites)
@@ -8,7 +8,7 @@ module _ (t : Functions) (fs : List Funclet) (program : LinearProgram) (p : Imag
   -- where each page may be used as before
   pub memory_stays : (m m' old source : Memory) → KeepsImage program.globals m m' → AreBytes m'.byte
       → ((a : ℕ) → m'.protection a ≡ m.protection a)
-      → Agrees (is_reserved program.globals) m' source
+      → Agrees (is_hidden program.globals) m' source
       → IsMachineMemory t fs program p q m old → IsMachineMemory t fs program p q m' source
   memory_stays m m' old source keeps bytes same agrees h = record {
     data_alone = record {

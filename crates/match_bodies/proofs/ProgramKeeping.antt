@@ -1,6 +1,6 @@
 -- The program stays in a memory in which no byte of the image has changed.
 use Rattle.std.proofs.Common.{◌≡◌, ℕ, ◌+◌, ◌<◌, ◌≤◌, true, Some, List, [], ◌∷◌, length, sym, ap, subst, ◌∙◌, arith}
-use Rattle.match_bodies.specs.Words.{Service, address_of, Protection, is_readable, is_writable, Memory, Functions, Funclet, Instr, is_reserved, LinearProgram, LinearBody, BodyName, body_of, spelled, sizes, thunk, check_stack, code_from, body_size, HasCode, HasThunk, ImagePlan, Sites, links_of, begin_of, entry_code, code_of, cold_code_of, service_of, HasService, HasProgram, IsProgramImage, IMAGE_BASE, IMAGE_RANGE_END, IsInImage}
+use Rattle.match_bodies.specs.Words.{Service, address_of, Protection, is_readable, is_writable, Memory, Functions, Funclet, Instr, is_hidden, LinearProgram, LinearBody, BodyName, body_of, spelled, sizes, thunk, check_stack, code_from, body_size, HasCode, HasThunk, ImagePlan, Sites, links_of, begin_of, entry_code, code_of, cold_code_of, service_of, HasService, HasProgram, IsProgramImage, IMAGE_BASE, IMAGE_RANGE_END, IsInImage}
 use Rattle.host_layout.specs.declared.service.Service.TheVariants as services
 use Rattle.match_bodies.proofs.Lemmas.{sizes_spelled, sizes_append, body_sizes, same_number}
 use Rattle.template_code.specs.ColdParts.{hot_code, cold_code}
@@ -42,9 +42,9 @@ has_code_there m m' at code same h = record {
 
 -- what may be read of the image, where the source may not look, is as it was
 pub record KeepsImage (globals : List ℕ) (m m' : Memory) : Type 0 where
-  pub byte : (a : ℕ) → IMAGE_BASE ≤ a → a < IMAGE_RANGE_END → is_reserved globals a ≡ true
+  pub byte : (a : ℕ) → IMAGE_BASE ≤ a → a < IMAGE_RANGE_END → is_hidden globals a ≡ true
       → m'.byte a ≡ m.byte a
-  pub protection : (a : ℕ) → IMAGE_BASE ≤ a → a < IMAGE_RANGE_END → is_reserved globals a ≡ true
+  pub protection : (a : ℕ) → IMAGE_BASE ≤ a → a < IMAGE_RANGE_END → is_hidden globals a ≡ true
       → m'.protection a ≡ m.protection a
 
 module _ (t : Functions) (fs : List Funclet) (program : LinearProgram) (p : ImagePlan) (q : Sites)

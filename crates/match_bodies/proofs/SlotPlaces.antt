@@ -2,7 +2,7 @@
 use Rattle.std.proofs.Common.{◌≡◌, ℕ, zero, suc, ◌+◌, ◌*◌, ◌^◌, ◌<◌, ◌≤◌, true, Option, Some, None, Ok, List, [], ◌∷◌, ◌++◌, length, refl, sym, ap, subst, ◌∙◌, arith, inl, inr}
 use Rattle.std.specs.Prelude.{◌⊎◌, slice_get, slice_index, nat_le, nat_lt}
 use Rattle.std.proofs.lemmas.Bool.{le-leb, lt-ltb}
-use Rattle.match_bodies.specs.Words.{STACK_START, STACK_END, Memory, may_write, number_at, rsp, word, Functions, Funclet, is_reserved, Counts, LinearProgram, LinearBody, FunctionBody, FuncletBody, Configuration, local_of, Layout, InTemporaries, InLocals, Agrees, IsBytes, Context, Item, StackItem, IsLinkedStack, ImagePlan, Activation, locals_of, HoldsWords, IsInPlace, HasActivation, home_end, IsFunctionLayout, IsLeafLayout, IsFuncletLayout, HasBase, SlotsHaveRoom, MemoryKeepsBase, KeepsReserved, HoldsBody, LocalRegisters, local_in}
+use Rattle.match_bodies.specs.Words.{STACK_START, STACK_END, Memory, may_write, number_at, rsp, word, Functions, Funclet, is_hidden, Counts, LinearProgram, LinearBody, FunctionBody, FuncletBody, Configuration, local_of, Layout, InTemporaries, InLocals, Agrees, IsBytes, Context, Item, StackItem, IsLinkedStack, ImagePlan, Activation, locals_of, HoldsWords, IsInPlace, HasActivation, home_end, IsFunctionLayout, IsLeafLayout, IsFuncletLayout, HasBase, SlotsHaveRoom, MemoryKeepsBase, KeepsReserved, HoldsBody, LocalRegisters, local_in}
 use Rattle.x64_instr.specs.declared.register.Reg.{Reg}
 use Rattle.linear_machine.specs.Frames as linear
 use Rattle.x64_templates.specs.EntryStates.{body_in_memory}
@@ -177,9 +177,9 @@ module _ (t : Functions) (fs : List Funclet) (program : LinearProgram) (p : Imag
 
 -- ---- what templates hold
 
-pub stack_is_reserved : (globals : List ℕ) (a : ℕ) → STACK_START ≤ a → a < STACK_END
-    → is_reserved globals a ≡ true
-stack_is_reserved globals a l u =
+pub stack_is_hidden : (globals : List ℕ) (a : ℕ) → STACK_START ≤ a → a < STACK_END
+    → is_hidden globals a ≡ true
+stack_is_hidden globals a l u =
     let low : nat_le 0x6FFF0000 a ≡ true = le-leb 0x6FFF0000 a (omega arith) in
     let high : nat_lt a 0x70800000 ≡ true = lt-ltb a 0x70800000 u in
     rw (low, high) refl
@@ -214,10 +214,10 @@ keeps_base m y (Some slot) sp base may low h = let top = h.in_stack in
     (word_is m (sp + slot) base h.word_is, λ a l u. may a (omega arith) (omega arith))
 
 keeps_reserved : (globals : List ℕ) (m : Memory) (y : Layout) (o : Option ℕ) (sp base : ℕ)
-    → STACK_START ≤ sp → KeepsSlot m y o sp base → KeepsReserved o sp (is_reserved globals)
+    → STACK_START ≤ sp → KeepsSlot m y o sp base → KeepsReserved o sp (is_hidden globals)
 keeps_reserved globals m y None sp base low h = tt
 keeps_reserved globals m y (Some slot) sp base low h = let top = h.in_stack in
-    λ a l u. stack_is_reserved globals a (omega arith) (omega arith)
+    λ a l u. stack_is_hidden globals a (omega arith) (omega arith)
 
 pub in_stack_slots : (m : Memory) (y : Layout) (n : Counts) (sp k : ℕ) (acts : List Activation)
     (a : ℕ) → (h : SlotsPlaced m y n.temporaries sp k acts) → length h.values ≡ n.locals
@@ -238,15 +238,15 @@ pub holds_of : (globals : List ℕ) (m source : Memory) (y : Layout) (n : Counts
     → (h : SlotsPlaced m y n.temporaries sp k acts) → length h.values ≡ n.locals
     → ((i : ℕ) → arrived i < 2 ^ 64) → ((r : Reg) → local_in l r < 2 ^ 64) → IsBytes m →
     ((a : ℕ) → STACK_START ≤ a → a < STACK_END → may_write m a ≡ true)
-    → Agrees (is_reserved globals) m source
-    → HoldsBody y n (is_reserved globals) sp h.base arrived l m
+    → Agrees (is_hidden globals) m source
+    → HoldsBody y n (is_hidden globals) sp h.base arrived l m
     (body_in_memory y sp h.base arrived l m source)
 holds_of globals m source y n sp k acts arrived l h count few small bytes may agrees =
-    holds_body_in_memory y n (is_reserved globals) sp h.base arrived l m source few small bytes
+    holds_body_in_memory y n (is_hidden globals) sp h.base arrived l m source few small bytes
     (keeps_base m y y.base sp h.base may h.sp_low h.kept)
     (λ a i. let r = in_stack_slots m y n sp k acts a h count i in may a r.0 r.1)
     (λ a i. let r = in_stack_slots m y n sp k acts a h count i in
-    stack_is_reserved globals a r.0 r.1)
+    stack_is_hidden globals a r.0 r.1)
     (keeps_reserved globals m y y.base sp h.base h.sp_low h.kept)
     agrees
 

@@ -1,10 +1,10 @@
 -- After a run of a template the next instruction begins, with other numbers in the body's slots.
 use Rattle.std.proofs.Common.{◌≡◌, ℕ, suc, ◌+◌, ◌*◌, ◌<◌, ◌≤◌, Bool, true, false, Some, Ok, List, [], ◌∷◌, length, refl, sym, ap, subst, ◌∙◌, arith, inl, inr}
 use Rattle.std.specs.Prelude.{◌⊎◌, slice_get}
-use Rattle.match_bodies.specs.Words.{STACK_START, STACK_END, Protection, is_writable, Memory, may_write, number_at, State, word, is_reserved, Counts, Layout, InTemporaries, InLocals, Activation, HoldsWords, IsData, KeepsStackBut, Changes, KeepsStack}
+use Rattle.match_bodies.specs.Words.{STACK_START, STACK_END, Protection, is_writable, Memory, may_write, number_at, State, word, is_hidden, Counts, Layout, InTemporaries, InLocals, Activation, HoldsWords, IsData, KeepsStackBut, Changes, KeepsStack}
 use Rattle.match_bodies.proofs.Lemmas.{same_number}
 use Rattle.match_bodies.proofs.StackWords.{may_read_written, word_is, word_of}
-use Rattle.match_bodies.proofs.SlotPlaces.{SlotsPlaced, stack_is_reserved, in_stack_slots}
+use Rattle.match_bodies.proofs.SlotPlaces.{SlotsPlaced, stack_is_hidden, in_stack_slots}
 use Rattle.match_bodies.proofs.ProgramKeeping.{KeepsImage}
 use Rattle.match_bodies.proofs.ChainKeeping.{Keeps}
 
@@ -25,7 +25,7 @@ words_are m at end (v ∷ vs) le h = (
 -- a memory after a change of a body's slots, and of bytes where the source may look
 pub record Changed (globals : List ℕ) (s u : State) (y : Layout) (n : Counts) (sp base : ℕ) : Type 0
   where
-    pub changes : Changes y n (is_reserved globals) sp base s.memory u.memory
+    pub changes : Changes y n (is_hidden globals) sp base s.memory u.memory
     pub keeps : Keeps s u
 
 module _ (globals : List ℕ) (s u : State) (y : Layout) (n : Counts) (sp k : ℕ)
@@ -44,7 +44,7 @@ module _ (globals : List ℕ) (s u : State) (y : Layout) (n : Counts) (sp k : �
   pub beside_slots : (a : ℕ) → STACK_START ≤ a → a < STACK_END
       → (InTemporaries y n sp a ⊎ InLocals y n placed.base a → ⊥)
       → u.memory.byte a ≡ s.memory.byte a
-  beside_slots a l h out = changed.changes.byte a (stack_is_reserved globals a l h) out
+  beside_slots a l h out = changed.changes.byte a (stack_is_hidden globals a l h) out
 
   -- a word of the stack that is in no slot
   pub word_beside : (at v : ℕ) → STACK_START ≤ at → at + 8 ≤ STACK_END

@@ -1,7 +1,7 @@
 -- Each turn of the run of an instruction's template keeps the shadow.
 use Rattle.std.proofs.Common.{◌≡◌, ℕ, ◌+◌, ◌^◌, ◌<◌, ◌≤◌, List, [], ◌++◌, Option, Some, None, length, refl, sym, ap, subst, ◌∙◌, arith, length-append, append_assoc}
 use Rattle.std.specs.Prelude.{slice_get}
-use Rattle.match_bodies.specs.Words.{Memory, Rsp, Instr, State, register, Operation, Gives, performed, is_reserved, Slot, Local, Temporary, Instruction, LinearBody, Configuration, Layout, size, sizes, local_at, keep_local, keep, operands_code, finish_code, compute_code, IsNear, template, template_size, local_registers, other_registers, MachineView, machine, Reaches, FrameHolds, HasCode, AllKeep, HaveRoom, links_of, counts_of, Setting, RepresentsAt, work, test_code, information_code, Place, InRegister, InFrame, Arriving, place_of, keep_placed}
+use Rattle.match_bodies.specs.Words.{Memory, Rsp, Instr, State, register, Operation, Gives, performed, is_hidden, Slot, Local, Temporary, Instruction, LinearBody, Configuration, Layout, size, sizes, local_at, keep_local, keep, operands_code, finish_code, compute_code, IsNear, template, template_size, local_registers, other_registers, MachineView, machine, Reaches, FrameHolds, HasCode, AllKeep, HaveRoom, links_of, counts_of, Setting, RepresentsAt, work, test_code, information_code, Place, InRegister, InFrame, Arriving, place_of, keep_placed}
 use Rattle.c_operations.specs.declared.field.Field.{Field}
 use Rattle.linear_code.specs.declared.instruction.Instruction.TheVariants as instructions
 use Rattle.match_bodies.proofs.Lemmas.{sizes_append, template_sizes, jump_if_zero_size, rest_of, code_split, Begun, operands_run, Worked, work_run, work_flow, separator_flow, jump_flow, keep_flow, operands_flow, information_flow, jump_if_zero_flow}
@@ -132,7 +132,7 @@ module _ (setting : Setting) (roomy : HaveRoom setting.program) (s : State)
         (locals : view.locals ≡ local_registers s.cpu.registers)
         (same : view.memory ≡ s.memory) (keeps : Keeps s x)
         (m n value : ℕ) (source : Memory) (m_small : m < 2 ^ 64) (n_small : n < 2 ^ 64)
-        (waits : HasOperands o m n view) (gives : performed (is_reserved program.globals) o m n
+        (waits : HasOperands o m n view) (gives : performed (is_hidden program.globals) o m n
         c.store.memory ≡ Gives value source) where
       code_there : HasCode view.memory x.cpu.rip (work o)
       code_there =
@@ -237,7 +237,7 @@ module _ (setting : Setting) (roomy : HaveRoom setting.program) (s : State)
         (past_none setting s c b counted here_now at (λ h. h)) r past
 
     pub compute_keeps : (value : ℕ) (source : Memory)
-        → performed (is_reserved program.globals) o
+        → performed (is_hidden program.globals) o
         ((slots setting roomy s c b counted).slots first)
         ((slots setting roomy s c b counted).slots second) c.store.memory ≡ Gives value source
         → Keeping (length (compute_code layout to o first second)) s

@@ -3,7 +3,7 @@
 use Rattle.std.proofs.Common.{◌≡◌, ℕ, ◌+◌, ◌^◌, ◌<◌, ◌≤◌, true, Some, List, [], ◌∷◌, ◌++◌, length, get_or, refl, sym, ap, subst, ◌∙◌, arith, append_assoc, length-append}
 use Rattle.std.specs.Prelude.{slice_get, slice_index}
 use Rattle.std.proofs.lemmas.List.{append-nil}
-use Rattle.match_bodies.specs.Words.{Memory, Rsp, Instr, Context, context_of, kept_of, State, register, Instruction, BodyState, LinearBody, FuncletBody, Configuration, is_reserved, Layout, sizes, template, Agrees, IsBytes, Reaches, IsReturn, WalkGives, AllKeep, links_of, FindsOwed, Owed, owed_of, counts_of, state_of, OwnerHasFrame, Setting, RepresentsAt, MachineView, OtherRegisters, local_registers, other_registers, registers_of, FrameHolds, frame_at, arrived_in, GivesCallers, state}
+use Rattle.match_bodies.specs.Words.{Memory, Rsp, Instr, Context, context_of, kept_of, State, register, Instruction, BodyState, LinearBody, FuncletBody, Configuration, is_hidden, Layout, sizes, template, Agrees, IsBytes, Reaches, IsReturn, WalkGives, AllKeep, links_of, FindsOwed, Owed, owed_of, counts_of, state_of, OwnerHasFrame, Setting, RepresentsAt, MachineView, OtherRegisters, local_registers, other_registers, registers_of, FrameHolds, frame_at, arrived_in, GivesCallers, state}
 use Rattle.match_bodies.proofs.Lemmas.{IsFlow, LabelsNear}
 use Rattle.match_bodies.proofs.LabelPlaces.{labels_near}
 use Rattle.x64_templates.proofs.Bodies.{holds_same, changes_same}
@@ -106,8 +106,8 @@ module _ (setting : Setting) (s : State) (c : Configuration)
 
   -- where no reserved byte has changed the slots are as they were
   pub ran_same : (u : State) (source : Memory) → Keeps s u
-      → ((a : ℕ) → is_reserved program.globals a ≡ true → u.memory.byte a ≡ s.memory.byte a)
-      → (IsBytes s.memory → IsBytes u.memory) → Agrees (is_reserved program.globals) u.memory source
+      → ((a : ℕ) → is_hidden program.globals a ≡ true → u.memory.byte a ≡ s.memory.byte a)
+      → (IsBytes s.memory → IsBytes u.memory) → Agrees (is_hidden program.globals) u.memory source
       → other_registers u.cpu.registers ≡ other_registers s.cpu.registers
       → local_registers u.cpu.registers ≡ local_registers s.cpu.registers
       → Ran setting s c b counted u (record {
@@ -123,7 +123,7 @@ module _ (setting : Setting) (s : State) (c : Configuration)
       record {
         changed = record {
           changes = changes_same layout_here (counts_of code_here)
-              (is_reserved program.globals) (register s.cpu Rsp) base (arrived_in s.cpu) room
+              (is_hidden program.globals) (register s.cpu Rsp) base (arrived_in s.cpu) room
               s.memory u.memory own
               keeps.protection bytes;
           keeps = keeps;
@@ -133,7 +133,7 @@ module _ (setting : Setting) (s : State) (c : Configuration)
               slots = (state_of program p s c base).slots;
               memory = source;
             })) (sym locals)
-            (holds_same layout_here (counts_of code_here) (is_reserved program.globals)
+            (holds_same layout_here (counts_of code_here) (is_hidden program.globals)
             (register s.cpu Rsp) base (arrived_in s.cpu) room (local_registers s.cpu.registers)
             s.memory u.memory source (state_of program p s c base) own keeps.protection agrees
             (holds_here setting s c b counted));

@@ -4,7 +4,7 @@ use Rattle.x64_instr.specs.declared.register.Reg.TheVariants.{Rax, Rcx, Rdx, Rsp
 use Rattle.x64_instr.specs.Registers.{number}
 use Rattle.x64_machine.specs.declared.cpu.Cpu.{Cpu}
 use Rattle.x64_machine.specs.Effect.{State, register}
-use Rattle.source_meaning.specs.Source.{is_reserved}
+use Rattle.source_meaning.specs.Source.{is_hidden}
 use Rattle.linear_code.specs.declared.slot.Slot.TheVariants.{Local, Temporary}
 use Rattle.linear_code.specs.BodyState.{BodyState, Counts}
 use Rattle.linear_code.specs.Program.{LinearProgram, LinearBody}
@@ -56,7 +56,7 @@ module _ (program : LinearProgram) (p : ImagePlan) where
       record {
         layout = p.layout name;
         counts = counts_of b;
-        reserved = is_reserved program.globals;
+        reserved = is_hidden program.globals;
         sp = sp;
         base = base;
         arrived = arrived;

@@ -22,7 +22,7 @@ use Rattle.host_model.specs.Funclets.{by_kind, arrivals}
 use Rattle.c_operations.specs.declared.operation.Operation.{Operation}
 use Rattle.c_operations.specs.declared.built_in.BuiltIn.{BuiltIn}
 use Rattle.c_operations.specs.declared.built_in.BuiltIn.TheVariants.{Put, Protect, RaiseException, Walk}
-use Rattle.source_meaning.specs.Source.{is_reserved}
+use Rattle.source_meaning.specs.Source.{is_hidden}
 use Rattle.linear_code.specs.declared.slot.Slot.{Slot}
 use Rattle.linear_code.specs.declared.slot.Slot.TheVariants.{Temporary}
 use Rattle.linear_code.specs.declared.instruction.Instruction.{Instruction}
@@ -119,7 +119,7 @@ module _ (t : Functions) (fs : List Funclet) (program : LinearProgram) (p : Imag
   pub record IsInImage (from to : ℕ) : Type 0 where
     pub low : IMAGE_BASE < from
     pub high : to < IMAGE_RANGE_END
-    pub own : (a : ℕ) → from ≤ a → a < to → is_reserved program.globals a ≡ true
+    pub own : (a : ℕ) → from ≤ a → a < to → is_hidden program.globals a ≡ true
 
   -- a body's instructions follow what comes before them, one after another, but for those of its
   -- cold parts, which are one after another at a place of their own
@@ -176,7 +176,7 @@ module _ (t : Functions) (fs : List Funclet) (program : LinearProgram) (p : Imag
   -- may be written; no page of the arena, whose rights a program may set, is code
   pub record IsMachineMemory (m source : Memory) : Type 0 where
     pub data_alone : IsData m
-    pub agrees : Agrees (is_reserved program.globals) m source
+    pub agrees : Agrees (is_hidden program.globals) m source
     pub stack : (a : ℕ) → STACK_START ≤ a → a < STACK_END → may_write m a ≡ true
     pub arena : (a : ℕ) → in_arena a ≡ true → (m.protection a).execute ≡ false
     pub code : HasProgram m

@@ -3,7 +3,7 @@ pub use Rattle.seh_num.specs.declared.event.Event.{Event}
 pub use Rattle.seh_num.specs.declared.width.Width.{Width}
 pub use Rattle.seh_num.specs.declared.width.Width.TheVariants.{W32, W64, W8}
 pub use Rattle.host_layout.specs.Services.{address_of}
-pub use Rattle.host_layout.specs.declared.range.TheConstants.{STACK_END, STACK_START, IMAGE_BASE, IMAGE_RANGE_END}
+pub use Rattle.host_layout.specs.declared.range.TheConstants.{STACK_END, STACK_START, IMAGE_BASE, IMAGE_RANGE_END, DATA_STACK_START, FIRST_DATA_STACK}
 pub use Rattle.host_layout.specs.declared.service.Service.{Service}
 pub use Rattle.flat_memory.specs.Memory.{Memory, may_write, with_bytes, may_read, access, loaded, stored, unless_refused, after_store}
 unfoldable pub use Rattle.flat_memory.specs.Memory.{executable, first_refused, number_at, with_number}
@@ -11,7 +11,7 @@ pub use Rattle.flat_memory.specs.Protections.{is_writable, is_readable}
 pub use Rattle.flat_memory.specs.declared.protection.Protection.{Protection}
 pub use Rattle.c_operations.specs.Performed.{Gives, performed, OperationResult}
 pub use Rattle.c_operations.specs.declared.operation.Operation.{Operation}
-pub use Rattle.source_meaning.specs.Source.{is_reserved}
+pub use Rattle.source_meaning.specs.Source.{is_between, is_data, is_reserved, is_hidden}
 pub use Rattle.linear_code.specs.BodyState.{BodyState, with_slot, Counts}
 pub use Rattle.linear_code.specs.Meaning.{IsSlot, kept, JumpsTo, HasSlots, step}
 pub use Rattle.linear_code.specs.Program.{LinearProgram, LinearBody, LinearFunclet, LinearFunction}

@@ -103,8 +103,8 @@ ProgramsWalkTheShadow =
     → WalkGives t s cs → (run t fs m (host s) []).end ≡ None
     → WalkGivesShadow t fs m s cs
 
--- linear code makes at most 16 turns for each step of a program, and 3 more: where the machine
--- makes at most 16 for each of these, and 208 before them, it makes at most 256 for each step of
+-- linear code makes at most 16 turns for each step of a program, and 6 more: where the machine
+-- makes at most 16 for each of these, and 160 before them, it makes at most 256 for each step of
 -- the program, and as many again
 abbrev pub TurnsAreEnough : Type 0
-TurnsAreEnough = (n first : ℕ) → first ≤ 208 → first + 16 * (16 * n + 3) ≤ 256 * n + 256
+TurnsAreEnough = (n first : ℕ) → first ≤ 160 → first + 16 * (16 * n + 6) ≤ 256 * n + 256

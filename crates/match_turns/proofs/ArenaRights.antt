@@ -2,7 +2,7 @@
 use Rattle.std.proofs.Common.{◌≡◌, ℕ, ◌/◌, ◌<◌, ◌≤◌, Bool, true, false, cond, leb, ltb, ℤ, Option, Some, None, refl, sym, ap, ◌∙◌, arith, inl, inr}
 use Rattle.std.specs.Prelude.{◌⊎◌, nat_eq}
 use Rattle.std.proofs.lemmas.Bool.{and_parts, and_from, leb-true, ltb-true, eqb-true, ne_eqb, le-leb, lt-ltb, cases_lt}
-use Rattle.match_turns.specs.Words.{Protection, is_writable, rights_numbered, Memory, may_write, rights_asked, protected, with_rights, is_reserved, Agrees, KeepsStack, Setting, IsMachineMemory, ARENA_START, ARENA_END}
+use Rattle.match_turns.specs.Words.{Protection, is_writable, rights_numbered, Memory, may_write, rights_asked, protected, with_rights, is_hidden, Agrees, KeepsStack, Setting, IsMachineMemory, ARENA_START, ARENA_END}
 use Rattle.host_layout.specs.Ranges.{in_arena}
 use Rattle.flat_memory.specs.declared.protection.Rights.{Rights}
 use Rattle.match_turns.proofs.Lemmas.{program_stays}
@@ -100,12 +100,21 @@ module _ (setting : Setting) (m source : Memory) (at : ℕ) (n : ℤ)
   same_rights a (Some r) e = ap (λ (x : Protection). cond (nat_eq (a / 4096) (at / 4096))
       (record x { rights = r }) x) e
 
-  agrees : Agrees (is_reserved program.globals) after (protected source at n)
+  agrees : Agrees (is_hidden program.globals) after (protected source at n)
   agrees = record {
     byte = λ a r. same_byte a ∙ h.agrees.byte a r
         ∙ sym (ap (λ (f : ℕ → ℕ). f a) (rights_set source at n).byte);
     protection = λ a r. same_rights a (rights_asked at n) (h.agrees.protection a r);
     guard = h.agrees.guard;
+    pointer = λ a l u. (let old = h.agrees.pointer a l u in
+        let e = ap (λ (f : ℕ → ℕ). f a) (rights_set source at n).byte in
+        let few = old.small in
+        record {
+          seen = old.seen;
+          writable = ap (λ (x : Protection). is_writable x.rights)
+              ((rights_set source at n).outside a (inr (omega arith))) ∙ old.writable;
+          small = omega arith;
+        });
   }
 
   pub arena_memory : IsMachineMemory setting after (protected source at n)

@@ -1,7 +1,7 @@
 -- What is known where a body calls a function.
 use Rattle.std.proofs.Common.{◌≡◌, ◌≢◌, ℕ, ◌+◌, ◌<◌, ◌≤◌, false, Some, length, ap}
 use Rattle.std.specs.Prelude.{slice_get}
-use Rattle.match_turns.specs.Words.{State, LinearFunction, weight, weight_of, Configuration, HaveRoom, Setting, RepresentsAt}
+use Rattle.match_turns.specs.Words.{State, LinearFunction, weight, depth_weight, weight_of, Configuration, HaveRoom, Setting, RepresentsAt}
 use Rattle.linear_code.specs.declared.instruction.Instruction.TheVariants as instructions
 use Rattle.match_turns.proofs.Lemmas.{IsCounted}
 
@@ -28,9 +28,9 @@ pub record AtCall (setting : Setting) : Type 0 where
   pub parameters : function.parameters ≡ count
   pub fits : count ≤ function.body.locals
   pub some : 0 < length function.body.code
-  -- the depth that is left takes what it weighs
+  -- the depth that is left takes what it counts
   pub shallow : length configuration.store.activations + configuration.frame.held
-      + weight function ≤ 1000
+      + depth_weight function ≤ 1000
   -- the arguments are the last temporaries
   pub held : length configuration.frame.temporaries ≡ first + count
   -- no funclet begins where the callee does

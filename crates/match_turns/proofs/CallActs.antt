@@ -3,7 +3,7 @@ use Rattle.std.proofs.Common.{◌≡◌, ℕ, zero, suc, ◌+◌, ◌*◌, Bool,
 use Rattle.std.specs.Prelude.{slice_get, drop, if◌then◌else◌}
 use Rattle.std.proofs.lemmas.Bool.{eq-eqb}
 use Rattle.linear_code.specs.declared.instruction.Instruction.TheVariants as instructions
-use Rattle.match_turns.specs.Words.{LinearProgram, LinearFunction, weight, Waits, Configuration, Next, with_some, deeper, last_temporaries, begin_function, waiting, act, Layout, passing_code}
+use Rattle.match_turns.specs.Words.{LinearProgram, LinearFunction, depth_weight, Waits, Configuration, Next, with_some, deeper, last_temporaries, begin_function, waiting, act, Layout, passing_code}
 
 -- two turns for each argument that is passed on the stack
 pub passed_in : (y : Layout) (first i n : ℕ) → length (passing_code y first i n) ≡ 2 * n
@@ -21,7 +21,7 @@ pub call_acts : (program : LinearProgram) (c : Configuration) (f first count : �
     (fn : LinearFunction) → slice_get program.functions f ≡ Some fn
     → length c.frame.temporaries ≡ first + count
     → (next : Next) → act program (instructions.Call f first count) next c
-    ≡ deeper (weight fn) c.frame.held c.store c.events (next
+    ≡ deeper (depth_weight fn) c.frame.held c.store c.events (next
     (begin_function f fn (drop first c.frame.temporaries) c.frame.held
     (Waits (waiting c first).frame ∷ c.below) c.store c.events))
 unfolding with_some
@@ -32,10 +32,10 @@ call_acts program c f first count fn callee held next =
     (first + count) held) in
     ap (λ o. with_some c.events o (λ arguments.
     with_some c.events (slice_get program.functions f) (λ function.
-    deeper (weight function) c.frame.held c.store c.events
+    deeper (depth_weight function) c.frame.held c.store c.events
     (next (begin_function f function arguments c.frame.held (Waits (waiting c first).frame ∷
     c.below) c.store c.events))))) e
     ∙ ap (λ o. with_some c.events o (λ function.
-    deeper (weight function) c.frame.held c.store c.events
+    deeper (depth_weight function) c.frame.held c.store c.events
     (next (begin_function f function arguments c.frame.held (Waits (waiting c first).frame ∷
     c.below) c.store c.events)))) callee

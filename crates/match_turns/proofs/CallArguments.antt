@@ -6,7 +6,7 @@ use Rattle.std.proofs.lemmas.Bool.{cases_lt}
 use Rattle.match_turns.specs.Words.{STACK_START, STACK_END, number_at, may_write, Protection, is_writable, Rsp, Instr, Flags, State, register, Slot, Local, Temporary, IsSlot, BodyState, Layout, sizes, spelled, keep, IsNear, return_at, begin_call, call_code, passing_code, MachineView, machine, sp_of, with_four, pushed, HasBelow, InRegisters, slot_at, IsBytes, Agrees, HasCode, FramePlace, counts_of, FRAME_BY_WEIGHT, MOST_WEIGHT, weight, Setting, CallBegun}
 use Rattle.x64_templates.specs.Runs.{Reaches}
 use Rattle.linear_code.specs.declared.instruction.Instruction.TheVariants as instructions
-use Rattle.match_turns.proofs.Lemmas.{bytes_kept, reaches_then, same_number, Reached, code_split, runs_view, call_begins, beside, pushed_agrees, pushed_bytes, KeepsSlot, stack_is_reserved, AsFunction, AsFunclet, kind, sp_low, frame_top, room_here, holds_here, v, base, frame, slots, same_state, template_here, has_slots, sp_is, locals_count}
+use Rattle.match_turns.proofs.Lemmas.{bytes_kept, reaches_then, same_number, Reached, code_split, runs_view, call_begins, beside, pushed_agrees, pushed_bytes, KeepsSlot, stack_is_hidden, AsFunction, AsFunclet, kind, sp_low, frame_top, room_here, holds_here, v, base, frame, slots, same_state, template_here, has_slots, sp_is, locals_count}
 use Rattle.x64_templates.proofs.Passing.{passed_in_registers}
 use Rattle.match_bodies.proofs.BodyViews.{placed}
 use Rattle.match_turns.proofs.CallStackArguments.{HasOutgoing, AllPassed, passes, passing_fine}
@@ -165,7 +165,7 @@ module _ {setting : Setting} (at_call : AtCall setting) where
     writable = λ a l u. (let x = low in let z = room_top in
         b.memory.stack a (omega arith) (omega arith));
     own = λ a l u. (let x = low in let z = room_top in
-        stack_is_reserved program.globals a (omega arith) (omega arith));
+        stack_is_hidden program.globals a (omega arith) (omega arith));
     near = (let z = room_small in omega arith);
   }
     where
@@ -340,7 +340,7 @@ module _ {setting : Setting} (at_call : AtCall setting) where
       pushed_agrees here.reserved (with_four after_passing (numbers.slots (Temporary first))
       (numbers.slots (Temporary (first + 1))) (numbers.slots (Temporary (first + 2)))
       (numbers.slots (Temporary (first + 3)))) c.store.memory sp back below_sp
-      (λ a l u. stack_is_reserved program.globals a (omega arith) (omega arith)) handed.holds.source
+      (λ a l u. stack_is_hidden program.globals a (omega arith) (omega arith)) handed.holds.source
 
   pub called_protection : called.memory.protection ≡ s.memory.protection
   called_protection = handed.protection

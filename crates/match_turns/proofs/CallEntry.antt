@@ -9,7 +9,7 @@ use Rattle.template_code.specs.Places.{place_of}
 use Rattle.match_turns.specs.CallOutcome.{turns_per_call}
 use Rattle.lowering_invariants.specs.SmallNumbers.{AreSmall}
 use Rattle.linear_code.specs.declared.instruction.Instruction.TheVariants as instructions
-use Rattle.match_turns.proofs.Lemmas.{sizes_append, call_size, comes_then, others_of, StepsTo, reaches_steps, enters_steps, AllPlain, AllSteady, locals_own, plain_both, arguments_plain, passing_plain, parameters_steady, EntryRan, entry_ran, calls_keep, CalleeBegins, small_others as small_registers, frame_from, reaches_silently, enters_silently, none_inside, program_reaches, locals_count, KeepsImage, Keeps, keeps_then, enters_keeps, stays_well_formed, stack_is_reserved, room_here, slots_here, locals_small, may_read_written, word_of}
+use Rattle.match_turns.proofs.Lemmas.{sizes_append, call_size, comes_then, others_of, StepsTo, reaches_steps, enters_steps, AllPlain, AllSteady, locals_own, plain_both, arguments_plain, passing_plain, parameters_steady, EntryRan, entry_ran, calls_keep, CalleeBegins, small_others as small_registers, frame_from, reaches_silently, enters_silently, none_inside, program_reaches, locals_count, KeepsImage, Keeps, keeps_then, enters_keeps, stays_well_formed, stack_is_hidden, room_here, slots_here, locals_small, may_read_written, word_of}
 use Rattle.match_bodies.specs.Bodies.{HasFrame}
 use Rattle.match_bodies.specs.CodeSites as sites
 use Rattle.match_bodies.specs.ProgramImages.{frame_of}
@@ -327,7 +327,7 @@ module _ {setting : Setting} (at_call : AtCall setting) where
 
   -- where the callee begins
   abbrev pub callee_begins : Configuration
-  callee_begins = begun f (arguments ++ others) (c.frame.held + fn.surplus)
+  callee_begins = begun f (arguments ++ others) (c.frame.held + (fn.surplus + fn.data_surplus))
       (Waits (waiting c first).frame ∷ c.below) c.store.memory c.store.activations c.events
 
   pub soon : turns + turns_left callee_begins ≤ turns_per_call fn.surplus + turns_left c
@@ -352,7 +352,7 @@ module _ {setting : Setting} (at_call : AtCall setting) where
   stack_kept = record {
     bytes = λ a l u out. elim out [
       | inl x ↦ absurd (omega arith)
-      | inr x ↦ (let z = low in inside.same a (stack_is_reserved program.globals a (omega arith) u)
+      | inr x ↦ (let z = low in inside.same a (stack_is_hidden program.globals a (omega arith) u)
           (inr (inr (inr (omega arith)))) ∙ calling.same_above at_call a l (inr x))
     ];
     protection = λ a l u. protection_same a;
@@ -451,7 +451,8 @@ module _ {setting : Setting} (at_call : AtCall setting) where
       let limit = shallow in
       let up : register after.cpu Rsp + layout.frame + 8 ≡ caller = omega arith in
       let begins = function_begins t fs program p q image after c.store.memory f o there
-      (Waits (waiting c first).frame ∷ c.below) b.body.acts (c.frame.held + fn.surplus) c.events
+      (Waits (waiting c first).frame ∷ c.below) b.body.acts
+      (c.frame.held + (fn.surplus + fn.data_surplus)) c.events
       (arguments ++ others) well_formed memory
       inside.rip some (record { space = omega arith; shallow = omega arith }) tt
       (λ leaf. subst (λ x. x + home_end ≤ STACK_END) (sym stack) (at_home (p.leaf (FunctionBody f))
@@ -462,6 +463,6 @@ module _ {setting : Setting} (at_call : AtCall setting) where
       (others_of s.cpu.registers)) waits.0 (Waits (waiting c first).frame ∷ c.below) b.body.acts)
       (sym up) waits.1) in
       subst (λ (xs : List (List ℕ)). RepresentsAt setting after
-      (begun f (arguments ++ others) (c.frame.held + fn.surplus)
+      (begun f (arguments ++ others) (c.frame.held + (fn.surplus + fn.data_surplus))
       (Waits (waiting c first).frame ∷ c.below) c.store.memory xs c.events)) (sym b.body.store)
       begins

@@ -73,6 +73,7 @@ module _ (p : FramePlace) (roomy : Roomy p) (room : ℕ) where
           byte = λ a r. beside_at m at x a (omega arith) (outside a r) ∙ h.source.byte a r;
           protection = h.source.protection;
           guard = h.source.guard;
+          pointer = h.source.pointer;
         };
       }
     where

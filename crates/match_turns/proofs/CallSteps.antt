@@ -2,7 +2,7 @@
 use Rattle.std.proofs.Common.{◌≡◌, ℕ, ◌+◌, ◌-◌, ◌<◌, ◌≤◌, Bool, true, false, Some, List, [], ◌∷◌, length, refl, sym, ap, subst, ◌∙◌, arith, inl, inr}
 use Rattle.std.specs.Prelude.{◌⊎◌, nat_lt, slice_get, get_or, drop}
 use Rattle.std.proofs.lemmas.Option.{slice_get_within, slice_get-get_or}
-use Rattle.match_turns.specs.Words.{State, Deep, Slot, Local, Temporary, Instruction, LinearBody, weight, FunctionBody, FuncletBody, body_of, function_body, Item, Waits, Searches, Unwinds, Frame, Configuration, Next, Finished, pick, read, local_of, waiting, begin_function, instruction_at, Activation, IsMatched, Fails, function_of, IsInstructionOf, IsCallee, IsHeld, AreWaiting, MayWait, IsCalledBy, with_own, owners_of, IsFuncletPlan, turns_left, IsWellMade, IsKnown, KnownNext, turns_per_step, OwnerHasFrame, Setting, setting_of, RepresentsAt, PassesWell, FunctionsApart, CallBegins}
+use Rattle.match_turns.specs.Words.{State, Deep, Slot, Local, Temporary, Instruction, LinearBody, depth_weight, FunctionBody, FuncletBody, body_of, function_body, Item, Waits, Searches, Unwinds, Frame, Configuration, Next, Finished, pick, read, local_of, waiting, begin_function, instruction_at, Activation, IsMatched, Fails, function_of, IsInstructionOf, IsCallee, IsHeld, AreWaiting, MayWait, IsCalledBy, with_own, owners_of, IsFuncletPlan, turns_left, IsWellMade, IsKnown, KnownNext, turns_per_step, OwnerHasFrame, Setting, setting_of, RepresentsAt, PassesWell, FunctionsApart, CallBegins}
 use Rattle.linear_code.specs.declared.instruction.Instruction.TheVariants as instructions
 use Rattle.match_turns.proofs.Lemmas.{fails_at_once, locals_count, some_is, label_in, body_there, owned_count, leaf_or_funclet, owner_waits, counted_here, code_at, ready_here, each}
 use Rattle.lowering_invariants.specs.Waiting.{IsAbove}
@@ -155,7 +155,7 @@ module _ (setting : Setting) (made : IsWellMade setting.program setting.plan) wh
     function_there = slice_get_within program.functions f callee.function callee.there
 
     abbrev deep : Bool
-    deep = nat_lt 1000 (length c.store.activations + c.frame.held + weight callee.function)
+    deep = nat_lt 1000 (length c.store.activations + c.frame.held + depth_weight callee.function)
 
     too_deep : deep ≡ true → Fails t fs program turns_per_step turns_left s c i
     unfolding pick
@@ -197,8 +197,8 @@ module _ (setting : Setting) (made : IsWellMade setting.program setting.plan) wh
           parameters = sym callee.takes;
           fits = fits;
           some = some;
-          shallow = shallow_is (length c.store.activations + c.frame.held + weight callee.function)
-              e;
+          shallow = shallow_is
+              (length c.store.activations + c.frame.held + depth_weight callee.function) e;
           held = held;
           apart = λ k inside. apart f k function_there inside;
         } in

@@ -2,16 +2,16 @@
 use Rattle.std.proofs.Common.{◌≡◌, ℕ, ◌<◌, ◌≤◌, true, false, List, refl, sym, ap, ◌∙◌, arith, inl, inr}
 use Rattle.std.specs.Prelude.{◌⊎◌, nat_le, nat_lt}
 use Rattle.std.proofs.lemmas.Bool.{cases_lt, le-leb, lt-ltb}
-use Rattle.match_turns.specs.Words.{STACK_START, STACK_END, Protection, is_writable, Memory, may_write, Functions, DispatchRecord, placed, Funclet, is_reserved, LinearProgram, Agrees, ImagePlan, IsData, RecordHasRoom, IsUntouched, Sites}
+use Rattle.match_turns.specs.Words.{STACK_START, STACK_END, Protection, is_writable, Memory, may_write, Functions, DispatchRecord, placed, Funclet, is_hidden, LinearProgram, Agrees, ImagePlan, IsData, RecordHasRoom, IsUntouched, Sites}
 use Rattle.seh_records.proofs.Placed.{placing_leaves_others}
 use Rattle.match_stack.proofs.RecordMemory.{place_of, placed_keeps_above}
 use Rattle.match_bodies.specs.ProgramImages.{IsMachineMemory}
 use Rattle.match_turns.proofs.Lemmas.{KeepsCode, program_kept}
 
--- the whole stack is reserved
-stack_is_reserved : (globals : List ℕ) (a : ℕ) → STACK_START ≤ a → a < STACK_END
-    → is_reserved globals a ≡ true
-stack_is_reserved globals a l u =
+-- the whole stack is hidden
+stack_is_hidden : (globals : List ℕ) (a : ℕ) → STACK_START ≤ a → a < STACK_END
+    → is_hidden globals a ≡ true
+stack_is_hidden globals a l u =
     let low : nat_le 0x6FFF0000 a ≡ true = le-leb 0x6FFF0000 a (omega arith) in
     let high : nat_lt a 0x70800000 ≡ true = lt-ltb a 0x70800000 u in
     rw (low, high) refl
@@ -39,13 +39,14 @@ module _ (t : Functions) (fs : List Funclet) (program : LinearProgram) (p : Imag
           ∙ fix in absurd cc);
     }
 
-    agrees : Agrees (is_reserved program.globals) m' source
+    agrees : Agrees (is_hidden program.globals) m' source
     agrees = record {
-      byte = λ a own. outside_stays a (λ l u. let r = stack_is_reserved program.globals a l u in
+      byte = λ a own. outside_stays a (λ l u. let r = stack_is_hidden program.globals a l u in
           let z : true ≡ false = sym r ∙ own in absurd cc) ∙ h.agrees.byte a own;
       protection = λ a own. ap (λ (f : ℕ → Protection). f a) untouched.protection
           ∙ h.agrees.protection a own;
       guard = h.agrees.guard;
+      pointer = h.agrees.pointer;
     }
 
     pub memory_untouched : IsData m' → IsMachineMemory t fs program p q m' source

@@ -3,7 +3,7 @@
 use Rattle.std.proofs.Common.{◌≡◌, ℕ, zero, suc, ◌^◌, ◌<◌, Bool, true, false, List, [], ◌∷◌, ◌++◌, Option, Some, None, Err, refl, ap, subst, ◌∙◌, arith}
 use Rattle.std.specs.Prelude.{slice_index, replicate}
 use Rattle.std.proofs.lemmas.Bool.{ne_eqb}
-use Rattle.match_turns.specs.Words.{Code, Instr, context_of, State, step, rsp, arrived, write_number, parameters, raised, Raises, Exception, raise_event, is_reserved, Operation, Slot, Temporary, Instruction, Layout, SameOperation, Configuration, Next, raise, act, exec, operands_code, finish_code, KeepsAbove, IsException, IsLive, HasRule, IsMatched, callers, turns_left, IsWellMade, IsKnown, KnownNext, seen_by_templates, FlagsFit, ComesTo, Setting, IsResumed, Represents, Shows, WorksOn, AllSmall, IsSmallAccess, leaf_values}
+use Rattle.match_turns.specs.Words.{Code, Instr, context_of, State, step, rsp, arrived, write_number, parameters, raised, Raises, Exception, raise_event, is_hidden, Operation, Slot, Temporary, Instruction, Layout, SameOperation, Configuration, Next, raise, act, exec, operands_code, finish_code, KeepsAbove, IsException, IsLive, HasRule, IsMatched, callers, turns_left, IsWellMade, IsKnown, KnownNext, seen_by_templates, FlagsFit, ComesTo, Setting, IsResumed, Represents, Shows, WorksOn, AllSmall, IsSmallAccess, leaf_values}
 use Rattle.x64_machine.specs.declared.outcome.Stop.TheVariants as stops
 use Rattle.linear_code.specs.declared.instruction.Instruction.TheVariants as instructions
 use Rattle.x64_templates.specs.Runs.{Finished}
@@ -107,7 +107,7 @@ module _ (setting : Setting) (made : IsWellMade setting.program setting.plan)
     module _ (code : Code) (access : Option (Bool × ℕ))
         (raises : ComesTo program c o first second (Raises code access)) where
       is_raised : outcome setting made s c w known ≡ Raises code access
-      is_raised = same_outcome setting made s c w known (Raises code access) raises
+      is_raised = same_outcome setting made s c w known (Raises code access) raises tt
 
       faults : step s ≡ Err (stops.Fault code access)
       faults =
@@ -119,8 +119,9 @@ module _ (setting : Setting) (made : IsWellMade setting.program setting.plan)
       small : IsSmallOutcome (Raises code access)
       small =
           subst IsSmallOutcome is_raised
-          (outcome_small (is_reserved program.globals) o _ _ c.store.memory
-          (first_small setting made s c w known) (second_small setting made s c w known))
+          (outcome_small (is_hidden program.globals) o _ _ c.store.memory
+          (first_small setting made s c w known) (second_small setting made s c w known)
+          (λ a l u. (w.memory.agrees.pointer a l u).small))
 
       acts : (next : Next) → act program i next c
           ≡ raise program next (exception_of code access) SameOperation c

@@ -4,11 +4,11 @@ use Rattle.std.proofs.Common.{◌≡◌, ℕ, ◌+◌, ◌^◌, ◌<◌, ◌≤�
 use Rattle.std.specs.Prelude.{◌⊎◌, slice_get}
 use Rattle.std.specs.List.{AllByRecursion}
 use Rattle.std.proofs.lemmas.Bool.{cases_lt}
-use Rattle.match_turns.specs.Words.{STACK_START, STACK_END, Event, Protection, is_writable, Memory, may_write, number_at, Rcx, Rdx, Rsp, context_of, get, State, register, Functions, Funclet, Exception, is_reserved, Region, LinearProgram, LinearFunclet, BodyName, FuncletBody, body_of, funclet_body, Frame, Item, Store, Configuration, holds, regions_of, Layout, StackItem, context_below, ImagePlan, InCode, IsFunclet, Activation, locals_of, IsActivation, HasActivation, HoldsWords, HasSpace, below_end, HasPointers, FuncletIsAbove, BodyWaits, ReturnsTo, Reaches, KeepsStack, On, IsWellFormed, Arrives, IsFuncletPlan, slots_end, last_temporary, Setting, InBody, IsMachineMemory, RepresentsAt, now_of}
+use Rattle.match_turns.specs.Words.{STACK_START, STACK_END, Event, Protection, is_writable, Memory, may_write, number_at, Rcx, Rdx, Rsp, context_of, get, State, register, Functions, Funclet, Exception, is_hidden, Region, LinearProgram, LinearFunclet, BodyName, FuncletBody, body_of, funclet_body, Frame, Item, Store, Configuration, holds, regions_of, Layout, StackItem, context_below, ImagePlan, InCode, IsFunclet, Activation, locals_of, IsActivation, HasActivation, HoldsWords, HasSpace, below_end, HasPointers, FuncletIsAbove, BodyWaits, ReturnsTo, Reaches, KeepsStack, On, IsWellFormed, Arrives, IsFuncletPlan, slots_end, last_temporary, Setting, InBody, IsMachineMemory, RepresentsAt, now_of}
 use Rattle.virtual_unwind.specs.Undone.{word}
 use Rattle.match_bodies.specs.Bodies as bodies
 use Rattle.match_bodies.specs.ProgramImages.{frame_of}
-use Rattle.match_turns.proofs.Lemmas.{others_of, small_others, Within, kept_by_other_memories, word_of, may_read_written, stack_is_reserved, program_stays}
+use Rattle.match_turns.proofs.Lemmas.{others_of, small_others, Within, kept_by_other_memories, word_of, may_read_written, stack_is_hidden, program_stays}
 
 pub same_regions : (rs : List Region) (label : ℕ)
     → AllByRecursion (λ (r : Region). holds label r ≡ holds label r) rs
@@ -30,11 +30,11 @@ module _ (setting : Setting) (m m' source : Memory) (lo hi : ℕ)
   same_protection : (a : ℕ) → m'.protection a ≡ m.protection a
   same_protection a = ap (λ (f : ℕ → Protection). f a) w.protection
 
-  outside : (a : ℕ) → is_reserved program.globals a ≡ false → (a < lo) ⊎ (hi ≤ a)
+  outside : (a : ℕ) → is_hidden program.globals a ≡ false → (a < lo) ⊎ (hi ≤ a)
   outside a r = elim (cases_lt a lo) [
     | inl lt ↦ inl lt
     | inr le ↦ elim (cases_lt a hi) [
-      | inl lt ↦ let x : true ≡ false = sym (stack_is_reserved program.globals a (omega arith)
+      | inl lt ↦ let x : true ≡ false = sym (stack_is_hidden program.globals a (omega arith)
           (omega arith)) ∙ r in absurd cc
       | inr ge ↦ inr ge
     ]
@@ -68,6 +68,7 @@ module _ (setting : Setting) (m m' source : Memory) (lo hi : ℕ)
       byte = λ a r. w.byte a (outside a r) ∙ memory.agrees.byte a r;
       protection = λ a r. same_protection a ∙ memory.agrees.protection a r;
       guard = memory.agrees.guard;
+      pointer = memory.agrees.pointer;
     };
     stack = stack_writable;
     arena = λ a e. no_more a (memory.arena a e);

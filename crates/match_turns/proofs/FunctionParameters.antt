@@ -2,14 +2,14 @@
 use Rattle.std.proofs.Common.{◌≡◌, ℕ, zero, suc, ◌+◌, ◌-◌, ◌*◌, ◌^◌, ◌<◌, ◌≤◌, true, false, Some, None, List, [], ◌++◌, length, refl, sym, ap, subst, ◌∙◌, arith, inl, inr, length-append}
 use Rattle.std.specs.Prelude.{◌⊎◌, nat_lt, slice_index}
 use Rattle.std.proofs.lemmas.Bool.{cases_lt, lt-ltb, le-ltb}
-use Rattle.match_turns.specs.Words.{STACK_START, STACK_END, Memory, may_write, number_at, Protection, is_writable, Rsp, Flags, State, register, is_reserved, Local, Temporary, LinearBody, FunctionBody, body_of, function_body, Layout, sizes, spelled, IsNear, return_at, passing_code, parameters_code, stack_parameter, parameter_code, MachineView, machine, with_arguments, OnStack, IsFunctionFrame, body_in_memory, FreshFrame, HasBase, MemoryKeepsBase, IsBytes, Agrees, InTemporaries, InLocals, KeepsReserved, HasCode, Enters, FramePlace, Roomy, ReachesBody, counts_of, FRAME_BY_WEIGHT, MOST_WEIGHT, Setting, OtherRegisters, LocalRegisters, local_in, registers_of, Place, InRegister, InFrame, Arriving, InRegisters, arrived_in, parameter_register, parameter_placed, number_placed, local_registers}
+use Rattle.match_turns.specs.Words.{STACK_START, STACK_END, Memory, may_write, number_at, Protection, is_writable, Rsp, Flags, State, register, is_hidden, Local, Temporary, LinearBody, FunctionBody, body_of, function_body, Layout, sizes, spelled, IsNear, return_at, passing_code, parameters_code, stack_parameter, parameter_code, MachineView, machine, with_arguments, OnStack, IsFunctionFrame, body_in_memory, FreshFrame, HasBase, MemoryKeepsBase, IsBytes, Agrees, InTemporaries, InLocals, KeepsReserved, HasCode, Enters, FramePlace, Roomy, ReachesBody, counts_of, FRAME_BY_WEIGHT, MOST_WEIGHT, Setting, OtherRegisters, LocalRegisters, local_in, registers_of, Place, InRegister, InFrame, Arriving, InRegisters, arrived_in, parameter_register, parameter_placed, number_placed, local_registers}
 use Rattle.template_code.specs.Places.{place_of}
 use Rattle.template_code.proofs.Places.{arriving_low}
 use Rattle.x64_instr.specs.Registers.{number}
 use Rattle.match_bodies.proofs.LocalRegisters.{place_early}
 use Rattle.match_bodies.specs.CodeSites.{arguments_code, body_plan, making_size}
 use Rattle.x64_templates.specs.Runs.{Reaches}
-use Rattle.match_turns.proofs.Lemmas.{bytes_kept, same_number, enters_then, within_agrees, making_steps, stack_is_reserved, may_read_written, holds_here, Keeps, keeps_then, reaches_keeps, enters_keeps, locals_small}
+use Rattle.match_turns.proofs.Lemmas.{bytes_kept, same_number, enters_then, within_agrees, making_steps, stack_is_hidden, may_read_written, holds_here, Keeps, keeps_then, reaches_keeps, enters_keeps, locals_small}
 use Rattle.x64_instr.specs.declared.register.Reg.{Reg}
 use Rattle.match_bodies.proofs.ChainKeeping.{all_are, are_all}
 use Rattle.x64_templates.proofs.Entering.{fresh_holds, parameters_run}
@@ -26,7 +26,7 @@ module _ (globals : List ℕ) (y : Layout) (o : LinearBody) (sp : ℕ) where
   own_frame = record {
     layout = y;
     counts = counts_of o;
-    reserved = is_reserved globals;
+    reserved = is_hidden globals;
     sp = sp;
     base = sp;
     arrived = λ i. 0;
@@ -71,15 +71,15 @@ module _ (globals : List ℕ) (y : Layout) (o : LinearBody) (sp : ℕ) where
   pub fresh_own : (l : LocalRegisters) (m source : Memory) → IsOwn
       → ((r : Reg) → local_in l r < 2 ^ 64) → IsBytes m
       → ((a : ℕ) → STACK_START ≤ a → a < STACK_END → may_write m a ≡ true)
-      → Agrees (is_reserved globals) m source → FreshFrame own_frame l m source
+      → Agrees (is_hidden globals) m source → FreshFrame own_frame l m source
   fresh_own l m source h small bytes may agrees = record {
     small = small;
     arrived = λ i. omega arith;
     bytes = bytes;
     writable = λ a i. (let r = own_slots a h i in may a r.0 r.1);
-    own = λ a i. (let r = own_slots a h i in stack_is_reserved globals a r.0 r.1);
+    own = λ a i. (let r = own_slots a h i in stack_is_hidden globals a r.0 r.1);
     base = subst (λ i. MemoryKeepsBase i sp sp m) (sym h.none) tt;
-    own_base = subst (λ i. KeepsReserved i sp (is_reserved globals)) (sym h.none) tt;
+    own_base = subst (λ i. KeepsReserved i sp (is_hidden globals)) (sym h.none) tt;
     agrees = agrees;
   }
 
@@ -241,8 +241,8 @@ module _ {setting : Setting} (at_call : AtCall setting) where
     pub locals : (i : ℕ) → i < count → number_placed layout sp (arrived_in state.cpu)
         (local_registers state.cpu.registers) state.memory i (place_of layout i) ≡ arguments i
     pub bytes : IsBytes state.memory
-    pub agrees : Agrees (is_reserved program.globals) state.memory c.store.memory
-    pub same : (a : ℕ) → is_reserved program.globals a ≡ true → Outside a
+    pub agrees : Agrees (is_hidden program.globals) state.memory c.store.memory
+    pub same : (a : ℕ) → is_hidden program.globals a ≡ true → Outside a
         → state.memory.byte a ≡ called.memory.byte a
 
   small_argument : (i : ℕ) → i < count → arguments i < 2 ^ 64
@@ -286,12 +286,12 @@ module _ {setting : Setting} (at_call : AtCall setting) where
     made_small = locals_small (registers_of made.after) refl (are_all (registers_of made.after)
         (made_keeps.small (all_are s.cpu.registers b.well_formed.small)))
 
-    made_agrees : Agrees (is_reserved program.globals) made.after.memory c.store.memory
+    made_agrees : Agrees (is_hidden program.globals) made.after.memory c.store.memory
     made_agrees =
         let low = own.low in
         let z = calling.top at_call in
-        within_agrees (is_reserved program.globals) sp (caller - 8) called.memory made.after.memory
-        c.store.memory (λ a l u. stack_is_reserved program.globals a (omega arith) (omega arith))
+        within_agrees (is_hidden program.globals) sp (caller - 8) called.memory made.after.memory
+        c.store.memory (λ a l u. stack_is_hidden program.globals a (omega arith) (omega arith))
         made.within (calling.called_agrees at_call)
 
     made_may : (a : ℕ) → STACK_START ≤ a → a < STACK_END → may_write made.after.memory a ≡ true
@@ -314,7 +314,7 @@ module _ {setting : Setting} (at_call : AtCall setting) where
           readable = λ i a ge lt l u. (let e = place in
               may_read_written made.after.memory a (made_may a (omega arith) (omega arith)));
           own = λ i a ge lt l u. (let e = place in
-              stack_is_reserved program.globals a (omega arith) (omega arith));
+              stack_is_hidden program.globals a (omega arith) (omega arith));
           near = λ i lt. (let w : stack_parameter y i < 2 ^ 31 = omega arith in w);
           small = small_argument;
         }

@@ -53,7 +53,8 @@ pub use Rattle.match_bodies.proofs.ReturnAddresses.{label_found, argument_found}
 pub use Rattle.match_bodies.proofs.LabelPlaces.{template_there, label_near, end_near, code_ends, address_next}
 pub use Rattle.match_bodies.proofs.RoutineWalks.{reaches_steps, StepsTo, steps_split, keeps_split, AllPlain, AllSteady, plain_steady, enters_steps, read_here, Beneath, beneath_by, callers_above, gives_above, Finds, ran}
 pub use Rattle.match_bodies.proofs.SilentTurns.{none_inside, reaches_silently, enters_silently, program_reaches, KeepsCode, program_kept, reaches_comes, funclet_makes, silent_here}
-pub use Rattle.match_bodies.proofs.SlotPlaces.{KeepsSlot, stack_is_reserved, SlotsPlaced}
+pub use Rattle.match_bodies.proofs.HiddenBytes.{IsSaid, said_of_hidden, pointer_is_seen}
+pub use Rattle.match_bodies.proofs.SlotPlaces.{KeepsSlot, stack_is_hidden, SlotsPlaced}
 pub use Rattle.match_bodies.proofs.SlotWrites.{locals_after, temporaries_after, FitsAfter, one_more, set_length, local_after}
 pub use Rattle.match_bodies.proofs.StackTop.{body_on_top, OnTop}
 pub use Rattle.match_bodies.proofs.StackWalks.{on_stack, stack_rises, keep_then}

@@ -168,7 +168,7 @@ module _ (setting : Setting) (made : IsWellMade setting.program setting.plan)
           (seen_by_templates s).rest (seen_by_templates s).locals after)
           (sym (is_machine s w.well_formed.count))
           (subst (λ x. Finished here o to (seen_by_templates s) s.cpu.rip s.cpu.flags
-          now x) (inside.same_outcome setting made s c w known (Gives value m) gives)
+          now x) (inside.same_outcome setting made s c w known (Gives value m) gives tt)
           (inside.made_here setting made s c w known))
 
       meant : (next : Next) → act program i next c
@@ -216,7 +216,7 @@ module _ (setting : Setting) (made : IsWellMade setting.program setting.plan)
           (inside.first_small setting made s c w known)
           (inside.second_small setting made s c w known)
           (inside.operands_wait setting made s c w known)
-          (inside.same_outcome setting made s c w known (Gives value m) gives)
+          (inside.same_outcome setting made s c w known (Gives value m) gives tt)
 
       pub completed : Moves t fs program 16 turns_left (RepresentsAt setting) s c i
       completed =

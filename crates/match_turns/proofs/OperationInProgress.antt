@@ -3,14 +3,14 @@
 use Rattle.std.proofs.Common.{◌≡◌, ℕ, ◌^◌, ◌<◌, true, false, Option, Some, None, refl, sym, subst, ◌∙◌, arith, length}
 use Rattle.std.specs.Prelude.{slice_get}
 use Rattle.std.proofs.lemmas.Option.{slice_get_within}
-use Rattle.match_turns.specs.Words.{Rax, Rcx, State, register, Operation, OperationResult, performed, is_reserved, Slot, Temporary, Instruction, BodyState, LinearBody, body_of, Configuration, is_constant, operand, Layout, finish_code, MachineView, HasCode, FramePlace, view_of, IsWellMade, IsKnown, seen_by_templates, ComesTo, Setting, RepresentsAt, WorksOn, arrived_in, parameter_register, IsSpare, counts_of, Rsp}
+use Rattle.match_turns.specs.Words.{Rax, Rcx, State, register, Operation, OperationResult, performed, is_hidden, Slot, Temporary, Instruction, BodyState, LinearBody, body_of, Configuration, is_constant, operand, Layout, finish_code, MachineView, HasCode, FramePlace, view_of, IsWellMade, IsKnown, seen_by_templates, ComesTo, Setting, RepresentsAt, WorksOn, arrived_in, parameter_register, IsSpare, counts_of, Rsp}
 use Rattle.c_operations.specs.declared.operation.Operation.TheVariants as operations
 use Rattle.c_operations.specs.declared.operation.Pure.TheVariants.{Constant}
 use Rattle.linear_code.specs.declared.instruction.Instruction.TheVariants as instructions
 use Rattle.template_code.specs.Operands as operands
 use Rattle.x64_templates.specs.Implements.{IsReady, HasOperands}
 use Rattle.x64_templates.specs.Runs.{Finished, Reaches}
-use Rattle.match_turns.proofs.Lemmas.{finish_run, performed_same, first_in_code, IsCounted, room_here, holds_here, code, frame, slots, has_slots, sp_is, Surroundings, some_is, label_in, counted_here, around_here, code_at}
+use Rattle.match_turns.proofs.Lemmas.{finish_run, performed_same, first_in_code, IsCounted, room_here, holds_here, code, frame, slots, has_slots, sp_is, Surroundings, some_is, label_in, counted_here, around_here, code_at, IsSaid, said_of_hidden}
 use Rattle.match_turns.proofs.BodyWithin.{in_body_at}
 use Rattle.match_turns.proofs.OperationMeaning.{nothing_landed}
 use Rattle.match_turns.proofs.OperationCode.{finish_is_at}
@@ -28,16 +28,17 @@ pub ready_same : (o : Operation) (v w : MachineView) → v.rax ≡ w.rax → v.r
 ready_same (operations.Pure p) v w a d h = tt
 ready_same (operations.Divide s z) v w a d h = rw (← a, ← d) h
 ready_same (operations.Remainder s z) v w a d h = rw (← a, ← d) h
-ready_same (operations.Load z) v w a d h = tt
-ready_same (operations.Store z) v w a d h = tt
+ready_same o v w a d h = tt
 
 -- an operation that reads an operand is no constant
 reads_first : (o : Operation) → operands.has_first o ≡ true → is_constant o ≡ false
 reads_first (operations.Pure (Constant n)) h = absurd cc
+reads_first (operations.Allocate n) h = absurd cc
 reads_first o h = refl
 
 reads_second : (o : Operation) → operands.has_second o ≡ true → is_constant o ≡ false
 reads_second (operations.Pure (Constant n)) h = absurd cc
+reads_second (operations.Allocate n) h = absurd cc
 reads_second o h = refl
 
 module _ (setting : Setting) (made : IsWellMade setting.program setting.plan)
@@ -146,7 +147,7 @@ module _ (setting : Setting) (made : IsWellMade setting.program setting.plan)
         first second w.memory.code w.body.slots.body there)
 
     abbrev pub outcome : OperationResult
-    outcome = performed (is_reserved program.globals) o (register s.cpu Rax) (register s.cpu Rcx)
+    outcome = performed (is_hidden program.globals) o (register s.cpu Rax) (register s.cpu Rcx)
         c.store.memory
 
     pub made_here : Finished frame_here o to (seen_by_templates s) s.cpu.rip s.cpu.flags
@@ -195,7 +196,8 @@ module _ (setting : Setting) (made : IsWellMade setting.program setting.plan)
           ∙ subst (λ constant. operand constant c second ≡ Some h.b) (reads_second o reads)
           h.reads_second)
 
-      pub same_outcome : outcome ≡ x
-      same_outcome =
-          performed_same (is_reserved program.globals) c.store.memory o (register s.cpu Rax)
-          (register s.cpu Rcx) h.a h.b holds_first holds_second ∙ h.comes
+      pub same_outcome : IsSaid x → outcome ≡ x
+      same_outcome said =
+          performed_same (is_hidden program.globals) c.store.memory o (register s.cpu Rax)
+          (register s.cpu Rcx) h.a h.b holds_first holds_second
+          ∙ said_of_hidden program.globals o h.a h.b c.store.memory x said h.comes

@@ -1,8 +1,9 @@
 -- What linear code does at an operation.
 use Rattle.std.proofs.Common.{◌≡◌, ℕ, zero, suc, ◌<◌, Bool, true, false, List, [], ◌∷◌, length, Option, Some, None, refl, sym, ap, ◌∙◌, arith}
 use Rattle.std.specs.Prelude.{slice_get, slice_index}
-use Rattle.match_turns.specs.Words.{Code, Memory, Operation, OperationResult, Raises, Undefined, performed, is_reserved, Slot, Local, Temporary, Instruction, LinearProgram, Configuration, Next, local_of, read, with_some, is_constant, operand, act, computed, instruction_at, IsTemporary, ReadsWell, IsHeld, IsReady, LandsWell, turns_left, turns_per_step, ComesTo, UndefinedAccessesAreMatched}
+use Rattle.match_turns.specs.Words.{Code, Memory, Operation, OperationResult, Gives, Raises, Undefined, performed, is_reserved, Slot, Local, Temporary, Instruction, LinearProgram, Configuration, Next, local_of, read, with_some, is_constant, operand, act, computed, instruction_at, IsTemporary, ReadsWell, IsHeld, IsReady, LandsWell, turns_left, turns_per_step, ComesTo, UndefinedAccessesAreMatched}
 use Rattle.c_operations.specs.declared.operation.Operation.TheVariants as operations
+use Rattle.c_operations.specs.Performed.{unless_reserved}
 use Rattle.c_operations.specs.declared.operation.Pure.TheVariants.{Constant}
 use Rattle.source_meaning.specs.declared.ended.Ended.TheVariants as source
 use Rattle.linear_code.specs.declared.instruction.Instruction.TheVariants as instructions
@@ -65,13 +66,26 @@ pub not_constant : (reserved : ℕ → Bool) (o : Operation) (a b : ℕ) (m : Me
     (access : Option (Bool × ℕ))
     → performed reserved o a b m ≡ Raises code access → is_constant o ≡ false
 not_constant reserved (operations.Pure (Constant n)) a b m code access e = absurd cc
+not_constant reserved (operations.Allocate n) a b m code access e = absurd cc
 not_constant reserved o a b m code access e = refl
+
+-- a store of a variable on the data stack raises nothing
+placed_raises : (o : Option ℕ) (value : ℕ) (m : Memory) (code : Code) (access : Option (Bool × ℕ))
+    → unless_reserved o (Gives value m) ≡ Raises code access → ⊥
+placed_raises None value m code access e = absurd cc
+placed_raises (Some a) value m code access e = absurd cc
 
 pub fault_reads : (reserved : ℕ → Bool) (o : Operation) (first second : Slot) (a b : ℕ) (m : Memory)
     (code : Code) (access : Option (Bool × ℕ))
     → performed reserved o a b m ≡ Raises code access → ReadsWell o first second
     → IsTemporary first × IsTemporary second
 fault_reads reserved (operations.Pure p) first second a b m code access e h = absurd cc
+fault_reads reserved (operations.Allocate n) first second a b m code access e h = absurd cc
+fault_reads reserved (operations.SetPointer n) first second a b m code access e h = absurd cc
+fault_reads reserved (operations.Place w offset) first second a b m code access e h =
+    absurd (placed_raises _ _ _ code access e)
+fault_reads reserved (operations.Clear w offset) first second a b m code access e h =
+    absurd (placed_raises _ _ _ code access e)
 fault_reads reserved o first second a b m code access e h = h
 
 -- ---- at an operation

@@ -60,7 +60,8 @@ module _ (t : Functions) (fs : List Funclet) (program : LinearProgram) (p : Imag
     pub small : AreSmall others
     pub turns : ℕ
     pub some : 1 ≤ turns
-    pub few : turns + turns_left (begun f (arguments ++ others) (c.frame.held + function.surplus)
+    pub few : turns + turns_left (begun f (arguments ++ others)
+        (c.frame.held + (function.surplus + function.data_surplus))
         (Waits (waiting c first).frame ∷ c.below) c.store.memory c.store.activations c.events)
         ≤ turns_per_call function.surplus + turns_left c
     pub state : State
@@ -69,5 +70,5 @@ module _ (t : Functions) (fs : List Funclet) (program : LinearProgram) (p : Imag
         ≡ next (begin_function f function arguments c.frame.held
         (Waits (waiting c first).frame ∷ c.below) c.store c.events)
     pub begins : RepresentsAt t fs program p q state
-        (begun f (arguments ++ others) (c.frame.held + function.surplus)
+        (begun f (arguments ++ others) (c.frame.held + (function.surplus + function.data_surplus))
         (Waits (waiting c first).frame ∷ c.below) c.store.memory c.store.activations c.events)

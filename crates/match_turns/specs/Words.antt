@@ -18,12 +18,12 @@ pub use Rattle.c_operations.specs.declared.field.Field.TheVariants.{ExceptionCod
 pub use Rattle.c_operations.specs.declared.operation.Operation.{Operation}
 pub use Rattle.source_meaning.specs.Expressions.{field_of, of_test, no_exception, parameter_of}
 pub use Rattle.source_meaning.specs.Raises.{noncontinuable, raise_event}
-pub use Rattle.source_meaning.specs.Source.{is_reserved}
+pub use Rattle.source_meaning.specs.Source.{is_reserved, is_hidden}
 pub use Rattle.source_meaning.specs.State.{Exception}
 pub use Rattle.source_meaning.specs.declared.ended.Ended.TheVariants.{Deep}
 pub use Rattle.linear_code.specs.BodyState.{BodyState, with_slot, Counts}
 pub use Rattle.linear_code.specs.Meaning.{IsSlot, HasSlots}
-pub use Rattle.linear_code.specs.Program.{LinearFunction, LinearProgram, LinearFunclet, LinearBody, weight}
+pub use Rattle.linear_code.specs.Program.{LinearFunction, LinearProgram, LinearFunclet, LinearBody, weight, depth_weight}
 pub use Rattle.linear_code.specs.declared.instruction.Instruction.{Instruction}
 pub use Rattle.linear_code.specs.declared.program.FuncletKind.{FuncletKind}
 pub use Rattle.linear_code.specs.declared.program.Region.{Region}

@@ -42,6 +42,7 @@ lex_text lexes.Memory = codes "no memory"
 
 abbrev pub count_text : Count → List ℕ
 count_text counts.Locals = codes " locals"
+count_text counts.ArrayBytes = codes " arraybytes"
 count_text counts.Parameters = codes " parameters"
 count_text counts.Functions = codes " functions"
 count_text counts.Globals = codes " globals"

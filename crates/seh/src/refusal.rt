@@ -111,6 +111,7 @@ fn count_text(what: Count) -> &'static [u8]
 {
     match what {
         Count::Locals => b" locals",
+        Count::ArrayBytes => b" arraybytes",
         Count::Parameters => b" parameters",
         Count::Functions => b" functions",
         Count::Globals => b" globals",

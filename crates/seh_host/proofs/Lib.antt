@@ -1,5 +1,6 @@
 mod Lemmas
 pub mod AsLoaded
+pub mod Mapped
 pub mod Runs
 pub mod Slots
 pub mod Loaded

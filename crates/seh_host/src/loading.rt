@@ -1,12 +1,15 @@
 //! From an image to a host.
 
-ghost use Rattle.std.specs.Prelude.{◌≡◌, true, None, Some, Ok, IfOk, IfErr};
+ghost use Rattle.std.specs.Prelude.{◌≡◌, ℕ, true, None, Some, Ok, IfOk, IfErr};
 ghost use Rattle.eh_tables.specs.Tables.{directory, TablesAreWhole};
 ghost use Rattle.host_model.specs.Loading as model;
 ghost use Rattle.host_model.specs.Loading.{first_cpu, has_place};
 ghost use Rattle.virtual_unwind.specs.CallerOf.{name_rows};
-ghost use Rattle.x64_memory.specs.PageMaps.{memory_of};
+ghost use Rattle.pe_image.specs.Image.{AreAscending};
+ghost use Rattle.x64_memory.specs.PageMaps.{memory_of, holds};
+ghost use Rattle.x64_memory.specs.Regions.{in_regions};
 ghost use Rattle.seh_host.specs.Hosts.{IsLoadRefusal};
+ghost use Rattle.seh_host.specs.Mapping.{blank_memory, regions_of};
 ghost use Rattle.seh_host.specs.Running.{running_of, first_running, image_of, event_count};
 
 use crate::LoadErr;
@@ -14,7 +17,7 @@ use crate::binding::{bind_all, first_unknown};
 use crate::host::Host;
 use crate::mapping::{has_entry, has_place, regions};
 use eh_tables::Tables;
-use host_layout::range::FIRST_STACK;
+use host_layout::range::{DATA_STACK_START, FIRST_DATA_STACK, FIRST_STACK};
 use pe_image::{ImageView, NameTable};
 use seh_dispatch::filter::FuncletFilter;
 use seh_dispatch::gathering::funclets_in;
@@ -45,14 +48,28 @@ fn first_cpu(entry: u64, arg: i64) -> Cpu
     }
 }
 
-/// Memory in which an image is placed with its imports bound, with the stack and the arena.
+/// Memory with the regions of an image's run, empty but for the data stack's pointer.
+fn blank_memory(alloc: Global, image: &ImageView<'_>) -> Result<PageMap, AllocError>
+    requires place { has_place image.now ≡ true }
+    requires ascending { AreAscending 0 image.now.sections }
+    ensures memory { IfOk result (λ s. memory_of s ≡ blank_memory (regions_of image.now)) }
+    ensures holds { IfOk result
+        (λ s. (a : ℕ) → holds s a ≡ in_regions (regions_of image.now) a) }
+{
+    let regions = regions(alloc, image)?;
+    let mut space = PageMap::new(alloc, &regions)?;
+    space.fill(DATA_STACK_START, &FIRST_DATA_STACK.to_le_bytes());
+    Ok(space)
+}
+
+/// Memory in which an image is placed with its imports bound, with the stack, the data stack and
+/// the arena.
 fn mapped(alloc: Global, image: &ImageView<'_>) -> Result<PageMap, AllocError>
     requires { has_place image.now ≡ true }
     ensures { IfOk result (λ s. memory_of s ≡ model.mapped image.now) }
 {
     let sections = image.sections();
-    let regions = regions(alloc, image)?;
-    let mut space = PageMap::new(alloc, &regions)?;
+    let mut space = blank_memory(alloc, image)?;
     for section in sections {
         space.fill(image.base() + section.address(), section.raw());
     }
@@ -101,9 +118,9 @@ fn read_tables<'image, 'bytes>(
     }
 }
 
-/// Loads an image: its sections, a stack and the arena are mapped, the slots of its imports hold
-/// the addresses of the host's services, a later one over an earlier, and the run is at the entry
-/// point with the argument in RCX.
+/// Loads an image: its sections, a stack, the data stack and the arena are mapped, the slots of its
+/// imports hold the addresses of the host's services, a later one over an earlier, and the run is
+/// at the entry point with the argument in RCX.
 ///
 /// It is refused for the first reason that holds, in this order: `Table` where the function table
 /// isn't read whole; `Place` where the base isn't a multiple of 65,536, is below 4 GiB, the image's

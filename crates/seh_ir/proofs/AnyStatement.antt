@@ -1,9 +1,9 @@
 -- What holds of each piece of code, wherever it is and whatever is around it, holds of the code of
 -- all statements.
 use Rattle.std.proofs.Common.{ℕ, ◌+◌, List, [], ◌∷◌, Option, None, Some, arith}
-use Rattle.seh_ir.specs.Words.{Expression, Declared, Always, Statement, Declare, Evaluate, Statements, Instruction, Region, Names, Nowhere, LoweringContext, declared_size, statement_notes, statements_notes, discarded_code, condition_code, declared_code, all_declared_code, statement_code, statements_code, statement_regions, statements_regions}
+use Rattle.seh_ir.specs.Words.{Expression, Declared, Always, Statement, Declare, Evaluate, Statements, Instruction, Region, Names, DataPart, Nowhere, LoweringContext, declared_size, statement_notes, statements_notes, discarded_code, condition_code, declared_code, all_declared_code, statement_code, statements_code, statement_regions, statements_regions}
 use Rattle.lowering_expressions.specs.declared.scope.ExceptionSource.TheVariants.{NoException}
-use Rattle.seh_ir.proofs.StatementCodes.{declared_length}
+use Rattle.seh_ir.proofs.DeclaredCodes.{declared_length}
 use Rattle.seh_ir.proofs.StatementParts.{statement_has, statements_have}
 use Rattle.seh_ir.proofs.EveryStatement.{IsNeutral, HoldsOfPieces, any_neutral, any_place, any_ways, statement_every, statements_every}
 
@@ -66,15 +66,21 @@ module _ (P : ℕ → List Instruction → List Region → Type 0)
       (omega arith)
       (declared_any names d at) (all_declared_any names ds to)
 
+abbrev any_names : Option DataPart → ℕ → Names
+any_names part x = record { exception = NoException; abnormal = None; free = x; part = part }
+
 -- what pieces of any kind have, parts have that hold as much at their ends as where they begin
 pub neutral_of : (M : List Instruction → Type 0) → HoldsOfAnyPieces (λ at xs rs. M xs) → IsNeutral M
 neutral_of M pieces = record {
   separator = pieces.of_separator 0;
   jump = λ label. pieces.of_jump 0 label tt;
-  landing = λ end x. pieces.of_landing
-      (record { exception = NoException; abnormal = None; free = x }) 1 0 end 0 Always (omega arith)
-      tt (omega arith) tt tt tt;
+  landing = λ part end x. pieces.of_landing (any_names part x) 1 0 end 0 Always (omega arith) tt
+      (omega arith) tt tt tt;
   zeroed = λ x. pieces.of_zeroed x 0 tt;
+  counted = λ x n. pieces.of_counted (any_names None x) 1 n 0 (omega arith) tt;
+  clearing = λ x v end begin. pieces.of_clearing (any_names None x) 1 v end begin 0 (omega arith) tt
+      tt tt tt;
+  put_zero = λ v. pieces.of_put_zero v 0 tt;
   discarded = λ names e at. discarded_any (λ at xs rs. M xs) pieces names e at;
   condition = λ names e label at. condition_any (λ at xs rs. M xs) pieces names e label at;
   declared = λ names d at. declared_any (λ at xs rs. M xs) pieces names d at;

@@ -66,7 +66,7 @@ module _ (G : LinearFunclet → Type 0) (O : Owner → Type 0) (T : ℕ → Type
         (funclets_every u owner names m (omega arith) o n h.2
         (all_back T (funclets_in s) (funclets_in u) t))
     funclets_every (For ds first c next s) owner names m le o n h t = funclets_every s owner names
-        m le o n h.4 t
+        m (omega arith) o n h.4 t
     funclets_every (DoWhile s c) owner names m le o n h t = funclets_every s owner names m le o n
         h.0 t
     funclets_every (Return e) owner names m le o n h t = tt

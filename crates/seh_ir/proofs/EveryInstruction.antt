@@ -2,7 +2,7 @@
 -- them, holds of all instructions.
 use Rattle.std.proofs.Common.{ℕ, ◌≤◌, List, [], ◌∷◌, ◌++◌, Option, None, Some}
 use Rattle.std.specs.List.{AllByRecursion}
-use Rattle.seh_ir.specs.Words.{Pure, Constant, Expression, Statements, Local, Temporary, Instruction, Compute, Jump, JumpIfZero, CallFinally, LocalUnwind, Landing, Separator, Names, Way, Nowhere, Jumps, Unwinds, constant, copy, expression_code, LoweringContext, statements_notes, return_code, returned_code, repeated, statements_code}
+use Rattle.seh_ir.specs.Words.{Pure, Place, Clear, Constant, StackedVariable, Expression, Statements, Local, Temporary, Instruction, Compute, Jump, JumpIfZero, CallFinally, LocalUnwind, Landing, Separator, Names, Way, Nowhere, Jumps, Unwinds, constant, copy, expression_code, LoweringContext, statements_notes, return_code, returned_code, put_code, reset_code, repeated, statements_code}
 use Rattle.seh_ir.proofs.StatementParts.{OptionalHas, StatementsHave}
 use Rattle.seh_ir.proofs.EveryStatement.{WayHas, any_ways, any_neutral, any_place, InExcept, HoldsOfPieces, statements_every}
 
@@ -20,6 +20,14 @@ pub record HoldsOfInstructions (Q : Instruction → Type 0) (L X : ℕ → Type 
   pub of_zeroed : (x : ℕ) → D x
       → Q (Compute (Local x) (Pure (Constant 0)) (Local x) (Local x))
   pub of_kept : (x : ℕ) → D x → Q (copy (Local x) (Temporary 0))
+  pub of_put : (v : StackedVariable) → D v.base
+      → Q (Compute (Temporary 0) (Place v.width v.offset) (Local v.base) (Temporary 0))
+  pub of_counted : (names : Names) (m n : ℕ) → 1 ≤ m → N names m
+      → Q (Compute (Local names.free) (Pure (Constant n)) (Local names.free) (Local names.free))
+  pub of_rest_test : (names : Names) (m label : ℕ) → 1 ≤ m → N names m → L label
+      → Q (JumpIfZero (Local names.free) label)
+  pub of_cleared : (names : Names) (m : ℕ) (v : StackedVariable) → 1 ≤ m → N names m → D v.base
+      → Q (Compute (Local names.free) (Clear v.width v.offset) (Local v.base) (Local names.free))
   pub of_separator : Q Separator
   pub of_jump : (label : ℕ) → L label → Q (Jump label)
   pub of_test : (label : ℕ) → L label → Q (JumpIfZero (Temporary 0) label)
@@ -27,6 +35,7 @@ pub record HoldsOfInstructions (Q : Instruction → Type 0) (L X : ℕ → Type 
   pub of_exit_jump : (label : ℕ) → X label → Q (Jump label)
   pub of_exit : (label : ℕ) → X label → Q (LocalUnwind label)
   pub of_landing : (names : Names) (m : ℕ) → 1 ≤ m → N names m → Q (Landing (Local names.free))
+  pub of_reset : (names : Names) (m : ℕ) → 1 ≤ m → N names m → Q (reset_code names.part)
   pub of_finally : (k : ℕ) → Q (CallFinally k)
 
 module _ (Q : Instruction → Type 0) (C : ℕ → List Instruction → Type 0) (L X : ℕ → Type 0)
@@ -63,7 +72,7 @@ module _ (Q : Instruction → Type 0) (C : ℕ → List Instruction → Type 0) 
     of_unwind = λ at label l. (holds.of_unwind label l, (holds.of_separator, tt));
     of_landing = λ names m begin end at f le n o b t l. (
       holds.of_jump end l,
-      (holds.of_landing names m le n, tt),
+      (holds.of_landing names m le n, (holds.of_reset names m le n, tt)),
     );
     of_finally = λ k begin at o b t. (
       holds.of_separator,
@@ -77,6 +86,14 @@ module _ (Q : Instruction → Type 0) (C : ℕ → List Instruction → Type 0) 
     of_initialiser = λ names m x e at n d h c. value_all names m e at
         (copy (Local x) (Temporary 0) ∷ Separator ∷ []) n h
         (holds.of_kept x d, (holds.of_separator, tt));
+    of_put_zero = λ v at d. (holds.of_constant, (holds.of_put v d, (holds.of_separator, tt)));
+    of_put_initialiser = λ names m v e at n d h c. value_all names m e at (put_code v) n h
+        (holds.of_put v d, (holds.of_separator, tt));
+    of_counted = λ names m k at le n. (holds.of_counted names m k le n, tt);
+    of_clearing = λ names m v end begin at le n d l b. (
+      holds.of_rest_test names m end le n l,
+      (holds.of_cleared names m v le n d, (holds.of_jump begin b, tt)),
+    );
     of_repeated = λ names m e end begin at n h l b c. value_all names m e at (repeated end begin) n
         h (holds.of_test end l, (holds.of_jump begin b, (holds.of_separator, tt)));
     of_return = λ names m e exit at n h w c. returned_all names m e exit at n h w;

@@ -1,142 +1,14 @@
 -- What holds of each piece of which the code of statements is made holds of all of it.
 use Rattle.std.proofs.Common.{◌≡◌, ℕ, ◌+◌, ◌-◌, ◌≤◌, List, [], ◌∷◌, ◌++◌, length, Option, None, Some, sym, subst, arith, append_assoc, append-nil}
-use Rattle.seh_ir.specs.Words.{Pure, Constant, Expression, Declared, Filter, Statement, Declare, Block, Evaluate, If, IfElse, For, DoWhile, Break, Continue, Leave, TryExcept, TryFinally, Statements, Empty, Then, Local, Temporary, Instruction, Compute, Jump, JumpIfZero, LocalUnwind, Separator, Region, Names, Way, Nowhere, Jumps, Unwinds, LoweringContext, except_names, unwound, in_loop, in_try, in_except, in_guarded, expression_size, discarded_size, condition_size, declared_size, all_declared_size, statement_size, statements_size, statement_notes, statements_notes, expression_code, jump_code, return_code, leave_code, discarded_code, returned_code, condition_code, initialiser_code, declared_code, all_declared_code, landed, repeated, finally_called, statement_code, statements_code, except_kind, region, statement_regions, statements_regions}
+use Rattle.std.specs.Prelude.{◌*◌}
+use Rattle.seh_num.specs.Widths.{bytes_of}
+use Rattle.seh_ir.specs.Words.{StackedVariable, Expression, Declared, Statement, Declare, Block, Evaluate, If, IfElse, For, DoWhile, Break, Continue, Leave, TryExcept, TryFinally, Statements, Empty, Then, Temporary, Instruction, Jump, JumpIfZero, Separator, Region, Names, Way, Nowhere, Jumps, Unwinds, LoweringContext, in_loop, in_try, in_except, in_guarded, expression_size, discarded_size, condition_size, declared_size, all_declared_size, statement_size, statements_size, elements_notes, stacked_notes, declared_notes, statement_notes, statements_notes, constant, expression_code, jump_code, leave_code, discarded_code, condition_code, initialiser_code, put_code, put_initialiser_code, clearing, stacked_declared_code, declared_at_code, declared_code, all_declared_code, landed, repeated, finally_called, statement_code, statements_code, except_kind, region, statement_regions, statements_regions}
 use Rattle.c_checked.specs.Statement as statements
 use Rattle.linear_code.specs.declared.program.RegionKind.TheVariants as kinds
-use Rattle.seh_ir.proofs.StatementCodes.{discarded_length, condition_length, declared_length, all_declared_length, statement_length, statements_length}
-use Rattle.seh_ir.proofs.StatementParts.{OptionalHas, DeclaredHas, AllDeclaredHave, StatementHas, StatementsHave}
-
--- ---- ways out
-
--- what is known of the label of a way
-abbrev pub WayHas : (ℕ → Type 0) → Way → Type 0
-WayHas L Nowhere = Unit {0}
-WayHas L (Jumps label) = L label
-WayHas L (Unwinds label) = L label
-
-abbrev pub PlaceHas : (ℕ → Type 0) → Option ℕ → Type 0
-PlaceHas L None = Unit {0}
-PlaceHas L (Some label) = L label
-
--- of the labels that statements leave to, and of that of the exit, where a value is held
-pub record WaysHave (L X : ℕ → Type 0) (scope : LoweringContext) : Type 0 where
-  pub exit : WayHas X scope.exit
-  pub loop_end : WayHas L scope.loop_end
-  pub loop_next : WayHas L scope.loop_next
-  pub leave : PlaceHas L scope.leave
-
--- a way out of a guarded body has the same label
-pub unwound_has : (L : ℕ → Type 0) (w : Way) → WayHas L w → WayHas L (unwound w)
-unwound_has L Nowhere h = h
-unwound_has L (Jumps label) h = h
-unwound_has L (Unwinds label) h = h
-
-any_way : (w : Way) → WayHas (λ label. Unit {0}) w
-any_way Nowhere = tt
-any_way (Jumps label) = tt
-any_way (Unwinds label) = tt
-
-any_label : (w : Option ℕ) → PlaceHas (λ label. Unit {0}) w
-any_label None = tt
-any_label (Some label) = tt
-
--- where nothing is asked of labels
-pub any_ways : (scope : LoweringContext) → WaysHave (λ label. Unit {0}) (λ label. Unit {0}) scope
-any_ways scope = record {
-  exit = any_way scope.exit;
-  loop_end = any_way scope.loop_end;
-  loop_next = any_way scope.loop_next;
-  leave = any_label scope.leave;
-}
-
--- ---- what is asked
-
--- all parts have it that hold as much at their ends as where they begin
-pub record IsNeutral (M : List Instruction → Type 0) : Type 0 where
-  pub separator : M (Separator ∷ [])
-  pub jump : (label : ℕ) → M (Jump label ∷ [])
-  pub landing : (end x : ℕ) → M (landed end x)
-  pub zeroed : (x : ℕ) → M (Compute (Local x) (Pure (Constant 0)) (Local x) (Local x) ∷ [])
-  pub discarded : (names : Names) (e : Option Expression) (at : ℕ) → M (discarded_code names e at)
-  pub condition : (names : Names) (e : Option Expression) (label at : ℕ)
-      → M (condition_code names e label at)
-  pub declared : (names : Names) (d : Declared) (at : ℕ) → M (declared_code names d at)
-  pub all_declared : (names : Names) (ds : List Declared) (at : ℕ)
-      → M (all_declared_code names ds at)
-  pub statement : (scope : LoweringContext) (s : Statement) (at : ℕ) → M (statement_code scope s at)
-  pub statements : (scope : LoweringContext) (ss : Statements) (at : ℕ)
-      → M (statements_code scope ss at)
-
--- what is known of code in its place is known of its parts, and tells of the labels where a part
--- begins or ends
-pub record IsPlaced (C : ℕ → List Instruction → Type 0) (M : List Instruction → Type 0)
-    (L : ℕ → Type 0) : Type 0 where
-  pub front : (at : ℕ) (xs ys : List Instruction) → C at (xs ++ ys) → C at xs
-  pub back : (at to : ℕ) (xs ys : List Instruction) → at + length xs ≡ to → M xs → C at (xs ++ ys)
-      → C to ys
-  pub begins : (at : ℕ) (xs : List Instruction) → C at xs → L at
-  pub ends : (at to : ℕ) (xs : List Instruction) → at + length xs ≡ to → M xs → C at xs → L to
-
--- where nothing is asked of what is held, and nothing of places
-pub any_neutral : IsNeutral (λ xs. Unit {0})
-any_neutral = record {
-  separator = tt;
-  jump = λ label. tt;
-  landing = λ end x. tt;
-  zeroed = λ x. tt;
-  discarded = λ names e at. tt;
-  condition = λ names e label at. tt;
-  declared = λ names d at. tt;
-  all_declared = λ names ds at. tt;
-  statement = λ scope s at. tt;
-  statements = λ scope ss at. tt;
-}
-
-pub any_place : IsPlaced (λ at xs. Unit {0}) (λ xs. Unit {0}) (λ label. Unit {0})
-any_place = record {
-  front = λ at xs ys c. tt;
-  back = λ at to xs ys e m c. tt;
-  begins = λ at xs c. tt;
-  ends = λ at to xs e m c. tt;
-}
-
--- names with room for so many notes have them in an `__except` block with one note less
-abbrev pub InExcept : (Names → ℕ → Type 0) → Type 0
-InExcept N = (names : Names) (m k : ℕ) → 1 + k ≤ m → N names m → N (except_names names) k
-
--- it holds of each piece at its place, with its regions, of what pieces follow one another, and of
--- nothing
-pub record HoldsOfPieces (P : ℕ → List Instruction → List Region → Type 0)
-    (C : ℕ → List Instruction → Type 0) (L X : ℕ → Type 0) (N : Names → ℕ → Type 0)
-    (E : Expression → Type 0) (D : ℕ → Type 0) : Type 0 where
-  pub none : (at : ℕ) → P at [] []
-  pub both : (at to : ℕ) (xs ys : List Instruction) (rs qs : List Region) → at + length xs ≡ to
-      → P at xs rs → P to ys qs → P at (xs ++ ys) (rs ++ qs)
-  pub of_separator : (at : ℕ) → P at (Separator ∷ []) []
-  pub of_jump : (at label : ℕ) → L label → P at (Jump label ∷ []) []
-  pub of_unwind : (at label : ℕ) → L label → P at (LocalUnwind label ∷ Separator ∷ []) []
-  pub of_landing : (names : Names) (m begin end at : ℕ) (f : Filter) → 1 ≤ m → N names m
-      → begin ≤ at
-      → L begin → L (at + 1) → L end
-      → P at (landed end names.free) (region begin (at + 1) (except_kind f (at + 1)) ∷ [])
-  pub of_finally : (k begin at : ℕ) → begin ≤ at → L begin → L (at + 1)
-      → P at (finally_called k) (region begin (at + 1) (kinds.Finally k) ∷ [])
-  pub of_zeroed : (x at : ℕ) → D x
-      → P at (Compute (Local x) (Pure (Constant 0)) (Local x) (Local x) ∷ []) []
-  pub of_discarded : (names : Names) (m : ℕ) (e : Expression) (at : ℕ) → N names m → E e
-      → C at (discarded_code names (Some e) at) → P at (discarded_code names (Some e) at) []
-  pub of_condition : (names : Names) (m : ℕ) (e : Expression) (label at : ℕ) → N names m → E e
-      → L label → C at (condition_code names (Some e) label at)
-      → P at (condition_code names (Some e) label at) []
-  pub of_initialiser : (names : Names) (m x : ℕ) (e : Expression) (at : ℕ) → N names m → D x → E e
-      → C at (initialiser_code names x (Some e) at) → P at (initialiser_code names x (Some e) at) []
-  pub of_repeated : (names : Names) (m : ℕ) (e : Expression) (end begin at : ℕ) → N names m → E e
-      → L end → L begin → C at (expression_code names e 0 at ++ repeated end begin)
-      → P at (expression_code names e 0 at ++ repeated end begin) []
-  pub of_return : (names : Names) (m : ℕ) (e : Option Expression) (exit : Way) (at : ℕ)
-      → N names m → OptionalHas E e → WayHas X exit
-      → C at (returned_code names e at ++ return_code exit)
-      → P at (returned_code names e at ++ return_code exit) []
+use Rattle.seh_ir.proofs.DeclaredCodes.{declared_length}
+use Rattle.seh_ir.proofs.StatementCodes.{discarded_length, condition_length, all_declared_length, statement_length, statements_length}
+use Rattle.seh_ir.proofs.StatementParts.{OptionalHas, StackedHas, DeclaredHas, AllDeclaredHave, StatementHas, StatementsHave}
+pub use Rattle.seh_ir.proofs.Pieces.{WayHas, PlaceHas, WaysHave, unwound_has, any_ways, IsNeutral, IsPlaced, any_neutral, any_place, InExcept, HoldsOfPieces}
 
 module _ (P : ℕ → List Instruction → List Region → Type 0) (C : ℕ → List Instruction → Type 0)
     (M : List Instruction → Type 0) (L X : ℕ → Type 0) (N : Names → ℕ → Type 0)
@@ -176,26 +48,66 @@ module _ (P : ℕ → List Instruction → List Region → Type 0) (C : ℕ → 
   initialiser_every names m x None at n d h c = holds.none at
   initialiser_every names m x (Some e) at n d h c = holds.of_initialiser names m x e at n d h c
 
-  declared_every : (names : Names) (m : ℕ) (d : Declared) (at : ℕ) → N names m
-      → DeclaredHas E D d → C at (declared_code names d at) → P at (declared_code names d at) []
-  declared_every names m d at n h c =
-      let x = d.local in
-      next at _ (initialiser_code names x d.value (at + 1)) [] (holds.of_zeroed x at h.0)
-      (initialiser_every names m x d.value (at + 1) n h.0 h.1
-      (next_placed at _ (initialiser_code names x d.value (at + 1)) (neutral.zeroed x) c))
+  put_initialiser_every : (names : Names) (m : ℕ) (v : StackedVariable) (e : Option Expression)
+      (at : ℕ) → N names m → D v.base → OptionalHas E e → C at (put_initialiser_code names v e at)
+      → P at (put_initialiser_code names v e at) []
+  put_initialiser_every names m v None at n d h c = holds.none at
+  put_initialiser_every names m v (Some e) at n d h c = holds.of_put_initialiser names m v e at n d
+      h c
 
-  all_declared_every : (names : Names) (m : ℕ) (ds : List Declared) (at : ℕ) → N names m
-      → AllDeclaredHave E D ds → C at (all_declared_code names ds at)
-      → P at (all_declared_code names ds at) []
-  all_declared_every names m [] at n h c = holds.none at
-  all_declared_every names m (d ∷ ds) at n h c =
+  -- a variable on the data stack
+  stacked_every : (names : Names) (m : ℕ) (v : StackedVariable) (k : Option ℕ)
+      (e : Option Expression) (at : ℕ) → elements_notes k ≤ m → N names m → D v.base
+      → OptionalHas E e → C at (stacked_declared_code names v k e at)
+      → P at (stacked_declared_code names v k e at) []
+  stacked_every names m v None e at le n d h c =
+      let first = constant 0 0 ∷ put_code v in
+      let rest = put_initialiser_code names v e (at + 3) in
+      holds.both at (at + 3) first rest [] [] (omega arith) (holds.of_put_zero v at d)
+      (put_initialiser_every names m v e (at + 3) n d h
+      (placed.back at (at + 3) first rest (omega arith) (neutral.put_zero v) c))
+  stacked_every names m v (Some k) e at le n d h c =
+      let x = names.free in
+      let turn = clearing x v (at + 4) (at + 1) in
+      let c1 = next_placed at _ (turn ++ Separator ∷ []) (neutral.counted x (bytes_of v.width * k))
+      c in
+      let c2 = placed.back (at + 1) (at + 4) turn (Separator ∷ []) (omega arith)
+      (neutral.clearing x v (at + 4) (at + 1)) c1 in
+      next at _ (turn ++ Separator ∷ []) []
+      (holds.of_counted names m (bytes_of v.width * k) at le n)
+      (holds.both (at + 1) (at + 4) turn (Separator ∷ []) [] [] (omega arith)
+      (holds.of_clearing names m v (at + 4) (at + 1) (at + 1) le n d (placed.begins (at + 4) _ c2)
+      (placed.begins (at + 1) _ c1)) (holds.of_separator (at + 4)))
+
+  declared_at_every : (names : Names) (m : ℕ) (v : Option StackedVariable) (x : ℕ)
+      (e : Option Expression) (at : ℕ) → stacked_notes v ≤ m → N names m → D x → OptionalHas E e
+      → StackedHas D v → C at (declared_at_code names v x e at)
+      → P at (declared_at_code names v x e at) []
+  declared_at_every names m None x e at le n d h s c =
+      next at _ (initialiser_code names x e (at + 1)) [] (holds.of_zeroed x at d)
+      (initialiser_every names m x e (at + 1) n d h
+      (next_placed at _ (initialiser_code names x e (at + 1)) (neutral.zeroed x) c))
+  declared_at_every names m (Some v) x e at le n d h s c = stacked_every names m v v.elements e at
+      le n s h c
+
+  declared_every : (names : Names) (m : ℕ) (d : Declared) (at : ℕ) → stacked_notes d.stacked ≤ m
+      → N names m → DeclaredHas E D d → C at (declared_code names d at)
+      → P at (declared_code names d at) []
+  declared_every names m d at le n h c = declared_at_every names m d.stacked d.local d.value at le n
+      h.0 h.1 h.2 c
+
+  all_declared_every : (names : Names) (m : ℕ) (ds : List Declared) (at : ℕ)
+      → declared_notes ds ≤ m → N names m → AllDeclaredHave E D ds
+      → C at (all_declared_code names ds at) → P at (all_declared_code names ds at) []
+  all_declared_every names m [] at le n h c = holds.none at
+  all_declared_every names m (d ∷ ds) at le n h c =
       let to = at + declared_size d in
       let first = declared_code names d at in
       let rest = all_declared_code names ds to in
       let l = declared_length names d at in
       holds.both at to first rest [] [] (omega arith)
-      (declared_every names m d at n h.0 (placed.front at first rest c))
-      (all_declared_every names m ds to n h.1
+      (declared_every names m d at (omega arith) n h.0 (placed.front at first rest c))
+      (all_declared_every names m ds to (omega arith) n h.1
       (placed.back at to first rest (omega arith) (neutral.declared names d at) c))
 
   way_every : (w : Way) (at : ℕ) → WayHas L w → P at (jump_code w) []
@@ -255,7 +167,7 @@ module _ (P : ℕ → List Instruction → List Region → Type 0) (C : ℕ → 
         → statement_notes s ≤ m → N scope.names m → WaysHave L X scope → StatementHas E F D s
         → C at (statement_code scope s at)
         → P at (statement_code scope s at) (statement_regions s at)
-    statement_every (Declare d) scope at m le n w h c = declared_every scope.names m d at n h c
+    statement_every (Declare d) scope at m le n w h c = declared_every scope.names m d at le n h c
     statement_every (Block ss) scope at m le n w h c = statements_every ss scope at m le n w h c
     statement_every (Evaluate e) scope at m le n w h c = discarded_every scope.names m e at n h c
     statement_every (If e s) scope at m le n w h c =
@@ -329,13 +241,13 @@ module _ (P : ℕ → List Instruction → List Region → Type 0) (C : ℕ → 
         let ended' = placed.begins end _ c7 in
         let rs = statement_regions s start in
         holds.both at begin declares _ [] rs (omega arith)
-        (all_declared_every names m ds at n h.0 (placed.front at declares _ c))
+        (all_declared_every names m ds at (omega arith) n h.0 (placed.front at declares _ c))
         (holds.both begin iteration begins _ [] rs (omega arith)
         (discarded_every names m first begin n h.1 (placed.front begin begins _ c1))
         (holds.both iteration start tests _ [] rs (omega arith)
         (condition_every names m t end iteration n h.2 ended' (placed.front iteration tests _ c2))
         (before_plain start again body _ rs (omega arith)
-        (statement_every s inner start m le n
+        (statement_every s inner start m (omega arith) n
         (record {
           exit = w.exit;
           loop_end = ended';
@@ -383,19 +295,19 @@ module _ (P : ℕ → List Instruction → List Region → Type 0) (C : ℕ → 
         let names = scope.names in
         let ends = at + statements_size body in
         let target = ends + 1 in
-        let end = target + 1 + statements_size block in
+        let end = target + 2 + statements_size block in
         let inner = in_try end scope in
         let guarded = statements_code inner body at in
-        let jumps = landed end names.free in
-        let handles = statements_code (in_except scope) block (target + 1) in
+        let jumps = landed names.part end names.free in
+        let handles = statements_code (in_except scope) block (target + 2) in
         let l = statements_length inner body at in
         let c1 = placed.back at ends guarded (jumps ++ handles) (omega arith)
         (neutral.statements inner body at) c in
-        let c2 = placed.back ends (target + 1) jumps handles (omega arith)
-        (neutral.landing end names.free) c1 in
+        let c2 = placed.back ends (target + 2) jumps handles (omega arith)
+        (neutral.landing names.part end names.free) c1 in
         let ended' = ended (TryExcept body filter block) scope at end (omega arith) c in
         let own = region at target (except_kind filter target) in
-        let qs = statements_regions block (target + 1) in
+        let qs = statements_regions block (target + 2) in
         holds.both at ends guarded (jumps ++ handles) (statements_regions body at) (own ∷ qs)
         (omega arith)
         (statements_every body inner at m (omega arith) n
@@ -405,11 +317,11 @@ module _ (P : ℕ → List Instruction → List Region → Type 0) (C : ℕ → 
           loop_next = w.loop_next;
           leave = ended';
         }) h.0 (placed.front at guarded (jumps ++ handles) c))
-        (holds.both ends (target + 1) jumps handles (own ∷ []) qs (omega arith)
+        (holds.both ends (target + 2) jumps handles (own ∷ []) qs (omega arith)
         (holds.of_landing names m at end ends filter (omega arith) n (omega arith)
         (placed.begins at _ c) (placed.begins target _ (next_placed ends (Jump end) _
         (neutral.jump end) c1)) ended')
-        (statements_every block (in_except scope) (target + 1) (statements_notes block)
+        (statements_every block (in_except scope) (target + 2) (statements_notes block)
         (omega arith) (in_block names m (statements_notes block) (omega arith) n)
         (record {
           exit = w.exit;

@@ -3,7 +3,8 @@ use Rattle.std.proofs.Common.{◌≡◌, ℕ, zero, suc, ◌+◌, ◌<◌, List,
 use Rattle.std.specs.Prelude.{◌-◌}
 use Rattle.std.proofs.lemmas.List.{append-nil}
 use Rattle.c_checked.specs.declared.statement.Declared.{Declared as Declared'}
-use Rattle.seh_ir.specs.Words.{Stmt, Expression, Declared, Filter, Statement, Declare, Block, Evaluate, If, IfElse, For, DoWhile, Return, Break, Continue, Leave, TryExcept, TryFinally, Statements, Empty, Then, statement, statements, declared, Local, Temporary, Instruction, Jump, JumpIfZero, CallFinally, Separator, Names, Way, Nowhere, Jumps, Unwinds, LoweringContext, in_loop, in_try, in_except, in_guarded, expression_size, discarded_size, condition_size, returned_size, declared_size, all_declared_size, statement_size, statements_size, copy, expression_code, jump_code, return_code, discarded_code, returned_code, condition_code, initialiser_code, declared_code, all_declared_code, landed, repeated, statement_code, statements_code, when_code}
+use Rattle.seh_ir.specs.Words.{Stmt, Expression, Declared, Filter, Statement, Declare, Block, Evaluate, If, IfElse, For, DoWhile, Return, Break, Continue, Leave, TryExcept, TryFinally, Statements, Empty, Then, statement, statements, declared, Temporary, Instruction, Jump, JumpIfZero, CallFinally, Separator, Names, Way, Nowhere, Jumps, Unwinds, LoweringContext, in_loop, in_try, in_except, in_guarded, expression_size, discarded_size, condition_size, returned_size, declared_size, all_declared_size, statement_size, statements_size, expression_code, jump_code, return_code, discarded_code, returned_code, condition_code, declared_code, all_declared_code, landed, repeated, statement_code, statements_code, when_code}
+use Rattle.seh_ir.proofs.DeclaredCodes.{declared_length}
 use Rattle.lowering_expressions.proofs.Codes.{joined, longer, more, two, expression_length}
 use Rattle.lowering_expressions.proofs.Arms.{after, after_one, after_expression}
 
@@ -34,18 +35,6 @@ condition_length names None label at = refl
 condition_length names (Some e) label at = two (expression_code names e 0 at)
     (JumpIfZero (Temporary 0) label ∷ []) (expression_size e) 1 (expression_length names e 0 at)
     refl
-
-initialiser_length : (names : Names) (x : ℕ) (e : Option Expression) (at : ℕ)
-    → length (initialiser_code names x e at) ≡ elim e [ None ↦ 0 | Some f ↦ expression_size f + 2 ]
-initialiser_length names x None at = refl
-initialiser_length names x (Some e) at = two (expression_code names e 0 at)
-    (copy (Local x) (Temporary 0) ∷ Separator ∷ []) (expression_size e) 2
-    (expression_length names e 0 at) refl
-
-pub declared_length : (names : Names) (d : Declared) (at : ℕ)
-    → length (declared_code names d at) ≡ declared_size d
-declared_length names d at = let i = initialiser_length names d.local d.value (at + 1) in
-    omega arith
 
 pub all_declared_length : (names : Names) (ds : List Declared) (at : ℕ)
     → length (all_declared_code names ds at) ≡ all_declared_size ds
@@ -129,13 +118,13 @@ mutual
   statement_length scope Leave at = refl
   statement_length scope (TryExcept body filter block) at =
       let target = at + statements_size body + 1 in
-      let end = target + 1 + statements_size block in
+      let end = target + 2 + statements_size block in
+      let landing = landed scope.names.part end scope.names.free in
       two (statements_code (in_try end scope) body at)
-      (landed end scope.names.free ++ statements_code (in_except scope) block (target + 1))
-      (statements_size body) (2 + statements_size block)
-      (statements_length (in_try end scope) body at)
-      (two (landed end scope.names.free) (statements_code (in_except scope) block (target + 1)) 2
-      (statements_size block) refl (statements_length (in_except scope) block (target + 1)))
+      (landing ++ statements_code (in_except scope) block (target + 2)) (statements_size body)
+      (3 + statements_size block) (statements_length (in_try end scope) body at)
+      (two landing (statements_code (in_except scope) block (target + 2)) 3 (statements_size block)
+      refl (statements_length (in_except scope) block (target + 2)))
   statement_length scope (TryFinally body k last) at =
       let inner = in_guarded (at + statements_size body) scope in
       two (statements_code inner body at) (Separator ∷ CallFinally (k - 1) ∷ Separator ∷ [])
@@ -329,20 +318,21 @@ return_is scope e old one two a b = joined old one two (returned_code scope.name
 -- the body of a `__try` with the beginning of its `__except` block
 abbrev Tried : LoweringContext → Statements → ℕ → ℕ → List Instruction
 Tried scope body block at =
-    statements_code (in_try (at + (statements_size body + (block + 2))) scope) body at
-    ++ landed (at + (statements_size body + (block + 2))) scope.names.free
+    statements_code (in_try (at + (statements_size body + (block + 3))) scope) body at
+    ++ landed scope.names.part (at + (statements_size body + (block + 3))) scope.names.free
 
 pub tried_is : (scope : LoweringContext) (body : Statements) (size block rest both end : ℕ)
-    (old l1 l2 : List Instruction) → size ≡ statements_size body → rest ≡ block + 2
+    (old l1 l2 : List Instruction) → size ≡ statements_size body → rest ≡ block + 3
     → both ≡ size + rest → end ≡ length old + both
     → l1 ≡ old ++ statements_code (in_try end scope) body (length old)
-    → l2 ≡ l1 ++ landed end scope.names.free → l2 ≡ old ++ Tried scope body block (length old)
+    → l2 ≡ l1 ++ landed scope.names.part end scope.names.free
+    → l2 ≡ old ++ Tried scope body block (length old)
 tried_is scope body size block rest both end old l1 l2 z w v e h1 h2 =
-    let p : end ≡ length old + (statements_size body + (block + 2)) = omega arith in
+    let p : end ≡ length old + (statements_size body + (block + 3)) = omega arith in
     joined old l1 l2 (statements_code (in_try end scope) body (length old))
-    (landed end scope.names.free) h1 h2
+    (landed scope.names.part end scope.names.free) h1 h2
     ∙ ap (λ t. old ++ (statements_code (in_try t scope) body (length old)
-    ++ landed t scope.names.free)) p
+    ++ landed scope.names.part t scope.names.free)) p
 
 pub except_is : (scope inner : LoweringContext) (body : Statements) (filter : Filter)
     (block : Statements) (x : Statement) (size : ℕ) (old l1 l2 : List Instruction)
@@ -353,23 +343,24 @@ except_is scope inner body filter block x size old l1 l2 is z i h1 h2 =
     let nb = statements_size body in
     let nh = statements_size block in
     let at = length old in
-    let end = at + (nb + (size + 2)) in
+    let end = at + (nb + (size + 3)) in
     let free = scope.names.free in
+    let part = scope.names.part in
     let front = statements_code (in_try end scope) body at in
-    let long = two front (landed end free) nb 2 (statements_length (in_try end scope) body at)
+    let long = two front (landed part end free) nb 3 (statements_length (in_try end scope) body at)
     refl in
     let h2' = h2 ∙ ap (λ (k : LoweringContext). l1 ++ statements_code k block (length l1)) i in
-    let g = after (Tried scope body size at) (nb + 2) old l1 l2
+    let g = after (Tried scope body size at) (nb + 3) old l1 l2
     (λ k. statements_code (in_except scope) block k) long h1 h2' in
-    let p : end ≡ at + nb + 1 + 1 + nh = omega arith in
-    let q : at + (nb + 2) ≡ at + nb + 1 + 1 = omega arith in
+    let p : end ≡ at + nb + 1 + 2 + nh = omega arith in
+    let q : at + (nb + 3) ≡ at + nb + 1 + 2 = omega arith in
     let whole = λ (t k : ℕ). statements_code (in_try t scope) body at
-    ++ (landed t free ++ statements_code (in_except scope) block k) in
+    ++ (landed part t free ++ statements_code (in_except scope) block k) in
     of scope x (TryExcept body filter block) old l2 is
-    (g ∙ ap (λ xs. old ++ xs) (append_assoc front (landed end free)
-    (statements_code (in_except scope) block (at + (nb + 2))))
-    ∙ ap (λ t. old ++ whole t (at + (nb + 2))) p
-    ∙ ap (λ k. old ++ whole (at + nb + 1 + 1 + nh) k) q)
+    (g ∙ ap (λ xs. old ++ xs) (append_assoc front (landed part end free)
+    (statements_code (in_except scope) block (at + (nb + 3))))
+    ∙ ap (λ t. old ++ whole t (at + (nb + 3))) p
+    ∙ ap (λ k. old ++ whole (at + nb + 1 + 2 + nh) k) q)
 
 pub finally_is : (scope : LoweringContext) (body : Statements) (k : ℕ) (last : Statements)
     (size end : ℕ) (old one two : List Instruction) → size ≡ statements_size body

@@ -1,14 +1,19 @@
--- What is known of each expression in statements, of each filter's, and of each declared local.
+-- What is known of each expression in statements, of each filter's, of each declared local, and of
+-- the base of each declared variable on the data stack.
 use Rattle.std.proofs.Common.{ℕ, List, [], ◌∷◌}
 use Rattle.std.specs.Prelude.{Option, Some, None}
-use Rattle.seh_ir.specs.Words.{Expression, Declared, Filter, Always, Funclet, Statement, Declare, Block, Evaluate, If, IfElse, For, DoWhile, Return, Break, Continue, Leave, TryExcept, TryFinally, Statements, Empty, Then}
+use Rattle.seh_ir.specs.Words.{StackedVariable, Expression, Declared, Filter, Always, Funclet, Statement, Declare, Block, Evaluate, If, IfElse, For, DoWhile, Return, Break, Continue, Leave, TryExcept, TryFinally, Statements, Empty, Then}
 
 abbrev pub OptionalHas : (Expression → Type 0) → Option Expression → Type 0
 OptionalHas E None = Unit {0}
 OptionalHas E (Some e) = E e
 
+abbrev pub StackedHas : (ℕ → Type 0) → Option StackedVariable → Type 0
+StackedHas D None = Unit {0}
+StackedHas D (Some v) = D v.base
+
 abbrev pub DeclaredHas : (Expression → Type 0) → (ℕ → Type 0) → Declared → Type 0
-DeclaredHas E D d = D d.local × OptionalHas E d.value
+DeclaredHas E D d = D d.local × OptionalHas E d.value × StackedHas D d.stacked
 
 abbrev pub AllDeclaredHave : (Expression → Type 0) → (ℕ → Type 0) → List Declared → Type 0
 AllDeclaredHave E D [] = Unit {0}
@@ -50,8 +55,12 @@ module _ (E F : Expression → Type 0) (D : ℕ → Type 0) (of_value : (e : Exp
   optional_has None = tt
   optional_has (Some e) = of_value e
 
+  stacked_has : (v : Option StackedVariable) → StackedHas D v
+  stacked_has None = tt
+  stacked_has (Some v) = of_local v.base
+
   declared_has : (d : Declared) → DeclaredHas E D d
-  declared_has d = (of_local d.local, optional_has d.value)
+  declared_has d = (of_local d.local, optional_has d.value, stacked_has d.stacked)
 
   all_declared_have : (ds : List Declared) → AllDeclaredHave E D ds
   all_declared_have [] = tt

@@ -2,8 +2,9 @@
 -- cold where it holds a call and no `__try`, and stands in no `__try` statement and in no other
 -- cold part.
 use Rattle.std.specs.Prelude.{ℕ, ◌+◌, Bool, true, false, not, ◌&&◌, ◌||◌, if◌then◌else◌, List, [], ◌∷◌, ◌++◌, Option, Some, None}
+use Rattle.c_checked.specs.declared.statement.StackedVariable.{StackedVariable}
 use Rattle.c_checked.specs.Expression as nodes
-use Rattle.c_checked.specs.Expression.{Expression, On, Node, Lvalue, Local, Global, Indirection, Element, Arguments, Done, Next}
+use Rattle.c_checked.specs.Expression.{Expression, On, Node, Lvalue, Local, Global, Stacked, Indirection, Element, Arguments, Done, Next}
 use Rattle.c_checked.specs.Statement.{Declared, Statement, Declare, Block, Evaluate, If, IfElse, For, DoWhile, Return, Break, Continue, Leave, TryExcept, TryFinally, Statements, Empty, Then}
 use Rattle.linear_code.specs.declared.program.LabelRange.{LabelRange}
 use Rattle.lowering_sizes.specs.Sizes.{expression_size, discarded_size, condition_size, all_declared_size, statement_size}
@@ -17,6 +18,7 @@ abbrev mutual
   pub place_calls : Lvalue → Bool
   place_calls (Local x) = false
   place_calls (Global access a) = false
+  place_calls (Stacked access base offset) = false
   place_calls (Indirection access e) = calls e
   place_calls (Element access e i) = calls e || calls i
 
@@ -37,6 +39,7 @@ abbrev mutual
   node_calls (nodes.Call f es) = true
   node_calls (nodes.CallBuiltIn k es) = true
   node_calls (nodes.Constant z n) = false
+  node_calls (nodes.StackedArray base offset) = false
   node_calls nodes.ExceptionCode = false
   node_calls (nodes.Information f) = false
   node_calls nodes.AbnormalTermination = false
@@ -45,13 +48,22 @@ abbrev pub optional_calls : Option Expression → Bool
 optional_calls None = false
 optional_calls (Some e) = calls e
 
+-- an array has no initialiser
+abbrev pub elements_call : Option ℕ → Option Expression → Bool
+elements_call None e = optional_calls e
+elements_call (Some n) e = false
+
+abbrev pub declared_at_calls : Option StackedVariable → Option Expression → Bool
+declared_at_calls None e = optional_calls e
+declared_at_calls (Some v) e = elements_call v.elements e
+
 abbrev pub declared_calls : List Declared → Bool
 declared_calls [] = false
-declared_calls (d ∷ ds) = optional_calls d.value || declared_calls ds
+declared_calls (d ∷ ds) = declared_at_calls d.stacked d.value || declared_calls ds
 
 abbrev mutual
   pub statement_calls : Statement → Bool
-  statement_calls (Declare d) = optional_calls d.value
+  statement_calls (Declare d) = declared_at_calls d.stacked d.value
   statement_calls (Block ss) = statements_call ss
   statement_calls (Evaluate e) = optional_calls e
   statement_calls (If c s) = calls c || statement_calls s

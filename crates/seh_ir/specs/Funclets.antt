@@ -1,5 +1,5 @@
 -- Filters and `__finally` blocks, in the order of their numbers.
-use Rattle.std.specs.Prelude.{ℕ, ◌-◌, List, [], ◌∷◌, ◌++◌, Some}
+use Rattle.std.specs.Prelude.{ℕ, ◌-◌, List, [], ◌∷◌, ◌++◌, Option, None, Some}
 use Rattle.c_checked.specs.Expression.{Expression}
 use Rattle.c_checked.specs.Statement.{Filter, Always, Funclet, Statement, Declare, Block, Evaluate, If, IfElse, For, DoWhile, Return, Break, Continue, Leave, TryExcept, TryFinally, Statements, Empty, Then}
 use Rattle.linear_code.specs.declared.slot.Slot.TheVariants.{Local, Temporary}
@@ -11,7 +11,10 @@ use Rattle.lowering_expressions.specs.Scope.{except_names, filter_names, finally
 use Rattle.seh_ir.specs.declared.funclets.Owner.{Owner}
 use Rattle.seh_ir.specs.Slots.{body_with}
 use Rattle.lowering_expressions.specs.Expressions.{expression_code}
-use Rattle.seh_ir.specs.Statements.{statements_code}
+use Rattle.seh_ir.specs.Statements.{set_pointer, statements_code}
+use Rattle.linear_code.specs.declared.instruction.Instruction.{Instruction}
+use Rattle.linear_code.specs.declared.instruction.Instruction.TheVariants.{JumpIfZero, Separator}
+use Rattle.c_checked.specs.declared.function.DataPart.{DataPart}
 use Rattle.seh_ir.specs.Regions.{statements_regions}
 
 -- a filter with these names in it
@@ -29,6 +32,13 @@ abbrev pub filter_funclets : Owner → Names → Filter → List LinearFunclet
 filter_funclets owner names Always = []
 filter_funclets owner names (Funclet k e) = filter_funclet owner names e ∷ []
 
+-- where its flag isn't 0, a `__finally` block begins with the data stack's pointer where the
+-- function's own statements have it
+abbrev pub finally_begin : Option DataPart → (flag : ℕ) → List Instruction
+finally_begin None x = Separator ∷ Separator ∷ Separator ∷ []
+finally_begin (Some part) x =
+    JumpIfZero (Local x) 2 ∷ set_pointer part.base part.size ∷ Separator ∷ []
+
 -- a `__finally` block with these names around it; its flag is in the first free local
 abbrev pub finally_funclet : Owner → Names → Statements → LinearFunclet
 finally_funclet owner names last = record {
@@ -36,8 +46,9 @@ finally_funclet owner names last = record {
   function = owner.function;
   parent = owner.parent;
   body =
-      body_with owner.locals (statements_code (finally_scope names) last 0
-      ++ instructions.Return (Local names.free) ∷ []) (statements_regions last 0) [];
+      body_with owner.locals (finally_begin names.part names.free
+      ++ (statements_code (finally_scope names) last 3
+      ++ instructions.Return (Local names.free) ∷ [])) (statements_regions last 3) [];
 }
 
 -- in the body of a funclet

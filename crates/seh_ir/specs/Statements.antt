@@ -1,7 +1,9 @@
 -- The code of statements. No temporary is used across them.
-use Rattle.std.specs.Prelude.{ℕ, ◌+◌, ◌-◌, List, [], ◌∷◌, ◌++◌, Option, None, Some}
-use Rattle.c_operations.specs.declared.operation.Operation.TheVariants.{Pure}
+use Rattle.std.specs.Prelude.{ℕ, ◌+◌, ◌-◌, ◌*◌, List, [], ◌∷◌, ◌++◌, Option, None, Some}
+use Rattle.seh_num.specs.Widths.{bytes_of}
+use Rattle.c_operations.specs.declared.operation.Operation.TheVariants.{Pure, SetPointer, Place, Clear}
 use Rattle.c_operations.specs.declared.operation.Pure.TheVariants.{Constant}
+use Rattle.c_checked.specs.declared.statement.StackedVariable.{StackedVariable}
 use Rattle.c_checked.specs.Expression.{Expression}
 use Rattle.c_checked.specs.Statement.{Declared, Statement, Declare, Block, Evaluate, If, IfElse, For, DoWhile, Break, Continue, Leave, TryExcept, TryFinally, Statements, Empty, Then}
 use Rattle.c_checked.specs.Statement as statements
@@ -9,6 +11,7 @@ use Rattle.linear_code.specs.declared.slot.Slot.TheVariants.{Local, Temporary}
 use Rattle.linear_code.specs.declared.instruction.Instruction.{Instruction}
 use Rattle.linear_code.specs.declared.instruction.Instruction.TheVariants.{Compute, Jump, JumpIfZero, CallFinally, LocalUnwind, Landing, Separator}
 use Rattle.lowering_expressions.specs.declared.scope.Names.{Names}
+use Rattle.c_checked.specs.declared.function.DataPart.{DataPart}
 use Rattle.lowering_expressions.specs.declared.scope.Way.{Way}
 use Rattle.lowering_expressions.specs.declared.scope.LoweringContext.{LoweringContext}
 use Rattle.lowering_expressions.specs.declared.scope.Way.TheVariants.{Nowhere, Jumps, Unwinds}
@@ -52,11 +55,47 @@ initialiser_code names x None at = []
 initialiser_code names x (Some e) at =
     expression_code names e 0 at ++ copy (Local x) (Temporary 0) ∷ Separator ∷ []
 
+-- ---- variables on the data stack
+
+-- the first temporary goes to a variable
+abbrev pub put_code : StackedVariable → List Instruction
+put_code v =
+    Compute (Temporary 0) (Place v.width v.offset) (Local v.base) (Temporary 0) ∷ Separator ∷ []
+
+abbrev pub put_initialiser_code : Names → StackedVariable → Option Expression → ℕ
+    → List Instruction
+put_initialiser_code names v None at = []
+put_initialiser_code names v (Some e) at = expression_code names e 0 at ++ put_code v
+
+-- a turn of the loop that clears an array, in which an element becomes 0
+abbrev pub clearing : (rest : ℕ) → StackedVariable → (end begin : ℕ) → List Instruction
+clearing x v end begin =
+    JumpIfZero (Local x) end
+    ∷ Compute (Local x) (Clear v.width v.offset) (Local v.base) (Local x)
+    ∷ Jump begin ∷ []
+
+-- the elements of an array become 0, the last one first: a free local has the bytes that are left
+abbrev pub clear_code : (rest : ℕ) → StackedVariable → ℕ → ℕ → List Instruction
+clear_code x v n at =
+    Compute (Local x) (Pure (Constant (bytes_of v.width * n))) (Local x) (Local x)
+    ∷ (clearing x v (at + 4) (at + 1) ++ Separator ∷ [])
+
+abbrev pub stacked_declared_code : Names → StackedVariable → Option ℕ → Option Expression → ℕ
+    → List Instruction
+stacked_declared_code names v (Some n) value at = clear_code names.free v n at
+stacked_declared_code names v None value at =
+    constant 0 0 ∷ (put_code v ++ put_initialiser_code names v value (at + 3))
+
+abbrev pub declared_at_code : Names → Option StackedVariable → (local : ℕ) → Option Expression → ℕ
+    → List Instruction
+declared_at_code names None x value at =
+    Compute (Local x) (Pure (Constant 0)) (Local x) (Local x)
+    ∷ initialiser_code names x value (at + 1)
+declared_at_code names (Some v) x value at = stacked_declared_code names v v.elements value at
+
 -- a declared local is 0 first
 abbrev pub declared_code : Names → Declared → ℕ → List Instruction
-declared_code names d at =
-    Compute (Local d.local) (Pure (Constant 0)) (Local d.local) (Local d.local)
-    ∷ initialiser_code names d.local d.value (at + 1)
+declared_code names d at = declared_at_code names d.stacked d.local d.value at
 
 abbrev pub all_declared_code : Names → List Declared → ℕ → List Instruction
 all_declared_code names [] at = []
@@ -65,9 +104,18 @@ all_declared_code names (d ∷ ds) at =
 
 -- ---- ends of parts
 
+-- the data stack's pointer becomes so many bytes above the base, which stays in its local
+abbrev pub set_pointer : (base size : ℕ) → Instruction
+set_pointer base size = Compute (Local base) (SetPointer size) (Local base) (Local base)
+
+-- the pointer is where the function's own statements have it
+abbrev pub reset_code : Option DataPart → Instruction
+reset_code None = Separator
+reset_code (Some part) = set_pointer part.base part.size
+
 -- of the body of a `__try`, with the beginning of its `__except` block
-abbrev pub landed : ℕ → ℕ → List Instruction
-landed end x = Jump end ∷ Landing (Local x) ∷ []
+abbrev pub landed : Option DataPart → ℕ → ℕ → List Instruction
+landed part end x = Jump end ∷ Landing (Local x) ∷ reset_code part ∷ []
 
 -- of a `do`, whose condition was evaluated, with the place where it ends
 abbrev pub repeated : ℕ → ℕ → List Instruction
@@ -127,10 +175,10 @@ abbrev mutual
   statement_code scope Leave at = leave_code scope.leave ∷ []
   statement_code scope (TryExcept body filter block) at =
       let target = at + statements_size body + 1 in
-      let end = target + 1 + statements_size block in
+      let end = target + 2 + statements_size block in
       statements_code (in_try end scope) body at
-      ++ (landed end scope.names.free
-      ++ statements_code (in_except scope) block (target + 1))
+      ++ (landed scope.names.part end scope.names.free
+      ++ statements_code (in_except scope) block (target + 2))
   statement_code scope (TryFinally body k last) at =
       statements_code (in_guarded (at + statements_size body) scope) body at
       ++ Separator ∷ CallFinally (k - 1) ∷ Separator ∷ []
@@ -153,5 +201,5 @@ when_code scope c s more at =
 -- the body of a `__try` with an `__except` block of this size, and the beginning of that block
 abbrev pub tried_code : LoweringContext → Statements → ℕ → ℕ → List Instruction
 tried_code scope body block at =
-    let end = at + (statements_size body + (block + 2)) in
-    statements_code (in_try end scope) body at ++ landed end scope.names.free
+    let end = at + (statements_size body + (block + 3)) in
+    statements_code (in_try end scope) body at ++ landed scope.names.part end scope.names.free

@@ -31,6 +31,7 @@ fn place_calls(place: &Lvalue) -> bool
     match place {
         Lvalue::Local(_) => false,
         Lvalue::Global { .. } => false,
+        Lvalue::Stacked { .. } => false,
         Lvalue::Indirection { pointer, .. } => calls(pointer),
         Lvalue::Element { array, index, .. } => calls(array) || calls(index),
     }
@@ -42,6 +43,7 @@ fn node_calls(node: &Node) -> bool
 {
     match node {
         Node::Constant { .. } => false,
+        Node::StackedArray { .. } => false,
         Node::Read(place) => place_calls(place),
         Node::AddressOf(place) => place_calls(place),
         Node::Assign { target, value } => place_calls(target) || calls(value),
@@ -72,11 +74,24 @@ fn optional_calls(expr: &Option<Expr>) -> bool
     }
 }
 
+/// Whether the initialiser of a declared local holds a call. An array has none.
+fn declared_call(one: &Declared) -> bool
+    ensures { result ≡ spec.declared_at_calls (statements.declared one.now).stacked
+        (statements.declared one.now).value }
+{
+    if let Some(variable) = one.stacked {
+        if variable.elements.is_some() {
+            return false;
+        }
+    }
+    optional_calls(&one.value)
+}
+
 fn declared_calls(declared: &[Declared]) -> bool
     ensures { result ≡ spec.declared_calls (map statements.declared declared.now) }
 {
     for one in declared {
-        if optional_calls(&one.value) {
+        if declared_call(one) {
             return true;
         }
     }
@@ -102,7 +117,7 @@ fn statement_calls(stmt: &Stmt) -> bool
     ensures { result ≡ spec.statement_calls (statements.statement stmt.now) }
 {
     match stmt {
-        Stmt::Declare(declared) => optional_calls(&declared.value),
+        Stmt::Declare(declared) => declared_call(declared),
         Stmt::Block(stmts) => statements_call(stmts),
         Stmt::Evaluate(expr) => optional_calls(expr),
         Stmt::If {

@@ -9,6 +9,7 @@ ghost use Rattle.lowering_expressions.specs.Appended.{AppendsFunclets};
 ghost use Rattle.seh_ir.specs.Funclets as spec;
 
 use crate::bodies::body_with;
+use crate::data_stack::begin_finally;
 use crate::regions::statements_regions;
 use crate::statements::statements;
 use c_checked::expression::Expr;
@@ -69,12 +70,13 @@ fn finally_funclet(
 {
     let scope = finally_scope(names)?;
     let mut code = Vec::new(alloc);
+    begin_finally(&mut code, names)?;
     statements(alloc, &mut code, &scope, last)?;
     code.push(Instruction::Return {
         from: Slot::Local(names.free),
     })?;
     let mut regions = Vec::new(alloc);
-    statements_regions(&mut regions, last, 0)?;
+    statements_regions(&mut regions, last, 3)?;
     let body = body_with(owner.locals, code, regions, Vec::new(alloc))?;
     Ok(IrFunclet {
         kind: FuncletKind::Finally { flag: names.free },

@@ -8,6 +8,8 @@
 
 pub mod bodies;
 pub mod cold_parts;
+pub mod data_stack;
+pub mod declarations;
 pub mod funclets;
 pub mod lower;
 pub mod regions;

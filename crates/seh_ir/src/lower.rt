@@ -10,6 +10,7 @@ ghost use Rattle.seh_ir.specs.Lowered as spec;
 
 use crate::bodies::body_with;
 use crate::cold_parts::statements_cold;
+use crate::data_stack::{close, open, open_size};
 use crate::funclets::{Owner, statements_funclets};
 use crate::regions::statements_regions;
 use crate::statements::statements;
@@ -18,7 +19,7 @@ use c_checked::function::Function;
 use linear_code::instruction::Instruction;
 use linear_code::program::{IrFunclet, IrFunction, IrProgram};
 use linear_code::slot::Slot;
-use lowering_expressions::instructions::{constant, put_all};
+use lowering_expressions::instructions::{constant, put};
 use lowering_expressions::scope::{ExceptionSource, LoweringContext, Names, Way};
 use lowering_registers::registers::{own_locals, register_locals};
 use lowering_sizes::measured::measure_all;
@@ -32,11 +33,18 @@ fn all_locals(f: &Function) -> Result<u64, AllocError>
     sum(own_locals(f)?, statements_notes(&f.body)?)
 }
 
-/// How much an activation counts in the depth, and the label at which the body begins.
+/// How much an activation counts in the depth, and how many separators its code begins with.
 fn weight(f: &Function) -> Result<u64, AllocError>
     ensures { IfOk result (λ n. n ≡ programs.weight (programs.function f.now)) }
 {
     sum(1, f.surplus())
+}
+
+/// The label at which the code of the body begins.
+fn body_start(f: &Function) -> Result<u64, AllocError>
+    ensures { IfOk result (λ n. n ≡ spec.body_start (programs.function f.now)) }
+{
+    sum(weight(f)?, open_size(&f.data_frame)?)
 }
 
 /// Adds so many separators.
@@ -58,6 +66,7 @@ fn names_of(f: &Function) -> Result<Names, AllocError>
         exception: ExceptionSource::NoException,
         abnormal: None,
         free,
+        part: f.data_part(),
     })
 }
 
@@ -66,7 +75,7 @@ fn scope_of(alloc: Global, f: &Function) -> Result<LoweringContext, AllocError>
 {
     let names = names_of(f)?;
     let body = sum(measure_all(&f.body, &mut Vec::new(alloc))?, 1)?;
-    let exit = sum(weight(f)?, body)?;
+    let exit = sum(body_start(f)?, body)?;
     Ok(LoweringContext {
         names,
         exit: Way::Jumps(exit),
@@ -76,21 +85,32 @@ fn scope_of(alloc: Global, f: &Function) -> Result<LoweringContext, AllocError>
     })
 }
 
+fn function_code(alloc: Global, f: &Function) -> Result<Vec<Instruction>, AllocError>
+    ensures { IfOk result (λ v. v.items ≡ spec.function_code (programs.function f.now)) }
+{
+    let scope = scope_of(alloc, f)?;
+    let separators = weight(f)?;
+    let mut code = Vec::new(alloc);
+    put_separators(&mut code, separators)?;
+    open(&mut code, &f.data_frame)?;
+    statements(alloc, &mut code, &scope, &f.body)?;
+    put(&mut code, constant(0, 0))?;
+    close(&mut code, &f.data_frame)?;
+    let returns = Instruction::Return {
+        from: Slot::Temporary(0),
+    };
+    put(&mut code, returns)?;
+    Ok(code)
+}
+
 fn lower_function(alloc: Global, f: &Function) -> Result<IrFunction, AllocError>
     ensures { IfOk result (λ r. linear_function r ≡
         spec.lowered_function (programs.function f.now)) }
 {
     let registers = register_locals(alloc, f)?;
-    let scope = scope_of(alloc, f)?;
     let locals = all_locals(f)?;
-    let begin = weight(f)?;
-    let mut code = Vec::new(alloc);
-    put_separators(&mut code, begin)?;
-    statements(alloc, &mut code, &scope, &f.body)?;
-    let returns = Instruction::Return {
-        from: Slot::Temporary(0),
-    };
-    put_all(&mut code, &[constant(0, 0), returns])?;
+    let begin = body_start(f)?;
+    let code = function_code(alloc, f)?;
     let mut regions = Vec::new(alloc);
     statements_regions(&mut regions, &f.body, begin)?;
     let mut cold = Vec::new(alloc);
@@ -102,7 +122,8 @@ fn lower_function(alloc: Global, f: &Function) -> Result<IrFunction, AllocError>
         name,
         parameters: f.parameters.len() as u64,
         registers,
-        surplus: f.surplus(),
+        surplus: f.frame_surplus(),
+        data_surplus: f.data_surplus(),
         body,
     })
 }

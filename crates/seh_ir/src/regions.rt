@@ -89,7 +89,7 @@ fn try_regions(regions: &mut Vec<Region>, stmt: &Stmt, at: u64) -> Result<u64, A
         } => {
             let end = statements_regions(regions, body, at)?;
             let target = sum(end, 1)?;
-            let block = sum(target, 1)?;
+            let block = sum(target, 2)?;
             regions.push(Region {
                 begin: at,
                 end: target,

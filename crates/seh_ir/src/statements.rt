@@ -10,13 +10,14 @@ ghost use Rattle.lowering_expressions.specs.Appended.{Appends, Places};
 ghost use Rattle.seh_ir.specs.Measured.{PlacesBySizes, part, block};
 ghost use Rattle.seh_ir.specs.Statements as spec;
 
+use crate::data_stack::reset;
+use crate::declarations::{declare, declare_all};
 use c_checked::expression::Expr;
 use c_checked::statement::{Declared, Stmt};
-use c_operations::operation::{Operation, Pure};
 use linear_code::instruction::Instruction;
 use linear_code::slot::Slot;
 use lowering_expressions::expressions::expression;
-use lowering_expressions::instructions::{ahead, constant, copy, put, put_all};
+use lowering_expressions::instructions::{ahead, constant, put, put_all};
 use lowering_expressions::pieces::{skip, test};
 use lowering_expressions::scope::{
     LoweringContext, Names, Way, in_except, in_guarded, in_loop, in_try,
@@ -125,53 +126,6 @@ fn tested(
     }
 }
 
-fn initialise(
-    code: &mut Vec<Instruction>,
-    names: Names,
-    local: u64,
-    value: &Option<Expr>,
-) -> Result<(), AllocError>
-    ensures { OnOk result (Places code.old code.new
-        (spec.initialiser_code names local (option_map tree.expression value.now))) }
-{
-    match value {
-        None => Ok(()),
-        Some(e) => {
-            expression(code, names, e, 0)?;
-            let initialised = copy(Slot::Local(local), Slot::Temporary(0));
-            put_all(code, &[initialised, Instruction::Separator])
-        }
-    }
-}
-
-fn declare(code: &mut Vec<Instruction>, names: Names, declared: &Declared) -> Result<(), AllocError>
-    ensures { OnOk result (Places code.old code.new
-        (spec.declared_code names (statements.declared declared.now))) }
-{
-    let slot = Slot::Local(declared.local);
-    code.push(Instruction::Compute {
-        to: slot,
-        operation: Operation::Pure(Pure::Constant(0)),
-        first: slot,
-        second: slot,
-    })?;
-    initialise(code, names, declared.local, &declared.value)
-}
-
-fn declare_all(
-    code: &mut Vec<Instruction>,
-    names: Names,
-    declared: &[Declared],
-) -> Result<(), AllocError>
-    ensures { OnOk result (Places code.old code.new
-        (spec.all_declared_code names (map statements.declared declared.now))) }
-{
-    for one in declared {
-        declare(code, names, one)?;
-    }
-    Ok(())
-}
-
 /// The call of a `__finally` block at the normal end of its body.
 fn call_finally(code: &mut Vec<Instruction>, number: u32) -> Result<(), AllocError>
     ensures { OnOk result (Appends code.old code.new (spec.finally_called (number - 1))) }
@@ -186,13 +140,16 @@ fn call_finally(code: &mut Vec<Instruction>, number: u32) -> Result<(), AllocErr
 }
 
 /// The end of the body of a `__try`, with the beginning of its `__except` block.
-fn land(code: &mut Vec<Instruction>, end: u64, local: u64) -> Result<(), AllocError>
-    ensures { OnOk result (Appends code.old code.new (spec.landed end local)) }
+fn land(code: &mut Vec<Instruction>, names: Names, end: u64) -> Result<(), AllocError>
+    ensures { OnOk result (Appends code.old code.new (spec.landed names.part end names.free)) }
 {
     let landing = Instruction::Landing {
-        to: Slot::Local(local),
+        to: Slot::Local(names.free),
     };
-    put_all(code, &[Instruction::Jump { label: end }, landing])
+    put_all(
+        code,
+        &[Instruction::Jump { label: end }, landing, reset(names.part)],
+    )
 }
 
 /// The end of a `do`: its condition was evaluated. A `break` leads to the separator.
@@ -366,10 +323,10 @@ fn tried(
         (statements.statements (map statements.statement body.now)) handler)) }
 {
     let size = next_size(sizes);
-    let both = sum(size, sum(handler, 2)?)?;
+    let both = sum(size, sum(handler, 3)?)?;
     let end = ahead(code, both)?;
     statements_by_size(code, &in_try(end, scope), sizes, body)?;
-    land(code, end, scope.names.free)
+    land(code, scope.names, end)
 }
 
 /// A `__try` with a `__finally` block, whatever is in that block.

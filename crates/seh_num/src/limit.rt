@@ -3,6 +3,9 @@
 /// The most locals of a function.
 pub const MOST_LOCALS: u64 = 65_536;
 
+/// The most bytes of the local arrays of a function.
+pub const MOST_ARRAY_BYTES: u64 = 65_536;
+
 /// The most parameters of a function.
 pub const MOST_PARAMETERS: u64 = 8;
 

@@ -2,7 +2,7 @@
 use Rattle.std.proofs.Common.{◌≡◌, ℕ, List, [], ◌∷◌, length, refl, sym, ap, ◌∙◌, Option, Some, None}
 use Rattle.std.specs.Prelude.{Bool, true, false, nat_eq, nat_lt, ◌^◌, reverse}
 use Rattle.std.proofs.lemmas.List.{length-reverse}
-use Rattle.source_machine.specs.Words.{Program, Expression, Statement, Statements, Ended, Deep, Exception, State, Result, Value, Normal, Continued, Target, End, Outcome, Gives, choose, with_value, and_then, emit, Handler, Does, ended_call, all, optional, in_loop, landing, finally_after, noncontinuable, search, W32, low, Place, context_at, OperandFrame, AssignmentFrame, StatementFrame, SequelFrame, BodyFrame, ContinuationFrame, Operand, Assignment, InStatement, Sequel, Body, EndsCall, Lands, Finishes, Plan, chosen, operand_plan, assignment_plan, evaluated, branch, answer_plan, in_statement_plan, sequel_plan, body_plan, Machine, follow, over, after_value, after_normal, after_body, left_call, target_landed, landed, finished, resumed, outside, given, unless_deep, unless_few, below, operand_meaning, assignment_meaning, branch_meaning, in_statement_meaning, sequel_meaning, body_meaning, through, through_all, comes_to}
+use Rattle.source_machine.specs.Words.{Program, DataPart, close_part, close, reset_pointer, Expression, Statement, Statements, Ended, Deep, Exception, State, Result, Value, Normal, Continued, Target, End, Outcome, Gives, choose, with_value, and_then, emit, Handler, Does, ended_call, all, optional, in_loop, landing, finally_after, noncontinuable, search, W32, low, Place, context_at, OperandFrame, AssignmentFrame, StatementFrame, SequelFrame, BodyFrame, ContinuationFrame, Operand, Assignment, InStatement, Sequel, Body, EndsCall, Lands, Finishes, Plan, chosen, operand_plan, assignment_plan, evaluated, branch, answer_plan, in_statement_plan, sequel_plan, body_plan, Machine, follow, over, after_value, after_normal, after_body, left_call, target_landed, landed, finished, resumed, outside, given, unless_deep, unless_few, below, operand_meaning, assignment_meaning, branch_meaning, in_statement_meaning, sequel_meaning, body_meaning, through, through_all, comes_to}
 use Rattle.source_meaning.specs.Tasks as tasks
 use Rattle.seh_num.specs.declared.event.Event.TheVariants as events
 use Rattle.source_machine.specs.Frames as frames
@@ -19,8 +19,10 @@ module _ (program : Program) (d : Does) where
 
   ended_frame : (hs : List Handler) (f : ContinuationFrame) (e : Option Ended) (st : State)
       → through program d hs f (Gives (End e) st) ≡ Gives (End e) st
-  unfolding with_value and_then in_loop ended_call landing finally_after
+  unfolding with_value and_then in_loop ended_call landing finally_after close
   ended_frame hs (Operand f) e st = refl
+  ended_frame hs (EndsCall n s None) e st = refl
+  ended_frame hs (EndsCall n s (Some part)) e st = refl
   ended_frame hs x e st = refl
 
   ended_all : (hs : List Handler) (fs : List ContinuationFrame) (e : Option Ended) (st : State)
@@ -115,6 +117,7 @@ module _ (program : Program) (d : Does) where
       ≡ from m (in_statement_meaning program d m.handlers f v m.state)
   unfolding with_value
   statement_keeps m (frames.Initialises x p) v = refl
+  statement_keeps m (frames.InitialisesStacked x p) v = refl
   statement_keeps m frames.EndsEvaluation v = refl
   statement_keeps m (frames.Branches s t p) v = branch_keeps (nat_eq v 0) m s t p
   statement_keeps m (frames.Iterates k p) v = refl
@@ -166,18 +169,22 @@ module _ (program : Program) (d : Does) where
   loop_keeps m plan go h Continued = h
   loop_keeps m plan go h other = refl
 
-  call_keeps : (m : Machine) (n s : ℕ) (how : Result)
-      → comes (left_call m n s how) ≡ from m (ended_call n s (Gives how m.state))
-  unfolding ended_call
-  call_keeps m n s (Value v) = refl
-  call_keeps m n s other = refl
+  call_keeps : (m : Machine) (n s : ℕ) (part : Option DataPart) (how : Result)
+      → comes (left_call m n s part how)
+      ≡ from m (ended_call n s (close_part part n (Gives how m.state)))
+  unfolding ended_call close
+  call_keeps m n s None (Value v) = refl
+  call_keeps m n s None other = refl
+  call_keeps m n s (Some part) (Value v) = refl
+  call_keeps m n s (Some part) other = refl
 
   target_keeps : (b : Bool) (m : Machine) (held : ℕ) (block : Statements) (p : Place) (to : ℕ)
       (exc : Exception)
       → comes (target_landed m b held block p to exc)
       ≡ from m
       (choose b (λ st. all d block (record (context_at m.handlers p) { exception = exc })
-      (emit (events.Except (record { 0 = exc.code })) (record st { held = held })))
+      (reset_pointer p.data_part p.activation
+      (emit (events.Except (record { 0 = exc.code })) (record st { held = held }))))
       (λ st. Gives (Target to exc) st) m.state)
   unfolding choose
   target_keeps true m held block p to exc = refl
@@ -216,7 +223,7 @@ module _ (program : Program) (d : Does) where
       normal_keeps m (sequel_plan f) (sequel_meaning program d m.handlers f) (sequel_keeps m f) how
   resumed_keeps m (Body f) how =
       loop_keeps m (body_plan f) (body_meaning program d m.handlers f) (body_keeps m f) how
-  resumed_keeps m (EndsCall n s) how = call_keeps m n s how
+  resumed_keeps m (EndsCall n s part) how = call_keeps m n s part how
   resumed_keeps m (Lands held block p) how = land_keeps m held block p how
   resumed_keeps m (Finishes k last p) how = finish_keeps m k last p how
 

@@ -1,6 +1,7 @@
 mod Lemmas
 pub mod HandlersBelow
 pub mod FrameKeeping
+pub mod StackKeeping
 pub mod TaskKeeping
 pub mod StepKeeping
 pub mod StepDistance

@@ -1,12 +1,12 @@
 -- A run with fewer steps is the front of one with more; and where a run comes to.
 use Rattle.std.proofs.Common.{◌≡◌, ℕ, zero, suc, ◌+◌, ◌-◌, ◌≤◌, ◌<◌, refl, sym, ap, ◌∙◌, subst, arith, inl, inr, List, Option, Some, None}
-use Rattle.std.specs.Prelude.{◌⊎◌, Bool, true, false, ◌&&◌, nat_lt, slice_get, ℤ}
+use Rattle.std.specs.Prelude.{◌⊎◌, Bool, true, false, ◌&&◌, nat_lt, slice_get, ℤ, length}
 use Rattle.std.proofs.lemmas.Bool.{cases_Bool, cases_lt, lt-ltb, le-ltb}
-use Rattle.source_machine.specs.Words.{Program, Function, weight, surplus, Task, does, ran, Place, Next, Over, Start, Machine, step, done, started, entered, unless_deep, unless_few, is_deep, comes_to, is_over, distance, first, after, is_raise, raises_inside, PlainBefore, OneRun, ComesToEnd, RaisesShow}
+use Rattle.source_machine.specs.Words.{StackedVariable, at_state, count_steps, opened, cleared_one, cleared, Program, Function, weight, surplus, Task, does, ran, Place, Next, Over, Start, Machine, step, done, started, entered, unless_deep, unless_few, is_deep, comes_to, is_over, distance, first, after, is_raise, raises_inside, PlainBefore, OneRun, ComesToEnd, RaisesShow}
 use Rattle.source_machine.specs.Frames as frames
 use Rattle.source_machine.proofs.StepDistance.{decreases}
 use Rattle.source_machine.proofs.WholeRuns.{all_keep}
-use Rattle.source_machine.proofs.StepsLeft.{with_left, alike}
+use Rattle.source_machine.proofs.StepsLeft.{with_left, alike, opens, clear_one}
 
 -- ---- a machine whose run is over
 
@@ -63,14 +63,37 @@ few_ahead n i j m m' other other' le h = by_test (cases_lt i n)
         (sym (le-ltb i n ge))
         (subst (λ b. Ahead other (unless_few b m' other')) (sym (le-ltb j n there)) h)
 
-enters : (m : Machine) (number : ℕ) (f : Option Function) (vs : List ℕ) (l : ℕ)
+-- what is done in the same way whatever steps are left
+kept_ahead : (go : Machine → Machine)
+    → ((l : ℕ) (m : Machine) → go (with_left l m) ≡ with_left l (go m))
+    → (m : Machine) (l : ℕ) → m.state.steps_left ≤ l → Ahead (go m) (go (with_left l m))
+kept_ahead go same m l le =
+    inl (record {
+      left = l;
+      is = same l m;
+      more = subst (λ (n : ℕ). n ≤ l)
+          (sym (ap (λ (x : Machine). x.state.steps_left) (same m.state.steps_left m))) le;
+    })
+
+enters : (program : Program) (m : Machine) (number : ℕ) (f : Option Function) (vs : List ℕ) (l : ℕ)
     → m.state.steps_left ≤ l
-    → Ahead (entered m number f vs) (entered (with_left l m) number f vs)
-enters m number None vs l le = inl (record { left = l; is = refl; more = le })
-enters m number (Some f) vs l le =
+    → Ahead (entered program m number f vs) (entered program (with_left l m) number f vs)
+enters program m number None vs l le = inl (record { left = l; is = refl; more = le })
+enters program m number (Some f) vs l le =
     deep_ahead (is_deep m.state (weight f)) m (with_left l m) _ _
     (few_ahead (surplus f) m.state.steps_left l m (with_left l m) _ _ le
-    (inl (record { left = l - surplus f; is = refl; more = omega arith })))
+    (kept_ahead (opened program f.data_frame (length m.state.frames) _)
+    (λ l m'. opens l program f.data_frame (length m.state.frames) _ m') _ (l - surplus f)
+    (omega (arith, le))))
+
+clears : (program : Program) (v : StackedVariable) (n : ℕ) (p : Place) (m : Machine) (l : ℕ)
+    → m.state.steps_left ≤ l
+    → Ahead (cleared program v n p m) (cleared program v n p (with_left l m))
+clears program v zero p m l le = inl (record { left = l; is = refl; more = le })
+clears program v (suc n) p m l le =
+    few_ahead 1 m.state.steps_left l m (with_left l m) _ _ le
+    (kept_ahead (cleared_one program v n p) (λ l m'. clear_one l program v n p m')
+    (at_state m (count_steps 1 m.state)) (l - 1) (omega (arith, le)))
 
 same_left : (program : Program) (m : Machine) (next : Next) (l : ℕ) → m.state.steps_left ≤ l
     → done program (with_left l m) next ≡ with_left l (done program m next)
@@ -88,7 +111,8 @@ done_ahead : (program : Program) (m : Machine) (next : Next) (l : ℕ) → m.sta
     → Ahead (done program m next) (done program (with_left l m) next)
 done_ahead program m (Start task p) l le = starts m task p m.state.steps_left l l le
 done_ahead program m (frames.Call (frames.Defined f) vs p) l le =
-    enters m f (slice_get program.functions f) vs l le
+    enters program m f (slice_get program.functions f) vs l le
+done_ahead program m (frames.ClearElements v n p) l le = clears program v n p m l le
 done_ahead program m next l le = same_left program m next l le (alike l program m next)
     (alike m.state.steps_left program m next)
 

@@ -1,8 +1,9 @@
 -- Each step brings the machine nearer to its end.
 use Rattle.std.proofs.Common.{◌≡◌, ℕ, zero, suc, ◌+◌, ◌*◌, ◌<◌, List, [], ◌∷◌, length, refl, arith}
-use Rattle.std.proofs.Common.{lit<, Option, Some, None}
-use Rattle.std.specs.Prelude.{Bool, true, false, nat_eq, nat_lt, slice_get, ◌^◌}
-use Rattle.source_machine.specs.Words.{W32, low, BuiltIn, Put, Protect, RaiseException, Walk, Operation, performed, Program, Function, weight, surplus, Expression, On, Node, Lvalue, Local, Arguments, Done, Filter, Always, Funclet, Statement, Statements, Empty, Declared, is_reserved, Exception, Result, Value, Normal, Continued, LeftTry, Target, End, Handler, Task, Place, Callee, OperandFrame, AssignmentFrame, StatementFrame, SequelFrame, BodyFrame, ContinuationFrame, Operand, Assignment, InStatement, Sequel, Body, EndsCall, Lands, Finishes, Next, Over, Give, Start, Begin, Plan, Then, Push, chosen, node_plan, expression_plan, find_plan, pass_plan, operand_plan, assignment_plan, evaluated, branch, answer_plan, in_statement_plan, sequel_plan, body_plan, proceed_plan, declare_plan, statement_plan, Machine, follow, unless_deep, unless_few, started, begun, fetched, put, operated, entered, built_in, called, declared, asked_by, asked, searched, target_landed, landed, finished, left_call, after_value, after_normal, after_body, resumed, given, outside, done, is_deep, with_local, is_over, operand_worth, assignment_worth, statement_worth, worth, all_worth, next_worth, distance, Decreases}
+use Rattle.std.proofs.Common.{lit<, Option, Some, None, ◌≤◌, subst, sym, inl, inr}
+use Rattle.std.specs.Prelude.{Bool, true, false, ◌⊎◌, nat_eq, nat_lt, slice_get, ◌^◌}
+use Rattle.std.proofs.lemmas.Bool.{cases_Bool, ltb-false}
+use Rattle.source_machine.specs.Words.{Memory, State, DataFrame, DataPart, StackedParameter, StackedVariable, W32, low, BuiltIn, Put, Protect, RaiseException, Walk, Operation, Program, Function, weight, surplus, performed, Expression, On, Node, Lvalue, Local, Arguments, Done, Filter, Always, Funclet, Statement, Statements, Empty, Declared, is_reserved, Exception, Result, Value, Normal, Continued, LeftTry, Target, End, Handler, Task, Place, Callee, OperandFrame, AssignmentFrame, StatementFrame, SequelFrame, BodyFrame, ContinuationFrame, Operand, Assignment, InStatement, Sequel, Body, EndsCall, Lands, Finishes, Next, Over, Give, Start, Begin, Plan, Then, Push, chosen, node_plan, expression_plan, find_plan, pass_plan, operand_plan, assignment_plan, evaluated, branch, answer_plan, in_statement_plan, sequel_plan, body_plan, proceed_plan, declare_plan, statement_plan, Machine, follow, unless_deep, unless_few, started, begun, fetched, put, operated, entered, built_in, called, asked_by, asked, searched, ends, at_state, set_memory, allocate, local_of, placing, clearing, with_next, count_steps, stored, brought, opened, put_stacked, cleared_one, cleared, declared_stacked, declared_at, target_landed, landed, finished, left_call, after_value, after_normal, after_body, resumed, given, outside, done, is_deep, with_local, is_over, operand_worth, assignment_worth, statement_worth, worth, all_worth, next_worth, distance, Decreases}
 use Rattle.c_operations.specs.Performed as performing
 use Rattle.c_checked.specs.Expression as nodes
 use Rattle.c_checked.specs.Expression.{Next as Another}
@@ -53,7 +54,7 @@ unfolding plan_worth
 node_worth (nodes.Constant z n) p = lit< tt
 node_worth x p = lit< tt
 
-find_worth : (l : Lvalue) (p : Place) → plan_worth (find_plan l p) < 21
+find_worth : (l : Lvalue) (p : Place) → plan_worth (find_plan l p) < 22
 unfolding plan_worth
 find_worth (Local x) p = lit< tt
 find_worth y p = lit< tt
@@ -131,6 +132,7 @@ in_statement_worth : (f : StatementFrame) (v : ℕ)
     → plan_worth (in_statement_plan f v) < statement_worth f + 20
 unfolding plan_worth
 in_statement_worth (frames.Initialises x p) v = lit< tt
+in_statement_worth (frames.InitialisesStacked x p) v = lit< tt
 in_statement_worth frames.EndsEvaluation v = lit< tt
 in_statement_worth (frames.Branches s t p) v = branch_worth (nat_eq v 0) s t p
 in_statement_worth (frames.Iterates k p) v = lit< tt
@@ -175,10 +177,10 @@ body_decreases m plan h Normal = followed m plan 23 h
 body_decreases m plan h Continued = followed m plan 23 h
 body_decreases m plan h how = omega arith
 
-call_decreases : (m : Machine) (n s : ℕ) (how : Result)
-    → distance (left_call m n s how) < at_worth m 21
-call_decreases m n s (End e) = omega arith
-call_decreases m n s x = omega arith
+call_decreases : (m : Machine) (n s : ℕ) (part : Option DataPart) (how : Result)
+    → distance (left_call m n s part how) < at_worth m 21
+call_decreases m n s part (End e) = omega arith
+call_decreases m n s part x = omega arith
 
 target_decreases : (c : Bool) (m : Machine) (held : ℕ) (block : Statements) (p : Place) (to : ℕ)
     (exc : Exception) → distance (target_landed m c held block p to exc) < at_worth m 22
@@ -223,7 +225,7 @@ resumed_decreases m (InStatement f) how =
     statement_more f = lit< tt
 resumed_decreases m (Sequel f) how = normal_decreases m (sequel_plan f) (sequel_plan_worth f) how
 resumed_decreases m (Body f) how = body_decreases m (body_plan f) (body_plan_worth f) how
-resumed_decreases m (EndsCall n s) how = call_decreases m n s how
+resumed_decreases m (EndsCall n s part) how = call_decreases m n s part how
 resumed_decreases m (Lands held block p) how = land_decreases m held block p how
 resumed_decreases m (Finishes k last p) how = finish_decreases m k last p how
 
@@ -278,12 +280,82 @@ operated_decreases m o a b p (performing.Gives v memory) = omega arith
 operated_decreases m o a b p (performing.Raises code access) = omega arith
 operated_decreases m o a b p (performing.Undefined a') = omega arith
 
-entered_decreases : (m : Machine) (number : ℕ) (f : Option Function) (vs : List ℕ)
-    → distance (entered m number f vs) < at_worth m 23
-entered_decreases m number None vs = omega arith
-entered_decreases m number (Some f) vs =
+-- ---- the data stack
+
+stored_decreases : (m : Machine) (x : performing.OperationResult) (go : Machine → Machine) (b : ℕ)
+    → 0 < b
+    → ((memory : Memory) → distance (go (at_state m (set_memory m.state memory))) < at_worth m b)
+    → distance (stored m x go) < at_worth m b
+stored_decreases m (performing.Gives v memory) go b lt h = h memory
+stored_decreases m (performing.Raises code access) go b lt h = omega arith
+stored_decreases m (performing.Undefined a) go b lt h = omega arith
+
+brought_decreases : (program : Program) (base : ℕ) (ps : List StackedParameter) (k : ℕ)
+    (plan : Plan) (m : Machine) (b : ℕ) → plan_worth plan < b
+    → distance (brought program base ps k plan m) < at_worth m b
+brought_decreases program base [] k plan m b lt = followed m plan b lt
+brought_decreases program base (p ∷ ps) k plan m b lt =
+    stored_decreases m
+    (placing program base p.width p.offset k (local_of m.state k p.parameter) m.state)
+    (brought program base ps k plan) b (omega (arith, lt))
+    (λ memory. brought_decreases program base ps k plan (at_state m (set_memory m.state memory)) b
+    lt)
+
+opened_decreases : (program : Program) (d : Option DataFrame) (k : ℕ) (plan : Plan) (m : Machine)
+    (b : ℕ) → plan_worth plan < b → distance (opened program d k plan m) < at_worth m b
+opened_decreases program None k plan m b lt = followed m plan b lt
+opened_decreases program (Some d) k plan m b lt =
+    brought_decreases program d.base d.parameters k plan
+    (at_state m (allocate d.base d.size k m.state)) b lt
+
+opened_after : (program : Program) (d : Option DataFrame) (k : ℕ) (plan : Plan) (m : Machine)
+    (st : State) (b : ℕ) → plan_worth plan < b → st.steps_left ≤ m.state.steps_left
+    → distance (opened program d k plan (at_state m st)) < at_worth m b
+opened_after program d k plan m st b lt le =
+    let less : distance (opened program d k plan (at_state m st)) < at_worth (at_state m st) b =
+    opened_decreases program d k plan (at_state m st) b lt in
+    omega (arith, less, le)
+
+put_stacked_decreases : (program : Program) (v : StackedVariable) (x : ℕ) (p : Place) (plan : Plan)
+    (m : Machine) (b : ℕ) → plan_worth plan < b
+    → distance (put_stacked program v x p plan m) < at_worth m b
+put_stacked_decreases program v x p plan m b lt =
+    stored_decreases m (placing program v.base v.width v.offset p.activation x m.state)
+    (λ m. follow m plan) b (omega (arith, lt))
+    (λ memory. followed (at_state m (set_memory m.state memory)) plan b lt)
+
+cleared_decreases : (program : Program) (v : StackedVariable) (n : ℕ) (p : Place) (m : Machine)
+    → distance (cleared program v n p m) < at_worth m 21
+unfolding plan_worth
+cleared_decreases program v zero p m = followed m ends 21 (lit< tt)
+cleared_decreases program v (suc n) p m = by_test (cases_Bool (nat_lt m.state.steps_left 1))
+  where
+    fewer : Machine
+    fewer = at_state m (count_steps 1 m.state)
+
+    by_test : (nat_lt m.state.steps_left 1 ≡ true) ⊎ (nat_lt m.state.steps_left 1 ≡ false)
+        → distance (cleared program v (suc n) p m) < at_worth m 21
+    by_test (inl e) =
+        subst (λ c. distance (unless_few c m (cleared_one program v n p fewer)) < at_worth m 21)
+        (sym e) (omega arith)
+    by_test (inr e) =
+        let enough : 1 ≤ m.state.steps_left = ltb-false m.state.steps_left 1 e in
+        let one : distance (cleared_one program v n p fewer) < at_worth fewer 22 =
+        stored_decreases fewer (clearing program v p.activation (suc n) fewer.state)
+        (λ m. with_next m (frames.ClearElements v n p)) 22 (lit< tt) (λ memory. omega arith) in
+        subst (λ c. distance (unless_few c m (cleared_one program v n p fewer)) < at_worth m 21)
+        (sym e) (omega arith)
+
+-- ---- calls
+
+entered_decreases : (program : Program) (m : Machine) (number : ℕ) (f : Option Function)
+    (vs : List ℕ) → distance (entered program m number f vs) < at_worth m 23
+unfolding plan_worth
+entered_decreases program m number None vs = omega arith
+entered_decreases program m number (Some f) vs =
     deeper (is_deep m.state (weight f)) m _ 23 (lit< tt)
-    (fewer (nat_lt m.state.steps_left (surplus f)) m _ 23 (lit< tt) (omega arith))
+    (fewer (nat_lt m.state.steps_left (surplus f)) m _ 23 (lit< tt)
+    (opened_after program f.data_frame (length m.state.frames) _ m _ 23 (lit< tt) (omega arith)))
 
 built_in_decreases : (m : Machine) (k : BuiltIn) (vs : List ℕ) (p : Place)
     → distance (built_in m k vs p) < at_worth m 23
@@ -296,15 +368,27 @@ built_in_decreases m Walk vs p = omega arith
 called_decreases : (program : Program) (m : Machine) (callee : Callee) (vs : List ℕ) (p : Place)
     → distance (called program m callee vs p) < at_worth m 23
 called_decreases program m (frames.Defined f) vs p =
-    entered_decreases m f (slice_get program.functions f) vs
+    entered_decreases program m f (slice_get program.functions f) vs
 called_decreases program m (frames.BuiltInOf k) vs p = built_in_decreases m k vs p
 
-declared_decreases : (m : Machine) (e : Declared) (p : Place)
-    → distance (declared m e p) < at_worth m 22
+declared_stacked_decreases : (program : Program) (m : Machine) (v : StackedVariable)
+    (n : Option ℕ) (e : Option Expression) (p : Place)
+    → distance (declared_stacked program m v n e p) < at_worth m 22
 unfolding plan_worth
-declared_decreases m e p =
-    followed (with_local m p e.local 0) _ 22 (evaluated_worth (frames.Initialises e.local p) e.value
-    p _ 22 (lit< tt) (lit< tt))
+declared_stacked_decreases program m v (Some n) e p = omega arith
+declared_stacked_decreases program m v None e p =
+    put_stacked_decreases program v 0 p _ m 22
+    (evaluated_worth (frames.InitialisesStacked v p) e p ends 22 (lit< tt) (lit< tt))
+
+declared_at_decreases : (program : Program) (m : Machine) (v : Option StackedVariable) (x : ℕ)
+    (e : Option Expression) (p : Place)
+    → distance (declared_at program m v x e p) < at_worth m 22
+unfolding plan_worth
+declared_at_decreases program m None x e p =
+    followed (with_local m p x 0) _ 22 (evaluated_worth (frames.Initialises x p) e p _ 22 (lit< tt)
+    (lit< tt))
+declared_at_decreases program m (Some v) x e p =
+    declared_stacked_decreases program m v v.elements e p
 
 asked_by_decreases : (m : Machine) (f : Filter) (h : Handler) (level : ℕ) (exc : Exception)
     (p : Place) → distance (asked_by m f h level exc p) < at_worth m 21
@@ -324,12 +408,13 @@ searched_decreases m (suc level) exc p = asked_decreases m (slice_get m.handlers
 
 done_decreases : (program : Program) (m : Machine) (next : Next) → is_over next ≡ false
     → distance (done program m next) < at_worth m (next_worth next)
+unfolding plan_worth
 done_decreases program m (Over how) e = cc
 done_decreases program m (Give how) e = given_decreases m how m.stack
 done_decreases program m (Start task p) e = started_decreases m task p m.state.steps_left refl
 done_decreases program m (Begin task p) e = begun_decreases m task p
 done_decreases program m (frames.Evaluate n p) e = followed m _ 30 (node_worth n p)
-done_decreases program m (frames.Find l p) e = followed m _ 21 (find_worth l p)
+done_decreases program m (frames.Find l p) e = followed m _ 22 (find_worth l p)
 done_decreases program m (frames.Fetch l a p) e = fetched_decreases m l a p
 done_decreases program m (frames.Put l a v p) e = put_decreases m l a v p
 done_decreases program m (frames.Operate o a b p) e =
@@ -339,8 +424,12 @@ done_decreases program m (frames.Pass callee vs es p) e =
 done_decreases program m (frames.Call callee vs p) e = called_decreases program m callee vs p
 done_decreases program m (frames.Proceed ss p) e = followed m _ 21 (proceed_worth ss p)
 done_decreases program m (frames.DeclareEach ds p) e = followed m _ 21 (declare_worth ds p)
-done_decreases program m (frames.DeclareName d p) e = declared_decreases m d p
+done_decreases program m (frames.DeclareName d p) e =
+    declared_at_decreases program m d.stacked d.local d.value p
 done_decreases program m (frames.SetLocal x v p) e = omega arith
+done_decreases program m (frames.PutStacked v x p) e =
+    put_stacked_decreases program v x p ends m 21 (lit< tt)
+done_decreases program m (frames.ClearElements v n p) e = cleared_decreases program v n p m
 done_decreases program m (frames.Search level exc p) e = searched_decreases m level exc p
 done_decreases program m y e = omega arith
 

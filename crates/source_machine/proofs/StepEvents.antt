@@ -2,7 +2,7 @@
 use Rattle.std.proofs.Common.{ℕ, zero, suc, List, [], ◌∷◌, ◌++◌, length, refl, Option, Some, None}
 use Rattle.std.specs.Prelude.{Bool, true, false, nat_eq, nat_lt, slice_get}
 use Rattle.seh_num.specs.declared.event.Event.{Event}
-use Rattle.source_machine.specs.Words.{BuiltIn, Put, Protect, RaiseException, Walk, Operation, performed, Program, Function, weight, surplus, Lvalue, Local, Filter, Always, Funclet, Statements, is_reserved, Exception, Result, Value, Normal, Continued, LeftTry, Target, End, Handler, Task, IsPrefixOf, Place, Callee, ContinuationFrame, Operand, Assignment, InStatement, Sequel, Body, EndsCall, Lands, Finishes, Next, Over, Give, Start, Begin, Plan, Then, Push, operand_plan, assignment_plan, in_statement_plan, sequel_plan, body_plan, Machine, follow, unless_deep, unless_few, started, begun, fetched, put, operated, entered, built_in, called, asked_by, asked, searched, target_landed, landed, finished, left_call, after_value, after_normal, after_body, resumed, given, outside, done, is_deep, with_local, Extends}
+use Rattle.source_machine.specs.Words.{Memory, DataFrame, DataPart, StackedParameter, StackedVariable, Expression, ends, at_state, set_memory, allocate, local_of, placing, clearing, with_next, count_steps, stored, brought, opened, put_stacked, cleared_one, cleared, declared_stacked, declared_at, BuiltIn, Put, Protect, RaiseException, Walk, Operation, performed, Program, Function, weight, surplus, Lvalue, Local, Filter, Always, Funclet, Statements, is_reserved, Exception, Result, Value, Normal, Continued, LeftTry, Target, End, Handler, Task, IsPrefixOf, Place, Callee, ContinuationFrame, Operand, Assignment, InStatement, Sequel, Body, EndsCall, Lands, Finishes, Next, Over, Give, Start, Begin, Plan, Then, Push, operand_plan, assignment_plan, in_statement_plan, sequel_plan, body_plan, Machine, follow, unless_deep, unless_few, started, begun, fetched, put, operated, entered, built_in, called, asked_by, asked, searched, target_landed, landed, finished, left_call, after_value, after_normal, after_body, resumed, given, outside, done, is_deep, with_local, Extends}
 use Rattle.c_operations.specs.Performed as performing
 use Rattle.source_meaning.specs.Tasks as tasks
 use Rattle.source_machine.specs.Frames as frames
@@ -45,10 +45,10 @@ body_shows m plan Normal = follows m.state.events m plan (prefix_self m.state.ev
 body_shows m plan Continued = follows m.state.events m plan (prefix_self m.state.events)
 body_shows m plan how = prefix_self m.state.events
 
-call_shows : (m : Machine) (n s : ℕ) (how : Result)
-    → Shows m.state.events (left_call m n s how)
-call_shows m n s (End e) = prefix_self m.state.events
-call_shows m n s x = prefix_self m.state.events
+call_shows : (m : Machine) (n s : ℕ) (part : Option DataPart) (how : Result)
+    → Shows m.state.events (left_call m n s part how)
+call_shows m n s part (End e) = prefix_self m.state.events
+call_shows m n s part x = prefix_self m.state.events
 
 target_shows : (b : Bool) (m : Machine) (held : ℕ) (block : Statements) (p : Place) (to : ℕ)
     (exc : Exception) → Shows m.state.events (target_landed m b held block p to exc)
@@ -74,7 +74,7 @@ resumed_shows m (Assignment f) how = value_shows m (assignment_plan f) how
 resumed_shows m (InStatement f) how = value_shows m (in_statement_plan f) how
 resumed_shows m (Sequel f) how = normal_shows m (sequel_plan f) how
 resumed_shows m (Body f) how = body_shows m (body_plan f) how
-resumed_shows m (EndsCall n s) how = call_shows m n s how
+resumed_shows m (EndsCall n s part) how = call_shows m n s part how
 resumed_shows m (Lands held block p) how = land_shows m held block p how
 resumed_shows m (Finishes k last p) how = finish_shows m k last p how
 
@@ -120,12 +120,72 @@ operated_shows m o a b p (performing.Gives v memory) = prefix_self m.state.event
 operated_shows m o a b p (performing.Raises code access) = prefix_self m.state.events
 operated_shows m o a b p (performing.Undefined a') = prefix_self m.state.events
 
-entered_shows : (m : Machine) (number : ℕ) (f : Option Function) (vs : List ℕ)
-    → Shows m.state.events (entered m number f vs)
-entered_shows m number None vs = prefix_self m.state.events
-entered_shows m number (Some f) vs =
+-- ---- the data stack
+
+stored_shows : (m : Machine) (x : performing.OperationResult) (go : Machine → Machine)
+    → ((memory : Memory) → Shows m.state.events (go (at_state m (set_memory m.state memory))))
+    → Shows m.state.events (stored m x go)
+stored_shows m (performing.Gives v memory) go h = h memory
+stored_shows m (performing.Raises code access) go h = prefix_self m.state.events
+stored_shows m (performing.Undefined a) go h = prefix_self m.state.events
+
+brought_shows : (program : Program) (base : ℕ) (ps : List StackedParameter) (k : ℕ) (plan : Plan)
+    (m : Machine) → Shows m.state.events (brought program base ps k plan m)
+brought_shows program base [] k plan m =
+    follows m.state.events m plan (prefix_self m.state.events)
+brought_shows program base (p ∷ ps) k plan m =
+    stored_shows m
+    (placing program base p.width p.offset k (local_of m.state k p.parameter) m.state)
+    (brought program base ps k plan)
+    (λ memory. brought_shows program base ps k plan (at_state m (set_memory m.state memory)))
+
+opened_shows : (program : Program) (d : Option DataFrame) (k : ℕ) (plan : Plan) (m : Machine)
+    → Shows m.state.events (opened program d k plan m)
+opened_shows program None k plan m = follows m.state.events m plan (prefix_self m.state.events)
+opened_shows program (Some d) k plan m =
+    brought_shows program d.base d.parameters k plan
+    (at_state m (allocate d.base d.size k m.state))
+
+put_stacked_shows : (program : Program) (v : StackedVariable) (x : ℕ) (p : Place) (plan : Plan)
+    (m : Machine) → Shows m.state.events (put_stacked program v x p plan m)
+put_stacked_shows program v x p plan m =
+    stored_shows m (placing program v.base v.width v.offset p.activation x m.state)
+    (λ m. follow m plan)
+    (λ memory. follows m.state.events (at_state m (set_memory m.state memory)) plan
+    (prefix_self m.state.events))
+
+cleared_shows : (program : Program) (v : StackedVariable) (n : ℕ) (p : Place) (m : Machine)
+    → Shows m.state.events (cleared program v n p m)
+cleared_shows program v zero p m = prefix_self m.state.events
+cleared_shows program v (suc n) p m =
+    few_shows (nat_lt m.state.steps_left 1) m
+    (cleared_one program v n p (at_state m (count_steps 1 m.state)))
+    (stored_shows (at_state m (count_steps 1 m.state))
+    (clearing program v p.activation (suc n) (count_steps 1 m.state))
+    (λ m. with_next m (frames.ClearElements v n p)) (λ memory. prefix_self m.state.events))
+
+declared_stacked_shows : (program : Program) (m : Machine) (v : StackedVariable) (n : Option ℕ)
+    (e : Option Expression) (p : Place)
+    → Shows m.state.events (declared_stacked program m v n e p)
+declared_stacked_shows program m v (Some n) e p = prefix_self m.state.events
+declared_stacked_shows program m v None e p = put_stacked_shows program v 0 p _ m
+
+declared_shows : (program : Program) (m : Machine) (v : Option StackedVariable) (x : ℕ)
+    (e : Option Expression) (p : Place)
+    → Shows m.state.events (declared_at program m v x e p)
+declared_shows program m None x e p =
+    follows m.state.events (with_local m p x 0) _ (prefix_self m.state.events)
+declared_shows program m (Some v) x e p = declared_stacked_shows program m v v.elements e p
+
+-- ---- calls
+
+entered_shows : (program : Program) (m : Machine) (number : ℕ) (f : Option Function) (vs : List ℕ)
+    → Shows m.state.events (entered program m number f vs)
+entered_shows program m number None vs = prefix_self m.state.events
+entered_shows program m number (Some f) vs =
     unless_shows (is_deep m.state (weight f)) m _
-    (few_shows (nat_lt m.state.steps_left (surplus f)) m _ (prefix_self m.state.events))
+    (few_shows (nat_lt m.state.steps_left (surplus f)) m _
+    (opened_shows program f.data_frame (length m.state.frames) _ _))
 
 built_in_shows : (m : Machine) (k : BuiltIn) (vs : List ℕ) (p : Place)
     → Shows m.state.events (built_in m k vs p)
@@ -136,8 +196,8 @@ built_in_shows m Walk vs p = (_, refl)
 
 called_shows : (program : Program) (m : Machine) (callee : Callee) (vs : List ℕ) (p : Place)
     → Shows m.state.events (called program m callee vs p)
-called_shows program m (frames.Defined f) vs p = entered_shows m f (slice_get program.functions f)
-    vs
+called_shows program m (frames.Defined f) vs p =
+    entered_shows program m f (slice_get program.functions f) vs
 called_shows program m (frames.BuiltInOf k) vs p = built_in_shows m k vs p
 
 asked_by_shows : (m : Machine) (f : Filter) (h : Handler) (level : ℕ) (exc : Exception) (p : Place)
@@ -163,6 +223,7 @@ done_shows program m (Start task p) = started_shows m task p m.state.steps_left
 done_shows program m (Begin task p) = begun_shows m task p
 done_shows program m (frames.Evaluate n p) = follows m.state.events m _ (prefix_self m.state.events)
 done_shows program m (frames.Find l p) = follows m.state.events m _ (prefix_self m.state.events)
+done_shows program m (frames.FindStacked base offset p) = prefix_self m.state.events
 done_shows program m (frames.Fetch l a p) = fetched_shows m l a p
 done_shows program m (frames.Put l a v p) = put_shows m l a v p
 done_shows program m (frames.Operate o a b p) =
@@ -174,8 +235,10 @@ done_shows program m (frames.Proceed ss p) = follows m.state.events m _ (prefix_
 done_shows program m (frames.DeclareEach ds p) = follows m.state.events m _
     (prefix_self m.state.events)
 done_shows program m (frames.DeclareName d p) =
-    follows m.state.events (with_local m p d.local 0) _ (prefix_self m.state.events)
+    declared_shows program m d.stacked d.local d.value p
 done_shows program m (frames.SetLocal x v p) = prefix_self m.state.events
+done_shows program m (frames.PutStacked v x p) = put_stacked_shows program v x p ends m
+done_shows program m (frames.ClearElements v n p) = cleared_shows program v n p m
 done_shows program m (frames.Guard body filter block p) = prefix_self m.state.events
 done_shows program m (frames.Answer v) = one m.state.events _
 done_shows program m frames.LetGo = prefix_self m.state.events

@@ -4,7 +4,7 @@ use Rattle.std.proofs.Common.{sym, ap, ◌∙◌, arith, Option, Some, None}
 use Rattle.std.specs.Prelude.{nat_lt, slice_get}
 use Rattle.std.proofs.lemmas.List.{append_assoc, append-nil, reverse-append, length-append}
 use Rattle.std.proofs.Math.Seq.{take-append_seam}
-use Rattle.source_machine.specs.Words.{BuiltIn, Put, Protect, RaiseException, Walk, Operation, performed, Program, Function, weight, surplus, Node, Lvalue, Local, Arguments, Done, Filter, Statements, Empty, Declared, Undefined, is_reserved, End, Gives, deeper, counting, with_value, and_then, Handler, Task, Does, counted, tried, locate, read, write, each, all, ended_call, enter, call_built_in, node, declare, declare_each, statement, perform, does, Place, context_at, Callee, Next, Over, Give, Start, Begin, node_plan, find_plan, pass_plan, proceed_plan, declare_plan, Machine, follow, started, fetched, put, operated, entered, built_in, called, declared, with_local, handler_at, guarded, without_last, done, is_deep, call, through, through_all, reaches, KeepsMeaning}
+use Rattle.source_machine.specs.Words.{StackedVariable, Expression, Normal, ends, evaluated, put_variable, close_part, part_of, declare_stacked, declare_at, declared_stacked, declared_at, BuiltIn, Put, Protect, RaiseException, Walk, Operation, performed, Program, Function, weight, surplus, Node, Lvalue, Local, Arguments, Done, Filter, Statements, Empty, Declared, Undefined, is_reserved, End, Gives, deeper, counting, with_value, and_then, Handler, Task, Does, counted, tried, locate, read, write, each, all, ended_call, enter, call_built_in, node, declare_each, statement, perform, does, Place, context_at, Callee, Next, Over, Give, Start, Begin, node_plan, find_plan, pass_plan, proceed_plan, declare_plan, Machine, follow, started, fetched, put, operated, entered, built_in, called, with_local, handler_at, guarded, without_last, done, is_deep, call, through, through_all, reaches, KeepsMeaning}
 use Rattle.c_operations.specs.Performed as performing
 use Rattle.c_checked.specs.Expression as nodes
 use Rattle.c_checked.specs.Expression.{Next as Another}
@@ -15,6 +15,7 @@ use Rattle.source_meaning.proofs.RemainingSteps.{does_is}
 use Rattle.source_machine.specs.Frames as frames
 use Rattle.source_machine.proofs.FrameKeeping.{comes, from, over_keeps, deep_keeps, few_keeps, evaluated_keeps}
 use Rattle.source_machine.proofs.FrameKeeping.{given_keeps}
+use Rattle.source_machine.proofs.StackKeeping.{end_of_call, opened_keeps, put_stacked_keeps, cleared_keeps}
 use Rattle.source_machine.proofs.TaskKeeping.{begun_keeps, searched_keeps}
 
 module _ (program : Program) (d : Does) where
@@ -69,13 +70,17 @@ module _ (program : Program) (d : Does) where
       (λ ws st. call program d callee (append_assoc vs (v ∷ []) ws i) m.handlers p st)))
 
   entered_keeps : (m : Machine) (number : ℕ) (f : Option Function) (vs : List ℕ) (p : Place)
-      → comes program d (entered m number f vs) ≡ from program d m
-      (enter d number f vs (context_at m.handlers p) m.state)
-  unfolding deeper counting ended_call
+      → comes program d (entered program m number f vs) ≡ from program d m
+      (enter program d number f vs (context_at m.handlers p) m.state)
+  unfolding deeper counting
   entered_keeps m number None vs p = refl
   entered_keeps m number (Some f) vs p =
       deep_keeps program d (is_deep m.state (weight f)) m _ _
-      (few_keeps program d (nat_lt m.state.steps_left (surplus f)) m _ _ refl)
+      (few_keeps program d (nat_lt m.state.steps_left (surplus f)) m _ _
+      (opened_keeps program d m f.data_frame (length m.state.frames) _
+      (λ o. ended_call (length m.state.frames) (surplus f)
+      (close_part (part_of f.data_frame) (length m.state.frames) o)) _
+      (end_of_call (length m.state.frames) (surplus f) (part_of f.data_frame)) (λ st. refl) _))
 
   built_in_keeps : (m : Machine) (k : BuiltIn) (vs : List ℕ) (p : Place)
       → comes program d (built_in m k vs p) ≡ from program d m
@@ -106,12 +111,26 @@ module _ (program : Program) (d : Does) where
   declare_keeps m [] p = refl
   declare_keeps m (e ∷ es) p = refl
 
-  declared_keeps : (m : Machine) (e : Declared) (p : Place)
-      → comes program d (declared m e p) ≡ from program d m
-      (declare d e (context_at m.handlers p) m.state)
-  declared_keeps m e p =
-      evaluated_keeps program d (with_local m p e.local 0) (frames.Initialises e.local p) e.value p
-      _ 0 refl
+  stacked_keeps : (m : Machine) (v : StackedVariable) (n : Option ℕ) (e : Option Expression)
+      (p : Place)
+      → comes program d (declared_stacked program m v n e p)
+      ≡ from program d m (declare_stacked program d v n e (context_at m.handlers p) m.state)
+  stacked_keeps m v (Some n) e p = refl
+  stacked_keeps m v None None p =
+      put_stacked_keeps program d m v 0 p ends (λ st. Gives Normal st) (λ st. refl)
+  stacked_keeps m v None (Some e) p =
+      put_stacked_keeps program d m v 0 p
+      (evaluated (frames.InitialisesStacked v p) (Some e) p ends)
+      (λ st. with_value (d (tasks.Eval e) (context_at m.handlers p) st)
+      (λ x st. put_variable program v p.activation x st (λ st. Gives Normal st))) (λ st. refl)
+
+  declared_keeps : (m : Machine) (v : Option StackedVariable) (x : ℕ) (e : Option Expression)
+      (p : Place)
+      → comes program d (declared_at program m v x e p)
+      ≡ from program d m (declare_at program d v x e (context_at m.handlers p) m.state)
+  declared_keeps m None x e p =
+      evaluated_keeps program d (with_local m p x 0) (frames.Initialises x p) e p _ 0 refl
+  declared_keeps m (Some v) x e p = stacked_keeps m v v.elements e p
 
   -- ---- a `__try` with an `__except`
 
@@ -124,7 +143,7 @@ module _ (program : Program) (d : Does) where
   guarded_keeps : (m : Machine) (body : Statements) (filter : Filter) (block : Statements)
       (p : Place)
       → comes program d (guarded m body filter block p)
-      ≡ from program d m (statement d (statements.TryExcept body filter block)
+      ≡ from program d m (statement program d (statements.TryExcept body filter block)
       (context_at m.handlers p) m.state)
   guarded_keeps m body filter block p =
       let h = handler_at filter p in
@@ -137,6 +156,7 @@ module _ (program : Program) (d : Does) where
       (record {
         handlers = hs;
         activation = p.activation;
+        data_part = p.data_part;
         exception = p.exception;
         abnormal =
             p.abnormal;
@@ -175,6 +195,7 @@ module _ (program : Program) (d : Does) where
   done_keeps is m (Begin task p) = begun_keeps program d m task p
   done_keeps is m (frames.Evaluate n p) = node_keeps m n p
   done_keeps is m (frames.Find l p) = find_keeps m l p
+  done_keeps is m (frames.FindStacked base offset p) = refl
   done_keeps is m (frames.Fetch l a p) = fetch_keeps m l a p
   done_keeps is m (frames.Put l a v p) = put_keeps m l a v p
   done_keeps is m (frames.Operate o a b p) =
@@ -183,8 +204,11 @@ module _ (program : Program) (d : Does) where
   done_keeps is m (frames.Call callee vs p) = called_keeps m callee vs p
   done_keeps is m (frames.Proceed ss p) = proceed_keeps m ss p
   done_keeps is m (frames.DeclareEach ds p) = declare_keeps m ds p
-  done_keeps is m (frames.DeclareName e p) = declared_keeps m e p
+  done_keeps is m (frames.DeclareName e p) = declared_keeps m e.stacked e.local e.value p
   done_keeps is m (frames.SetLocal x v p) = refl
+  done_keeps is m (frames.PutStacked v x p) =
+      put_stacked_keeps program d m v x p ends (λ st. Gives Normal st) (λ st. refl)
+  done_keeps is m (frames.ClearElements v n p) = cleared_keeps program d m v n p
   done_keeps is m (frames.Guard body filter block p) = guarded_keeps m body filter block p
   done_keeps is m (frames.Answer v) = refl
   done_keeps is m frames.LetGo = refl

@@ -1,7 +1,7 @@
--- What is done next doesn't look at how many steps are left, unless it begins a task or a function.
+-- What is done next doesn't look at how many steps are left, unless it counts steps.
 use Rattle.std.proofs.Common.{◌≡◌, ℕ, zero, suc, List, [], ◌∷◌, length, refl, Option, Some, None}
 use Rattle.std.specs.Prelude.{Bool, true, false, nat_eq, slice_get}
-use Rattle.source_machine.specs.Words.{BuiltIn, Put, Protect, RaiseException, Walk, Operation, performed, Program, Lvalue, Local, Filter, Always, Funclet, Statements, is_reserved, Exception, Result, Value, Normal, Continued, LeftTry, Target, End, Handler, Task, Place, ContinuationFrame, Operand, Assignment, InStatement, Sequel, Body, EndsCall, Lands, Finishes, Next, Over, Give, Start, Begin, Plan, Then, Push, operand_plan, assignment_plan, in_statement_plan, sequel_plan, body_plan, Machine, follow, unless_deep, begun, fetched, put, operated, built_in, asked_by, asked, searched, target_landed, landed, finished, left_call, after_value, after_normal, after_body, resumed, given, outside, done, is_deep, with_local}
+use Rattle.source_machine.specs.Words.{DataFrame, DataPart, StackedParameter, StackedVariable, Expression, ends, at_state, set_memory, allocate, local_of, placing, clearing, with_next, stored, brought, opened, put_stacked, cleared_one, declared_stacked, declared_at, BuiltIn, Put, Protect, RaiseException, Walk, Operation, performed, Program, Lvalue, Local, Filter, Always, Funclet, Statements, is_reserved, Exception, Result, Value, Normal, Continued, LeftTry, Target, End, Handler, Task, Place, ContinuationFrame, Operand, Assignment, InStatement, Sequel, Body, EndsCall, Lands, Finishes, Next, Over, Give, Start, Begin, Plan, Then, Push, operand_plan, assignment_plan, in_statement_plan, sequel_plan, body_plan, Machine, follow, unless_deep, begun, fetched, put, operated, built_in, asked_by, asked, searched, target_landed, landed, finished, left_call, after_value, after_normal, after_body, resumed, given, outside, done, is_deep, with_local}
 use Rattle.c_operations.specs.Performed as performing
 use Rattle.source_meaning.specs.Tasks as tasks
 use Rattle.source_machine.specs.Frames as frames
@@ -36,10 +36,10 @@ module _ (l : ℕ) where
   body m plan Continued = follows m plan
   body m plan how = refl
 
-  call : (m : Machine) (n s : ℕ) (how : Result)
-      → left_call (with_left l m) n s how ≡ with_left l (left_call m n s how)
-  call m n s (End e) = refl
-  call m n s x = refl
+  call : (m : Machine) (n s : ℕ) (part : Option DataPart) (how : Result)
+      → left_call (with_left l m) n s part how ≡ with_left l (left_call m n s part how)
+  call m n s part (End e) = refl
+  call m n s part x = refl
 
   target : (b : Bool) (m : Machine) (held : ℕ) (block : Statements) (p : Place) (to : ℕ)
       (exc : Exception)
@@ -66,7 +66,7 @@ module _ (l : ℕ) where
   resume m (InStatement f) how = value m (in_statement_plan f) how
   resume m (Sequel f) how = normal m (sequel_plan f) how
   resume m (Body f) how = body m (body_plan f) how
-  resume m (EndsCall n s) how = call m n s how
+  resume m (EndsCall n s part) how = call m n s part how
   resume m (Lands held block p) how = land m held block p how
   resume m (Finishes k last p) how = finish m k last p how
 
@@ -111,6 +111,56 @@ module _ (l : ℕ) where
   built m RaiseException vs p = refl
   built m Walk vs p = refl
 
+  -- ---- the data stack
+
+  store : (m : Machine) (x : performing.OperationResult) (go : Machine → Machine)
+      → ((m : Machine) → go (with_left l m) ≡ with_left l (go m))
+      → stored (with_left l m) x go ≡ with_left l (stored m x go)
+  store m (performing.Gives v memory) go h = h (at_state m (set_memory m.state memory))
+  store m (performing.Raises code access) go h = refl
+  store m (performing.Undefined a) go h = refl
+
+  bring : (program : Program) (base : ℕ) (ps : List StackedParameter) (k : ℕ) (plan : Plan)
+      (m : Machine)
+      → brought program base ps k plan (with_left l m)
+      ≡ with_left l (brought program base ps k plan m)
+  bring program base [] k plan m = follows m plan
+  bring program base (p ∷ ps) k plan m =
+      store m (placing program base p.width p.offset k (local_of m.state k p.parameter) m.state)
+      (brought program base ps k plan) (bring program base ps k plan)
+
+  pub opens : (program : Program) (d : Option DataFrame) (k : ℕ) (plan : Plan) (m : Machine)
+      → opened program d k plan (with_left l m) ≡ with_left l (opened program d k plan m)
+  opens program None k plan m = follows m plan
+  opens program (Some d) k plan m =
+      bring program d.base d.parameters k plan (at_state m (allocate d.base d.size k m.state))
+
+  put_on : (program : Program) (v : StackedVariable) (x : ℕ) (p : Place) (plan : Plan) (m : Machine)
+      → put_stacked program v x p plan (with_left l m)
+      ≡ with_left l (put_stacked program v x p plan m)
+  put_on program v x p plan m =
+      store m (placing program v.base v.width v.offset p.activation x m.state)
+      (λ m. follow m plan) (λ m. follows m plan)
+
+  pub clear_one : (program : Program) (v : StackedVariable) (n : ℕ) (p : Place) (m : Machine)
+      → cleared_one program v n p (with_left l m) ≡ with_left l (cleared_one program v n p m)
+  clear_one program v n p m =
+      store m (clearing program v p.activation (suc n) m.state)
+      (λ m. with_next m (frames.ClearElements v n p)) (λ m. refl)
+
+  declare_stacked : (program : Program) (m : Machine) (v : StackedVariable) (n : Option ℕ)
+      (e : Option Expression) (p : Place)
+      → declared_stacked program (with_left l m) v n e p
+      ≡ with_left l (declared_stacked program m v n e p)
+  declare_stacked program m v (Some n) e p = refl
+  declare_stacked program m v None e p = put_on program v 0 p _ m
+
+  declare : (program : Program) (m : Machine) (v : Option StackedVariable) (x : ℕ)
+      (e : Option Expression) (p : Place)
+      → declared_at program (with_left l m) v x e p ≡ with_left l (declared_at program m v x e p)
+  declare program m None x e p = follows (with_local m p x 0) _
+  declare program m (Some v) x e p = declare_stacked program m v v.elements e p
+
   ask_by : (m : Machine) (f : Filter) (h : Handler) (level : ℕ) (exc : Exception) (p : Place)
       → asked_by (with_left l m) f h level exc p ≡ with_left l (asked_by m f h level exc p)
   ask_by m Always h level exc p = refl
@@ -126,10 +176,11 @@ module _ (l : ℕ) where
   searches m zero exc p = refl
   searches m (suc level) exc p = ask m (slice_get m.handlers level) level exc p
 
-  -- what begins a task or a function is left out
+  -- what counts steps is left out
   abbrev pub IsAlike : Program → Machine → Next → Type 0
   IsAlike program m (Start task p) = Unit {0}
   IsAlike program m (frames.Call (frames.Defined f) vs p) = Unit {0}
+  IsAlike program m (frames.ClearElements v n p) = Unit {0}
   IsAlike program m next = done program (with_left l m) next ≡ with_left l (done program m next)
 
   pub alike : (program : Program) (m : Machine) (next : Next) → IsAlike program m next
@@ -148,7 +199,9 @@ module _ (l : ℕ) where
   alike program m (frames.Call (frames.BuiltInOf k) vs p) = built m k vs p
   alike program m (frames.Proceed ss p) = follows m _
   alike program m (frames.DeclareEach ds p) = follows m _
-  alike program m (frames.DeclareName d p) = follows (with_local m p d.local 0) _
+  alike program m (frames.DeclareName d p) = declare program m d.stacked d.local d.value p
   alike program m (frames.SetLocal x v p) = refl
+  alike program m (frames.PutStacked v x p) = put_on program v x p ends m
+  alike program m (frames.ClearElements v n p) = tt
   alike program m (frames.Search level exc p) = searches m level exc p
   alike program m y = refl

@@ -45,7 +45,7 @@ module _ (program : Program) (d : Does) where
 
   statement_keeps : (m : Machine) (s : Statement) (p : Place)
       → comes program d (follow m (statement_plan s p))
-      ≡ from program d m (statement d s (context_at m.handlers p) m.state)
+      ≡ from program d m (statement program d s (context_at m.handlers p) m.state)
   unfolding with_value and_then finally_after
   statement_keeps m (statements.Declare e) p = refl
   statement_keeps m (statements.Block ss) p = refl

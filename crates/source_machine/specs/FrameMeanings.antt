@@ -17,7 +17,8 @@ use Rattle.source_meaning.specs.Tasks as tasks
 use Rattle.source_meaning.specs.Tasks.{Handler, Does}
 use Rattle.source_meaning.specs.Expressions.{of_test, converted, value_of, apart, incremented_value}
 use Rattle.source_meaning.specs.Expressions.{locate, read, write, operate, each, all, ended_call, enter}
-use Rattle.source_meaning.specs.Expressions.{call_built_in, node}
+use Rattle.source_meaning.specs.Expressions.{call_built_in, node, stacked_address}
+use Rattle.source_meaning.specs.DataStack.{close_part, reset_pointer, put, clear}
 use Rattle.source_meaning.specs.Statements.{optional, declare, declare_each, in_loop, landing}
 use Rattle.source_meaning.specs.Statements.{finally_after, statement}
 use Rattle.source_meaning.specs.Raises.{answered, search}
@@ -42,7 +43,7 @@ below (suc k) hs = found (slice_get hs k) (below k hs)
 module _ (program : Program) (d : Does) where
   abbrev pub call : Callee → List ℕ → List Handler → Place → State → Outcome
   call (frames.Defined f) vs hs p st =
-      enter d f (slice_get program.functions f) vs (context_at hs p) st
+      enter program d f (slice_get program.functions f) vs (context_at hs p) st
   call (frames.BuiltInOf k) vs hs p st = call_built_in d k vs (context_at hs p) st
 
   abbrev pub iterate_for : ForLoop → List Handler → Place → State → Outcome
@@ -133,6 +134,8 @@ module _ (program : Program) (d : Does) where
   abbrev pub in_statement_meaning : List Handler → StatementFrame → ℕ → State → Outcome
   in_statement_meaning hs (frames.Initialises x p) v st =
       Gives Normal (set_local st p.activation x v)
+  in_statement_meaning hs (frames.InitialisesStacked x p) v st =
+      put program x p.activation v st (λ st. Gives Normal st)
   in_statement_meaning hs frames.EndsEvaluation v st = Gives Normal st
   in_statement_meaning hs (frames.Branches s t p) v st =
       choose (nat_eq v 0) (branch_meaning s t hs p) (λ st. d (tasks.Run s) (context_at hs p) st) st
@@ -179,10 +182,11 @@ module _ (program : Program) (d : Does) where
   through hs (InStatement f) o = with_value o (in_statement_meaning hs f)
   through hs (Sequel f) o = and_then o (sequel_meaning hs f)
   through hs (Body f) o = in_loop o (body_meaning hs f)
-  through hs (EndsCall n s) o = ended_call n s o
+  through hs (EndsCall n s part) o = ended_call n s (close_part part n o)
   through hs (Lands held block p) o =
       landing (length (context_at hs p).handlers) held o
-      (λ exc st. all d block (record (context_at hs p) { exception = exc }) st)
+      (λ exc st. all d block (record (context_at hs p) { exception = exc })
+      (reset_pointer p.data_part p.activation st))
   through hs (Finishes k last p) o =
       finally_after o (λ flag st. d (tasks.RunFinally k last flag) (context_at hs p) st)
 
@@ -199,6 +203,8 @@ module _ (program : Program) (d : Does) where
   next_meaning hs (Begin task p) st = perform program d task (context_at hs p) st
   next_meaning hs (frames.Evaluate n p) st = node program d n (context_at hs p) st
   next_meaning hs (frames.Find l p) st = locate d l (context_at hs p) st
+  next_meaning hs (frames.FindStacked base offset p) st =
+      Gives (Value (stacked_address base offset (context_at hs p) st)) st
   next_meaning hs (frames.Fetch l a p) st = read program d l a (context_at hs p) st
   next_meaning hs (frames.Put l a v p) st = write program d l a v (context_at hs p) st
   next_meaning hs (frames.Operate o a b p) st = operate program d o a b (context_at hs p) st
@@ -207,10 +213,14 @@ module _ (program : Program) (d : Does) where
   next_meaning hs (frames.Call callee vs p) st = call callee vs hs p st
   next_meaning hs (frames.Proceed ss p) st = all d ss (context_at hs p) st
   next_meaning hs (frames.DeclareEach ds p) st = declare_each d ds (context_at hs p) st
-  next_meaning hs (frames.DeclareName e p) st = declare d e (context_at hs p) st
+  next_meaning hs (frames.DeclareName e p) st = declare program d e (context_at hs p) st
   next_meaning hs (frames.SetLocal x v p) st = Gives Normal (set_local st p.activation x v)
+  next_meaning hs (frames.PutStacked v x p) st =
+      put program v p.activation x st (λ st. Gives Normal st)
+  next_meaning hs (frames.ClearElements v n p) st =
+      clear program v p.activation n st (λ st. Gives Normal st)
   next_meaning hs (frames.Guard body filter block p) st =
-      statement d (statements.TryExcept body filter block) (context_at hs p) st
+      statement program d (statements.TryExcept body filter block) (context_at hs p) st
   next_meaning hs (frames.Answer v) st =
       Gives (Value v) (emit (events.Answer (signed W32 v)) (let_go st))
   next_meaning hs frames.LetGo st = Gives Normal (let_go st)

@@ -9,11 +9,13 @@ use Rattle.c_checked.specs.declared.expression.Fixity.{Fixity}
 use Rattle.c_checked.specs.Expression.{Expression, Node, Lvalue, Arguments}
 use Rattle.c_checked.specs.Statement.{Declared, Filter, Statement, Statements}
 use Rattle.source_meaning.specs.State.{Exception, Result}
-use Rattle.source_meaning.specs.Tasks.{Handler, Context, Task}
+use Rattle.c_checked.specs.declared.statement.StackedVariable.{StackedVariable}
+use Rattle.source_meaning.specs.Tasks.{Handler, DataPart, Context, Task}
 
 -- a context without its handlers, which the machine has
 pub record Place : Type 0 where
   pub activation : ℕ
+  pub data_part : Option DataPart
   pub exception : Exception
   pub abnormal : Bool
 
@@ -23,6 +25,7 @@ context_at hs p =
     record {
       handlers = reverse hs;
       activation = p.activation;
+      data_part = p.data_part;
       exception = p.exception;
       abnormal = p.abnormal;
     }
@@ -91,6 +94,7 @@ pub data AssignmentFrame : Type 0 where
 -- what waits for a value in a statement, or for a filter's answer
 pub data StatementFrame : Type 0 where
   Initialises : ℕ → Place → StatementFrame
+  InitialisesStacked : StackedVariable → Place → StatementFrame
   EndsEvaluation : StatementFrame
   Branches : Statement → Option Statement → Place → StatementFrame
   Iterates : ForLoop → Place → StatementFrame
@@ -122,8 +126,9 @@ pub data ContinuationFrame : Type 0 where
   InStatement : StatementFrame → ContinuationFrame
   Sequel : SequelFrame → ContinuationFrame
   Body : BodyFrame → ContinuationFrame
-  -- a call's end: how many activations there were before it, and its function's surplus
-  EndsCall : ℕ → ℕ → ContinuationFrame
+  -- a call's end: how many activations there were before it, its function's surplus, and what its
+  -- activation has of the data stack
+  EndsCall : ℕ → ℕ → Option DataPart → ContinuationFrame
   -- the end of a `__try` with an `__except`, whose handler is the machine's last: what was held
   -- where it was entered, and the block
   Lands : ℕ → Statements → Place → ContinuationFrame
@@ -140,6 +145,8 @@ pub data Next : Type 0 where
   Begin : Task → Place → Next
   Evaluate : Node → Place → Next
   Find : Lvalue → Place → Next
+  -- the address of what stands so many bytes above the base that a local keeps
+  FindStacked : (base offset : ℕ) → Place → Next
   Fetch : Lvalue → ℕ → Place → Next
   Put : Lvalue → ℕ → ℕ → Place → Next
   Operate : Operation → ℕ → ℕ → Place → Next
@@ -150,6 +157,10 @@ pub data Next : Type 0 where
   DeclareEach : List Declared → Place → Next
   DeclareName : Declared → Place → Next
   SetLocal : ℕ → ℕ → Place → Next
+  -- a variable on the data stack takes a number, and so many elements of an array become 0, the
+  -- last one first
+  PutStacked : StackedVariable → ℕ → Place → Next
+  ClearElements : StackedVariable → ℕ → Place → Next
   -- a `__try` with an `__except` is entered
   Guard : Statements → Filter → Statements → Place → Next
   -- a filter's answer, and the end of a `__finally` block

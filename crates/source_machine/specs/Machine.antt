@@ -5,33 +5,38 @@ use Rattle.std.specs.Prelude.{None, is_some}
 use Rattle.seh_num.specs.declared.width.Width.TheVariants.{W32, W64}
 use Rattle.seh_num.specs.declared.event.Event.TheVariants as events
 use Rattle.seh_num.specs.Widths.{signed}
-use Rattle.flat_memory.specs.Memory.{protected, rights_asked}
+use Rattle.flat_memory.specs.Memory.{Memory, protected, rights_asked}
 use Rattle.c_operations.specs.declared.built_in.BuiltIn.{BuiltIn}
 use Rattle.c_operations.specs.declared.built_in.BuiltIn.TheVariants.{Put, Protect, RaiseException, Walk}
 use Rattle.c_operations.specs.declared.operation.Operation.{Operation}
 use Rattle.c_operations.specs.Performed as performing
 use Rattle.c_operations.specs.Performed.{performed}
-use Rattle.c_checked.specs.Expression.{Lvalue, Local, Global, Indirection, Element}
+use Rattle.c_checked.specs.Expression.{Expression, Lvalue, Local, Global, Stacked, Indirection}
+use Rattle.c_checked.specs.Expression.{Element}
 use Rattle.c_checked.specs.Statement.{Filter, Always, Funclet, Statements, Declared}
-use Rattle.c_checked.specs.Program.{Program, Function, weight, surplus}
+use Rattle.c_checked.specs.Program.{Program, Function, DataFrame, weight, surplus}
+use Rattle.c_checked.specs.declared.function.StackedParameter.{StackedParameter}
+use Rattle.c_checked.specs.declared.statement.StackedVariable.{StackedVariable}
 use Rattle.source_meaning.specs.declared.ended.Ended.TheVariants.{Unhandled, Undefined, Deep}
 use Rattle.source_meaning.specs.Source.{is_reserved}
 use Rattle.source_meaning.specs.State.{Exception, State, Result, Value, Normal, Returned, Broke, Continued}
-use Rattle.source_meaning.specs.State.{LeftTry, Target, End, local_of, set_local, set_memory, emit, hold}
+use Rattle.source_meaning.specs.State.{LeftTry, Target, End, frame_of, local_of, set_local, set_memory, emit, hold}
 use Rattle.source_meaning.specs.State.{let_go, depth, with_activation, with_outermost, emit_all}
 use Rattle.source_meaning.specs.State.{walk_events, hold_surplus, let_go_surplus, count_steps}
 use Rattle.source_meaning.specs.Tasks as tasks
-use Rattle.source_meaning.specs.Tasks.{Handler, Task}
-use Rattle.source_meaning.specs.Expressions.{of_test, no_exception, raised}
+use Rattle.source_meaning.specs.Tasks.{Handler, DataPart, part_of, Task}
+use Rattle.source_meaning.specs.DataStack.{placing, clearing, memory_above, allocate}
+use Rattle.source_meaning.specs.DataStack.{reset_pointer, reset_pointer_if}
+use Rattle.source_meaning.specs.Expressions.{of_test, no_exception, raised, stacked_address}
 use Rattle.source_meaning.specs.Raises.{raise_event}
 use Rattle.source_meaning.specs.declared.depth.TheConstants.{DEEPEST, TOO_DEEP}
 use Rattle.source_machine.specs.Frames as frames
-use Rattle.source_machine.specs.Frames.{Place, Callee, ForLoop, ContinuationFrame, Operand, Assignment}
+use Rattle.source_machine.specs.Frames.{Place, context_at, Callee, ForLoop, ContinuationFrame, Operand, Assignment}
 use Rattle.source_machine.specs.Frames.{InStatement, Sequel, Body, EndsCall, Lands, Finishes, Next}
 use Rattle.source_machine.specs.Frames.{Over, Give, Start, Begin, Plan, Then, Push}
 use Rattle.source_machine.specs.Plans.{node_plan, expression_plan, find_plan, pass_plan}
 use Rattle.source_machine.specs.Plans.{operand_plan, assignment_plan, load_plan, store_plan}
-use Rattle.source_machine.specs.Plans.{proceed_plan, declare_plan, evaluates, evaluated, for_body}
+use Rattle.source_machine.specs.Plans.{ends, proceed_plan, declare_plan, evaluates, evaluated, for_body}
 use Rattle.source_machine.specs.Plans.{statement_plan, in_statement_plan, sequel_plan, body_plan}
 
 -- a state with the handlers around the place where it continues, outermost first; what waits,
@@ -96,12 +101,14 @@ begun m (tasks.RunFilter k e h exc) p =
     (Push (InStatement frames.EndsFilter)
     (evaluates e (record {
       activation = h.activation;
+      data_part = None;
       exception = exc;
       abnormal = h.abnormal;
     }))))
 begun m (tasks.RunFinally k last flag) p =
     unless_deep (is_deep m.state 2) m
-    (follow (at_state m (emit (events.Finally k flag) (hold m.state)))
+    (follow (at_state m (emit (events.Finally k flag)
+    (hold (reset_pointer_if flag p.data_part p.activation m.state))))
     (Push (Sequel frames.EndsFinally) (frames.Proceed last (record p { abnormal = flag }))))
 begun m (tasks.Retry o a b) p = with_next m (frames.Operate o a b p)
 
@@ -110,6 +117,7 @@ begun m (tasks.Retry o a b) p = with_next m (frames.Operate o a b p)
 abbrev pub fetched : Machine → Lvalue → ℕ → Place → Machine
 fetched m (Local x) a p = with_next m (Give (Value (local_of m.state p.activation x)))
 fetched m (Global access _) a p = follow m (load_plan access a p)
+fetched m (Stacked access _ _) a p = follow m (load_plan access a p)
 fetched m (Indirection access _) a p = follow m (load_plan access a p)
 fetched m (Element access _ _) a p = follow m (load_plan access a p)
 
@@ -119,6 +127,7 @@ with_local m p x v = at_state m (set_local m.state p.activation x v)
 abbrev pub put : Machine → Lvalue → ℕ → ℕ → Place → Machine
 put m (Local x) a v p = with_next (with_local m p x v) (Give (Value v))
 put m (Global access _) a v p = follow m (store_plan access a v p)
+put m (Stacked access _ _) a v p = follow m (store_plan access a v p)
 put m (Indirection access _) a v p = follow m (store_plan access a v p)
 put m (Element access _ _) a v p = follow m (store_plan access a v p)
 
@@ -130,21 +139,63 @@ operated m o a b p (performing.Raises code access) =
     (Start (tasks.Raise (record { code = code.0; flag = false; access = access })) p))
 operated m o a b p (performing.Undefined a') = over m (End (Some (Undefined a')))
 
+-- ---- the data stack
+
+-- an operation of the data stack, which raises nothing, and then the rest
+abbrev pub stored : Machine → performing.OperationResult → (Machine → Machine) → Machine
+stored m (performing.Gives v memory) go = go (at_state m (set_memory m.state memory))
+stored m (performing.Raises code access) go = over m (End None)
+stored m (performing.Undefined a) go = over m (End (Some (Undefined a)))
+
+-- the parameters whose address is taken are brought to where they stand
+abbrev pub brought : Program → (base : ℕ) → List StackedParameter → (activation : ℕ) → Plan
+    → Machine → Machine
+brought program base [] k plan m = follow m plan
+brought program base (p ∷ ps) k plan m =
+    stored m
+    (placing program base p.width p.offset k (local_of m.state k p.parameter) m.state)
+    (brought program base ps k plan)
+
+abbrev pub opened : Program → Option DataFrame → (activation : ℕ) → Plan → Machine → Machine
+opened program None k plan m = follow m plan
+opened program (Some d) k plan m =
+    brought program d.base d.parameters k plan (at_state m (allocate d.base d.size k m.state))
+
+-- a variable takes a number
+abbrev pub put_stacked : Program → StackedVariable → ℕ → Place → Plan → Machine → Machine
+put_stacked program v x p plan m =
+    stored m (placing program v.base v.width v.offset p.activation x m.state)
+    (λ m. follow m plan)
+
+-- an element becomes 0, with so many before it
+abbrev pub cleared_one : Program → StackedVariable → ℕ → Place → Machine → Machine
+cleared_one program v n p m =
+    stored m (clearing program v p.activation (suc n) m.state)
+    (λ m. with_next m (frames.ClearElements v n p))
+
+abbrev pub cleared : Program → StackedVariable → ℕ → Place → Machine → Machine
+cleared program v zero p m = follow m ends
+cleared program v (suc n) p m =
+    unless_few (nat_lt m.state.steps_left 1) m
+    (cleared_one program v n p (at_state m (count_steps 1 m.state)))
+
 -- ---- calls
 
-abbrev pub entered : Machine → ℕ → Option Function → List ℕ → Machine
-entered m number None vs = with_next m (Give (Value 0))
-entered m number (Some f) vs =
+abbrev pub entered : Program → Machine → ℕ → Option Function → List ℕ → Machine
+entered program m number None vs = with_next m (Give (Value 0))
+entered program m number (Some f) vs =
     let n = length m.state.frames in
     unless_deep (is_deep m.state (weight f)) m
     (unless_few (nat_lt m.state.steps_left (surplus f)) m
-    (follow (at_state m (with_activation number (vs ++ replicate (length f.locals) 0)
-    (hold_surplus (surplus f) (count_steps (surplus f) m.state))))
-    (Push (EndsCall n (surplus f)) (frames.Proceed f.body (record {
+    (opened program f.data_frame n (Push (EndsCall n (surplus f) (part_of f.data_frame))
+    (frames.Proceed f.body (record {
       activation = n;
+      data_part = part_of f.data_frame;
       exception = no_exception;
       abnormal = false;
-    })))))
+    })))
+    (at_state m (with_activation number (vs ++ replicate (length f.locals) 0)
+    (hold_surplus (surplus f) (count_steps (surplus f) m.state))))))
 
 abbrev pub built_in : Machine → BuiltIn → List ℕ → Place → Machine
 built_in m Put vs p =
@@ -162,16 +213,28 @@ built_in m Walk vs p =
     (Give (Value 0))
 
 abbrev pub called : Program → Machine → Callee → List ℕ → Place → Machine
-called program m (frames.Defined f) vs p = entered m f (slice_get program.functions f) vs
+called program m (frames.Defined f) vs p = entered program m f (slice_get program.functions f) vs
 called program m (frames.BuiltInOf k) vs p = built_in m k vs p
 
 -- ---- statements
 
+-- a variable on the data stack is 0 first, and an array has no initialiser
+abbrev pub declared_stacked : Program → Machine → StackedVariable → Option ℕ → Option Expression
+    → Place → Machine
+declared_stacked program m v (Some n) value p = with_next m (frames.ClearElements v n p)
+declared_stacked program m v None value p =
+    put_stacked program v 0 p (evaluated (frames.InitialisesStacked v p) value p ends) m
+
 -- a declared name is 0 first, in its own initialiser too
-abbrev pub declared : Machine → Declared → Place → Machine
-declared m d p =
-    follow (with_local m p d.local 0)
-    (evaluated (frames.Initialises d.local p) d.value p (Then (frames.SetLocal d.local 0 p)))
+abbrev pub declared_at : Program → Machine → Option StackedVariable → (local : ℕ)
+    → Option Expression → Place → Machine
+declared_at program m None x value p =
+    follow (with_local m p x 0)
+    (evaluated (frames.Initialises x p) value p (Then (frames.SetLocal x 0 p)))
+declared_at program m (Some v) x value p = declared_stacked program m v v.elements value p
+
+abbrev pub declared : Program → Machine → Declared → Place → Machine
+declared program m d p = declared_at program m d.stacked d.local d.value p
 
 abbrev pub handler_at : Filter → Place → Handler
 handler_at filter p = record { filter = filter; activation = p.activation; abnormal = p.abnormal }
@@ -206,8 +269,9 @@ searched m (suc level) exc p = asked m (slice_get m.handlers level) level exc p
 
 abbrev pub target_landed : Machine → Bool → ℕ → Statements → Place → ℕ → Exception → Machine
 target_landed m true held block p to exc =
-    with_next (at_state m (emit (events.Except (record { 0 = exc.code }))
-    (record m.state { held = held }))) (frames.Proceed block (record p { exception = exc }))
+    with_next (at_state m (reset_pointer p.data_part p.activation
+    (emit (events.Except (record { 0 = exc.code })) (record m.state { held = held }))))
+    (frames.Proceed block (record p { exception = exc }))
 target_landed m false held block p to exc = with_next m (Give (Target to exc))
 
 abbrev pub landed : Machine → ℕ → Statements → Place → Result → Machine
@@ -231,12 +295,23 @@ abbrev pub left_by_target : Machine → ℕ → Machine
 left_by_target m n =
     at_state m (with_outermost n (record m.state { held = m.state.held + 1 }))
 
-abbrev pub left_call : Machine → ℕ → ℕ → Result → Machine
-left_call m n s (End e) = with_next m (Give (End e))
-left_call m n s Normal = with_next (with_activations m n s) (Give (Value 0))
-left_call m n s (Returned v) = with_next (with_activations m n s) (Give (Value v))
-left_call m n s (Target to exc) = with_next (left_by_target m n) (Give (Target to exc))
-left_call m n s how = with_next (with_activations m n s) (Give how)
+-- a return gives back what the activation has of the data stack
+abbrev pub memory_closed : Option DataPart → (locals : List ℕ) → Memory → Memory
+memory_closed None locals memory = memory
+memory_closed (Some part) locals memory = memory_above part.base 0 locals memory
+
+abbrev pub closed : Option DataPart → (activation : ℕ) → Machine → Machine
+closed part k m =
+    at_state m (set_memory m.state (memory_closed part (frame_of m.state k) m.state.memory))
+
+abbrev pub left_call : Machine → ℕ → ℕ → Option DataPart → Result → Machine
+left_call m n s part (End e) = with_next m (Give (End e))
+left_call m n s part Normal =
+    with_next (with_activations (closed part n m) n s) (Give (Value 0))
+left_call m n s part (Returned v) =
+    with_next (with_activations (closed part n m) n s) (Give (Value v))
+left_call m n s part (Target to exc) = with_next (left_by_target m n) (Give (Target to exc))
+left_call m n s part how = with_next (with_activations m n s) (Give how)
 
 abbrev pub after_value : Machine → (ℕ → Plan) → Result → Machine
 after_value m plan (Value v) = follow m (plan v)
@@ -258,7 +333,7 @@ resumed m (Assignment f) how = after_value m (assignment_plan f) how
 resumed m (InStatement f) how = after_value m (in_statement_plan f) how
 resumed m (Sequel f) how = after_normal m (sequel_plan f) how
 resumed m (Body f) how = after_body m (body_plan f) how
-resumed m (EndsCall n s) how = left_call m n s how
+resumed m (EndsCall n s part) how = left_call m n s part how
 resumed m (Lands held block p) how = landed m held block p how
 resumed m (Finishes k last p) how = finished m k last p how
 
@@ -283,6 +358,8 @@ done program m (Start task p) = started m task p m.state.steps_left
 done program m (Begin task p) = begun m task p
 done program m (frames.Evaluate n p) = follow m (node_plan n p)
 done program m (frames.Find l p) = follow m (find_plan l p)
+done program m (frames.FindStacked base offset p) =
+    with_next m (Give (Value (stacked_address base offset (context_at m.handlers p) m.state)))
 done program m (frames.Fetch l a p) = fetched m l a p
 done program m (frames.Put l a v p) = put m l a v p
 done program m (frames.Operate o a b p) =
@@ -291,8 +368,10 @@ done program m (frames.Pass callee vs es p) = follow m (pass_plan callee vs es p
 done program m (frames.Call callee vs p) = called program m callee vs p
 done program m (frames.Proceed ss p) = follow m (proceed_plan ss p)
 done program m (frames.DeclareEach ds p) = follow m (declare_plan ds p)
-done program m (frames.DeclareName d p) = declared m d p
+done program m (frames.DeclareName d p) = declared program m d p
 done program m (frames.SetLocal x v p) = with_next (with_local m p x v) (Give Normal)
+done program m (frames.PutStacked v x p) = put_stacked program v x p ends m
+done program m (frames.ClearElements v n p) = cleared program v n p m
 done program m (frames.Guard body filter block p) = guarded m body filter block p
 done program m (frames.Answer v) =
     with_next (at_state m (emit (events.Answer (signed W32 v)) (let_go m.state))) (Give (Value v))

@@ -9,7 +9,8 @@ use Rattle.c_operations.specs.declared.operation.Size.TheVariants.{Long}
 use Rattle.c_operations.specs.Numbers.{result_of}
 use Rattle.c_checked.specs.declared.expression.Access.{Access}
 use Rattle.c_checked.specs.Expression as nodes
-use Rattle.c_checked.specs.Expression.{Expression, On, Node, Lvalue, Local, Global, Indirection}
+use Rattle.c_checked.specs.Expression.{Expression, On, Node, Lvalue, Local, Global, Stacked}
+use Rattle.c_checked.specs.Expression.{Indirection}
 use Rattle.c_checked.specs.Expression.{Element, Arguments, Done, Next as Another}
 use Rattle.c_checked.specs.Statement as statements
 use Rattle.c_checked.specs.Statement.{Statement, Statements, Empty, Then as Followed, Declared}
@@ -56,6 +57,7 @@ chosen false one other = other
 
 abbrev pub node_plan : Node → Place → Plan
 node_plan (nodes.Constant z n) p = gives n
+node_plan (nodes.StackedArray base offset) p = Then (frames.FindStacked base offset p)
 node_plan (nodes.Read l) p = assignment (frames.ReadsPlace l p) (frames.Find l p)
 node_plan (nodes.AddressOf l) p = Then (locates l p)
 node_plan (nodes.Assign l e) p = assignment (frames.EvaluatesAssigned l e p) (locates l p)
@@ -96,6 +98,7 @@ expression_plan (On n c) p = Push (Operand (frames.Converts c)) (frames.Evaluate
 abbrev pub find_plan : Lvalue → Place → Plan
 find_plan (Local x) p = gives 0
 find_plan (Global access a) p = gives a
+find_plan (Stacked access base offset) p = Then (frames.FindStacked base offset p)
 find_plan (Indirection access e) p = Then (evaluates e p)
 find_plan (Element access e i) p = operand (frames.EvaluatesIndex i p) e p
 
@@ -214,6 +217,7 @@ answer_plan false false false level exc p = ends
 
 abbrev pub in_statement_plan : StatementFrame → ℕ → Plan
 in_statement_plan (frames.Initialises x p) v = Then (frames.SetLocal x v p)
+in_statement_plan (frames.InitialisesStacked x p) v = Then (frames.PutStacked x v p)
 in_statement_plan frames.EndsEvaluation v = ends
 in_statement_plan (frames.Branches s t p) v = branch (nat_eq v 0) s t p
 in_statement_plan (frames.Iterates k p) v = Then (iterate k p)

@@ -1,5 +1,5 @@
 -- A program's run, as the machine's.
-use Rattle.std.specs.Prelude.{ℕ, zero, suc, false, [], slice_get, ℤ}
+use Rattle.std.specs.Prelude.{ℕ, zero, suc, false, [], slice_get, ℤ, None}
 use Rattle.c_checked.specs.Program.{Program}
 use Rattle.source_meaning.specs.Expressions.{no_exception}
 use Rattle.source_meaning.specs.Meaning.{start, main_arguments}
@@ -16,7 +16,7 @@ abbrev pub first : Program → ℤ → ℕ → Machine
 first program arg n =
     beginning program n
     (Call (Defined program.main) (main_arguments (slice_get program.functions program.main) arg)
-    (record { activation = 0; exception = no_exception; abnormal = false }))
+    (record { activation = 0; data_part = None; exception = no_exception; abnormal = false }))
 
 -- the machine after so many steps of its own
 abbrev pub after : Program → ℕ → Machine → Machine

@@ -256,19 +256,20 @@ ran_kin program arg n k =
     let main = slice_get program.functions program.main in
     let args = main_arguments main arg in
     let low : n ≤ n + k = omega arith in
-    let here_is : ran program arg n ≡ enter (within program (n + k)) program.main main args outside
-    (start program n) =
+    let here_is : ran program arg n
+    ≡ enter program (within program (n + k)) program.main main args outside (start program n) =
     enters_within program (n + k) program.main main args outside (start program n) low in
     let there_is : ran program arg (n + k)
-    ≡ enter (within program (n + k)) program.main main args outside
+    ≡ enter program (within program (n + k)) program.main main args outside
     (start program (n + k)) = enters_within program (n + k) program.main main args outside
     (start program (n + k)) (omega arith) in
     let kin_is = (enter_go (kin k (n + k)) program (within program (n + k)) (within program (n + k))
     (within_alike k program (n + k)) program.main main args outside true (start program n) (n + k)
     (refl, omega arith)).1 in
     subst (λ o. Kin k (n + k) o (ran program arg (n + k))) (sym here_is)
-    (subst (λ o. Kin k (n + k) (enter (within program (n + k)) program.main main args outside
-    (start program n)) o) (sym there_is) kin_is)
+    (subst (λ o. Kin k (n + k)
+    (enter program (within program (n + k)) program.main main args outside (start program n)) o)
+    (sym there_is) kin_is)
 
 shows_events : (o : Outcome) → (shows o).events ≡ events_of o
 shows_events (Gives (Value v) st) = refl

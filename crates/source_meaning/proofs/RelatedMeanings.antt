@@ -1,5 +1,5 @@
 -- Where two meanings of the tasks inside a task are related, so is what the task does.
-use Rattle.std.proofs.Common.{ℕ, List, [], ◌∷◌, length, Option, Some, None}
+use Rattle.std.proofs.Common.{ℕ, zero, suc, List, [], ◌∷◌, length, Option, Some, None}
 use Rattle.std.specs.Prelude.{Bool, nat_eq, slice_get}
 use Rattle.c_operations.specs.declared.operation.Operation.{Operation}
 use Rattle.c_operations.specs.declared.operation.Operation.TheVariants.{Load, Store}
@@ -9,13 +9,13 @@ use Rattle.c_checked.specs.declared.expression.Access.{Access}
 use Rattle.c_operations.specs.declared.built_in.BuiltIn.{BuiltIn}
 use Rattle.c_operations.specs.declared.built_in.BuiltIn.TheVariants.{Put, Protect, RaiseException, Walk}
 use Rattle.c_checked.specs.Expression as nodes
-use Rattle.c_checked.specs.Expression.{Expression, On, Node, Lvalue, Local, Global, Indirection, Element, Arguments, Done, Next}
+use Rattle.c_checked.specs.Expression.{Expression, On, Node, Lvalue, Local, Global, Stacked, Indirection, Element, Arguments, Done, Next}
 use Rattle.c_checked.specs.Statement.{Declared, Filter, Always, Funclet, Statement, Declare, Block, Evaluate, If, IfElse, For, DoWhile, Return, Break, Continue, Leave, TryExcept, TryFinally, Statements, Empty, Then}
-use Rattle.source_meaning.specs.Words.{Program, Function, weight, surplus, Unhandled, Undefined, Exception, State, Value, Normal, Returned, Broke, Continued, LeftTry, Target, End, Outcome, set_memory, Handler, Context, Task, Eval, Locate, Run, ForIteration, DoIteration, TryBody, Raise, RunFilter, RunFinally, Retry, Does, tried, operate, locate, load, read, write, each, all, enter, call_built_in, node, expression, optional, declare, declare_each, statement, for_iteration, do_iteration, perform}
+use Rattle.source_meaning.specs.Words.{Event, Program, Function, DataFrame, StackedParameter, StackedVariable, weight, surplus, Unhandled, Undefined, Exception, State, local_of, Value, Normal, Returned, Broke, Continued, LeftTry, Target, End, Outcome, set_memory, Handler, DataPart, part_of, Context, Task, Eval, Locate, Run, ForIteration, DoIteration, TryBody, Raise, RunFilter, RunFinally, Retry, Does, tried, operate, locate, load, read, write, each, all, enter, call_built_in, node, expression, optional, declare_stacked, declare_at, declare, declare_each, statement, for_iteration, do_iteration, perform, placing, clearing, bring, open_frame, close_part, put, clear}
 use Rattle.source_meaning.specs.Raises.{noncontinuable, answered, search_by, search, run_filter, run_finally}
 use Rattle.source_meaning.specs.Source.{is_reserved}
 use Rattle.source_meaning.proofs.Relations.{Relation, Go, GoWith, give, value_go, then_go, loop_go}
-use Rattle.source_meaning.proofs.Relations.{choice_go, deeper_go, counting_go, landing_go, finally_go, ended_go}
+use Rattle.source_meaning.proofs.Relations.{choice_go, deeper_go, counting_go, landing_go, finally_go, ended_go, given_go, close_go}
 
 -- from states that are near, f and g do what is related
 abbrev pub Related : Relation → Does → Does → Type 0
@@ -43,6 +43,7 @@ module _ (R : Relation) (program : Program) (f g : Does) (alike : Related R f g)
   locate_go : (p : Lvalue) (context : Context) → Go R (locate f p context) (locate g p context)
   locate_go (Local x) context = give R (Value 0)
   locate_go (Global access at) context = give R (Value at)
+  locate_go (Stacked access base offset) context = λ a st l n. give R (Value _) a st l n
   locate_go (Indirection access e) context = alike (Eval e) context
   locate_go (Element access e i) context = λ a st l n.
       value_go R _ _ (λ x a st l n. value_go R _ _ (λ y. give R (Value _)) a _ _ _
@@ -58,6 +59,7 @@ module _ (R : Relation) (program : Program) (f g : Does) (alike : Related R f g)
       → Go R (read program f p at context) (read program g p at context)
   read_go (Local x) at context = λ a st l n. give R (Value _) a st l n
   read_go (Global access _) at context = load_go access at context
+  read_go (Stacked access _ _) at context = load_go access at context
   read_go (Indirection access _) at context = load_go access at context
   read_go (Element access _ _) at context = load_go access at context
 
@@ -65,6 +67,7 @@ module _ (R : Relation) (program : Program) (f g : Does) (alike : Related R f g)
       → Go R (write program f p at v context) (write program g p at v context)
   write_go (Local x) at v context = λ a st l n. give R (Value v) a _ l n
   write_go (Global access _) at v context = operate_go (Store access.width) at v context
+  write_go (Stacked access _ _) at v context = operate_go (Store access.width) at v context
   write_go (Indirection access _) at v context = operate_go (Store access.width) at v context
   write_go (Element access _ _) at v context = operate_go (Store access.width) at v context
 
@@ -80,14 +83,50 @@ module _ (R : Relation) (program : Program) (f g : Does) (alike : Related R f g)
   all_go (Then s ss) context =
       λ a st l n. then_go R _ _ (all_go ss context) a _ _ _ (alike (Run s) context a st l n)
 
+  -- ---- the data stack
+
+  bring_go : (base : ℕ) (ps : List StackedParameter) (k : ℕ) (go go' : State → Outcome)
+      → Go R go go' → Go R (λ st. bring program base ps k st go)
+      (λ st. bring program base ps k st go')
+  bring_go base [] k go go' h = h
+  bring_go base (p ∷ ps) k go go' h = λ a st l n.
+      given_go R (placing program base p.width p.offset k (local_of st k p.parameter) st) _ _
+      (λ v. bring_go base ps k go go' h) a st l n
+
+  open_go : (d : Option DataFrame) (k : ℕ) (go go' : State → Outcome) → Go R go go'
+      → Go R (λ st. open_frame program d k st go) (λ st. open_frame program d k st go')
+  open_go None k go go' h = h
+  open_go (Some d) k go go' h = λ a st l n. bring_go d.base d.parameters k go go' h a _ l n
+
+  close_part_go : (part : Option DataPart) (k : ℕ) (a : Bool) (es : List Event) (o o' : Outcome)
+      → R.out a es o o' → R.out a es (close_part part k o) (close_part part k o')
+  close_part_go None k a es o o' h = h
+  close_part_go (Some part) k a es o o' h = close_go R part.base k a es o o' h
+
+  put_go : (v : StackedVariable) (k x : ℕ) (go go' : State → Outcome) → Go R go go'
+      → Go R (λ st. put program v k x st go) (λ st. put program v k x st go')
+  put_go v k x go go' h = λ a st l n.
+      given_go R (placing program v.base v.width v.offset k x st) _ _ (λ x. h) a st l n
+
+  clear_go : (v : StackedVariable) (k n : ℕ) (go go' : State → Outcome) → Go R go go'
+      → Go R (λ st. clear program v k n st go) (λ st. clear program v k n st go')
+  unfolding clear
+  clear_go v k zero go go' h = h
+  clear_go v k (suc n) go go' h =
+      counting_go R 1 _ _ (λ a st l near.
+      given_go R (clearing program v k (suc n) st) _ _ (λ x. clear_go v k n go go' h) a st l near)
+
+  -- ---- calls
+
   pub enter_go : (number : ℕ) (fn : Option Function) (vs : List ℕ) (context : Context)
-      → Go R (enter f number fn vs context) (enter g number fn vs context)
+      → Go R (enter program f number fn vs context) (enter program g number fn vs context)
   enter_go number None vs context = give R (Value 0)
   enter_go number (Some fn) vs context = λ a st l n.
       deeper_go R (weight fn) _ _
       (counting_go R (surplus fn) _ _
       (λ a st l n. ended_go R (length st.frames) (surplus fn) a _ _ _
-      (all_go fn.body _ a _ l n))) a st l n
+      (close_part_go (part_of fn.data_frame) (length st.frames) a _ _ _
+      (open_go fn.data_frame (length st.frames) _ _ (all_go fn.body _) a _ l n)))) a st l n
 
   built_in_go : (k : BuiltIn) (vs : List ℕ) (context : Context)
       → Go R (call_built_in f k vs context) (call_built_in g k vs context)
@@ -100,6 +139,7 @@ module _ (R : Relation) (program : Program) (f g : Does) (alike : Related R f g)
   node_go : (n : Node) (context : Context) → Go R (node program f n context)
       (node program g n context)
   node_go (nodes.Constant z n) context = give R (Value n)
+  node_go (nodes.StackedArray base offset) context = λ a st l n. give R (Value _) a st l n
   node_go (nodes.Read p) context =
       λ a st l n. value_go R _ _ (λ v. read_go p v context) a _ _ _ (locate_go p context a st l n)
   node_go (nodes.AddressOf p) context = alike (Locate p) context
@@ -166,9 +206,24 @@ module _ (R : Relation) (program : Program) (f g : Does) (alike : Related R f g)
   optional_go d (Some e) context k k' h =
       λ a st l n. value_go R k k' h a _ _ _ (alike (Eval e) context a st l n)
 
-  declare_go : (d : Declared) (context : Context) → Go R (declare f d context) (declare g d context)
-  declare_go d context =
-      λ a st l n. optional_go 0 d.value context _ _ (λ v a st l n. give R Normal a _ l n) a _ l n
+  stacked_go : (v : StackedVariable) (n : Option ℕ) (e : Option Expression) (context : Context)
+      → Go R (declare_stacked program f v n e context) (declare_stacked program g v n e context)
+  stacked_go v (Some n) e context = clear_go v context.activation n _ _ (give R Normal)
+  stacked_go v None None context = put_go v context.activation 0 _ _ (give R Normal)
+  stacked_go v None (Some e) context =
+      put_go v context.activation 0 _ _ (λ a st l n.
+      value_go R _ _ (λ x. put_go v context.activation x _ _ (give R Normal)) a _ _ _
+      (alike (Eval e) context a st l n))
+
+  declare_at_go : (v : Option StackedVariable) (x : ℕ) (e : Option Expression) (context : Context)
+      → Go R (declare_at program f v x e context) (declare_at program g v x e context)
+  declare_at_go None x e context =
+      λ a st l n. optional_go 0 e context _ _ (λ v a st l n. give R Normal a _ l n) a _ l n
+  declare_at_go (Some v) x e context = stacked_go v v.elements e context
+
+  declare_go : (d : Declared) (context : Context)
+      → Go R (declare program f d context) (declare program g d context)
+  declare_go d context = declare_at_go d.stacked d.local d.value context
 
   declare_each_go : (ds : List Declared) (context : Context)
       → Go R (declare_each f ds context) (declare_each g ds context)
@@ -178,7 +233,7 @@ module _ (R : Relation) (program : Program) (f g : Does) (alike : Related R f g)
       (alike (Run (Declare d)) context a st l n)
 
   statement_go : (s : Statement) (context : Context)
-      → Go R (statement f s context) (statement g s context)
+      → Go R (statement program f s context) (statement program g s context)
   statement_go (Declare d) context = declare_go d context
   statement_go (Block ss) context = all_go ss context
   statement_go (Evaluate e) context = optional_go 0 e context _ _ (λ v. give R Normal)
@@ -197,7 +252,8 @@ module _ (R : Relation) (program : Program) (f g : Does) (alike : Related R f g)
   statement_go Continue context = give R Continued
   statement_go Leave context = give R LeftTry
   statement_go (TryExcept body filter block) context = λ a st l n.
-      landing_go R _ _ _ _ (λ exc. all_go block _) a _ _ _ (alike (TryBody body) _ a st l n)
+      landing_go R _ _ _ _ (λ exc a st l n. all_go block _ a _ l n) a _ _ _
+      (alike (TryBody body) _ a st l n)
   statement_go (TryFinally body k last) context = λ a st l n.
       finally_go R _ _ (λ flag. alike (RunFinally k last flag) context) a _ _ _
       (alike (TryBody body) context a st l n)

@@ -2,7 +2,8 @@
 -- and how it goes through what is done with an outcome.
 use Rattle.std.proofs.Common.{◌≡◌, ℕ, ◌+◌, List, ◌++◌, Some, None, refl}
 use Rattle.std.specs.Prelude.{Bool, true, false, nat_lt, nat_eq}
-use Rattle.source_meaning.specs.Words.{Event, Deep, Exception, State, Result, Value, Normal, Returned, Broke, Continued, LeftTry, Target, End, Outcome, Gives, choose, depth, deeper, counting, with_value, and_then, ended_call, in_loop, landing, finally_after, with_outermost, let_go_surplus}
+use Rattle.c_operations.specs.Performed as performing
+use Rattle.source_meaning.specs.Words.{Event, Deep, Exception, State, Result, Value, Normal, Returned, Broke, Continued, LeftTry, Target, End, Outcome, Gives, choose, depth, deeper, counting, with_value, and_then, ended_call, in_loop, landing, finally_after, with_outermost, let_go_surplus, set_memory, given, close, point_above, Undefined}
 
 abbrev pub with_left : ℕ → State → State
 with_left l st = record st { steps_left = l }
@@ -154,3 +155,25 @@ module _ (R : Relation) where
       → R.out a es (ended_call d s o) (ended_call d s o')
   unfolding ended_call
   ended_go d s = R.through (ended_call d s) (ended_call d s) (λ st. refl) (ended_cases d s)
+
+  -- ---- the data stack
+
+  pub given_go : (x : performing.OperationResult) (k k' : ℕ → State → Outcome) → GoWith ℕ k k'
+      → Go (λ st. given x st k) (λ st. given x st k')
+  unfolding given
+  given_go (performing.Gives v memory) k k' h a st l n = h v a (set_memory st memory) l n
+  given_go (performing.Raises code access) k k' h a st l n = give (End None) a st l n
+  given_go (performing.Undefined at) k k' h a st l n = give (End (Some (Undefined at))) a st l n
+
+  close_cases : (base k : ℕ) (a : Bool) (how : Result) (st : State) (l : ℕ)
+      → R.near a st.steps_left l → R.out a st.events (close base k (Gives how st))
+      (close base k (Gives how (with_left l st)))
+  unfolding close
+  close_cases base k a Normal st l n = give Normal a (point_above base 0 k st) l n
+  close_cases base k a (Returned v) st l n = give (Returned v) a (point_above base 0 k st) l n
+  close_cases base k a how st l n = give how a st l n
+
+  pub close_go : (base k : ℕ) (a : Bool) (es : List Event) (o o' : Outcome) → R.out a es o o'
+      → R.out a es (close base k o) (close base k o')
+  unfolding close
+  close_go base k = R.through (close base k) (close base k) (λ st. refl) (close_cases base k)

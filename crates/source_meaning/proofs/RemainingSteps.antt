@@ -159,8 +159,8 @@ never_rises program task context st =
 -- a whole call under a bound above the steps that are left
 pub enters_within : (program : Program) (m number : ℕ) (fn : Option Function) (vs : List ℕ)
     (context : Context) (st : State) → st.steps_left ≤ m
-    → enter (does program) number fn vs context st
-    ≡ enter (within program m) number fn vs context st
+    → enter program (does program) number fn vs context st
+    ≡ enter program (within program m) number fn vs context st
 unfolding same_relation
 enters_within program m number fn vs context st low =
     (enter_go (same_relation m) program (does program) (within program m)

@@ -25,7 +25,8 @@ use Rattle.c_operations.specs.declared.built_in.BuiltIn.TheVariants.{Put, Protec
 use Rattle.c_checked.specs.declared.expression.Fixity.{Fixity}
 use Rattle.c_checked.specs.declared.expression.Fixity.TheVariants.{Postfix, Prefix}
 use Rattle.c_checked.specs.Expression as nodes
-use Rattle.c_checked.specs.Expression.{Expression, On, Node, Lvalue, Local, Global, Indirection}
+use Rattle.c_checked.specs.Expression.{Expression, On, Node, Lvalue, Local, Global, Stacked}
+use Rattle.c_checked.specs.Expression.{Indirection}
 use Rattle.c_checked.specs.Expression.{Element, Arguments, Done, Next}
 use Rattle.c_checked.specs.Statement.{Statements, Empty, Then}
 use Rattle.c_checked.specs.Program.{Program, Function, weight, surplus}
@@ -35,7 +36,8 @@ use Rattle.source_meaning.specs.State.{Exception, State, Value, Normal, Returned
 use Rattle.source_meaning.specs.State.{Gives, choose, local_of, set_local, set_memory, emit, deeper}
 use Rattle.source_meaning.specs.State.{with_value, and_then, with_activation, with_outermost}
 use Rattle.source_meaning.specs.State.{emit_all, walk_events, counting, hold_surplus, let_go_surplus}
-use Rattle.source_meaning.specs.Tasks.{Context, Eval, Locate, Run, Raise, Retry, Does}
+use Rattle.source_meaning.specs.DataStack.{open_frame, close_part}
+use Rattle.source_meaning.specs.Tasks.{Context, part_of, Eval, Locate, Run, Raise, Retry, Does}
 
 -- ---- values
 
@@ -104,9 +106,16 @@ operate program does o a b context st =
 
 -- ---- places
 
+-- where a variable on the data stack stands
+abbrev pub stacked_address : (base offset : ℕ) → Context → State → ℕ
+stacked_address base offset context st =
+    result_of (Add Long) (local_of st context.activation base) offset
+
 abbrev pub locate : Does → Lvalue → Context → State → Outcome
 locate does (Local x) context st = Gives (Value 0) st
 locate does (Global access a) context st = Gives (Value a) st
+locate does (Stacked access base offset) context st =
+    Gives (Value (stacked_address base offset context st)) st
 locate does (Indirection access e) context st = does (Eval e) context st
 locate does (Element access e i) context st =
     with_value (does (Eval e) context st)
@@ -122,6 +131,7 @@ load program does access a context st =
 abbrev pub read : Program → Does → Lvalue → ℕ → Context → State → Outcome
 read program does (Local x) a context st = Gives (Value (local_of st context.activation x)) st
 read program does (Global access _) a context st = load program does access a context st
+read program does (Stacked access _ _) a context st = load program does access a context st
 read program does (Indirection access _) a context st = load program does access a context st
 read program does (Element access _ _) a context st = load program does access a context st
 
@@ -129,6 +139,8 @@ read program does (Element access _ _) a context st = load program does access a
 abbrev pub write : Program → Does → Lvalue → ℕ → ℕ → Context → State → Outcome
 write program does (Local x) a v context st = Gives (Value v) (set_local st context.activation x v)
 write program does (Global access _) a v context st =
+    operate program does (Store access.width) a v context st
+write program does (Stacked access _ _) a v context st =
     operate program does (Store access.width) a v context st
 write program does (Indirection access _) a v context st =
     operate program does (Store access.width) a v context st
@@ -161,22 +173,29 @@ ended_call n s (Gives how st) = Gives how (with_outermost n (let_go_surplus s st
 abbrev pub no_exception : Exception
 no_exception = record { code = 0; flag = false; access = None }
 
--- the body of the function of this number, under the handlers of the call, in an activation of its
--- own, whose locals are 0 beside the parameters. An activation counts its function's weight in the
--- depth, and what that is above 1 in steps, where it begins
-abbrev pub enter : Does → ℕ → Option Function → List ℕ → Context → State → Outcome
-enter does number None vs context st = Gives (Value 0) st
-enter does number (Some f) vs context st =
-    deeper (weight f) st (λ st. counting (surplus f) st
-    (λ st. ended_call (length st.frames) (surplus f) (all does f.body
-    (record {
+-- where a function's body is: under the handlers of the call, in an activation of its own
+abbrev pub inside : Function → (activation : ℕ) → Context → Context
+inside f k context =
+    record {
       handlers = context.handlers;
-      activation = length st.frames;
+      activation = k;
+      data_part = part_of f.data_frame;
       exception = no_exception;
       abnormal = false;
-    })
-    (with_activation number (vs ++ replicate (length f.locals) 0)
-    (hold_surplus (surplus f) st)))))
+    }
+
+-- the body of the function of this number, in an activation whose locals are 0 beside the
+-- parameters. An activation counts its function's weight in the depth, and what that is above 1 in
+-- steps, where it begins
+abbrev pub enter : Program → Does → ℕ → Option Function → List ℕ → Context → State → Outcome
+enter program does number None vs context st = Gives (Value 0) st
+enter program does number (Some f) vs context st =
+    deeper (weight f) st (λ st. counting (surplus f) st
+    (λ st. ended_call (length st.frames) (surplus f)
+    (close_part (part_of f.data_frame) (length st.frames)
+    (open_frame program f.data_frame (length st.frames)
+    (with_activation number (vs ++ replicate (length f.locals) 0) (hold_surplus (surplus f) st))
+    (all does f.body (inside f (length st.frames) context))))))
 
 abbrev pub call_built_in : Does → BuiltIn → List ℕ → Context → State → Outcome
 call_built_in does Put vs context st =
@@ -196,6 +215,8 @@ call_built_in does Walk vs context st =
 
 abbrev pub node : Program → Does → Node → Context → State → Outcome
 node program does (nodes.Constant z n) context st = Gives (Value n) st
+node program does (nodes.StackedArray base offset) context st =
+    Gives (Value (stacked_address base offset context st)) st
 node program does (nodes.Read p) context st =
     with_value (locate does p context st) (λ a st. read program does p a context st)
 node program does (nodes.AddressOf p) context st = does (Locate p) context st
@@ -242,7 +263,8 @@ node program does (nodes.Conditional c e f) context st =
 node program does (nodes.Comma e f) context st =
     with_value (does (Eval e) context st) (λ x st. does (Eval f) context st)
 node program does (nodes.Call f es) context st =
-    each does es context st (λ vs st. enter does f (slice_get program.functions f) vs context st)
+    each does es context st
+    (λ vs st. enter program does f (slice_get program.functions f) vs context st)
 node program does (nodes.CallBuiltIn k es) context st =
     each does es context st (λ vs st. call_built_in does k vs context st)
 node program does nodes.ExceptionCode context st = Gives (Value context.exception.code) st

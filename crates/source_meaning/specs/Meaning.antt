@@ -18,6 +18,7 @@ use Rattle.source_meaning.specs.Expressions.{no_exception, operate, locate, all,
 use Rattle.source_meaning.specs.Expressions.{expression}
 use Rattle.source_meaning.specs.Statements.{in_loop, landing, finally_after, statement, for_iteration}
 use Rattle.source_meaning.specs.Statements.{do_iteration}
+use Rattle.source_meaning.specs.DataStack.{given, close, clear}
 use Rattle.source_meaning.specs.Raises.{raise_event, search, run_filter, run_finally}
 use Rattle.source_meaning.specs.State.{emit, counting}
 
@@ -25,7 +26,7 @@ use Rattle.source_meaning.specs.State.{emit, counting}
 abbrev pub perform : Program → Does → Does
 perform program does (Eval e) context st = expression program does e context st
 perform program does (Locate p) context st = locate does p context st
-perform program does (Run s) context st = statement does s context st
+perform program does (Run s) context st = statement program does s context st
 perform program does (ForIteration c next s) context st = for_iteration does c next s context st
 perform program does (DoIteration s c) context st = do_iteration does s c context st
 perform program does (TryBody ss) context st = all does ss context st
@@ -57,7 +58,14 @@ start program n =
     }
 
 abbrev pub outside : Context
-outside = record { handlers = []; activation = 0; exception = no_exception; abnormal = false }
+outside =
+    record {
+      handlers = [];
+      activation = 0;
+      data_part = None;
+      exception = no_exception;
+      abnormal = false;
+    }
 
 -- the argument of the run goes to a `main` that has a parameter
 abbrev pub for_parameters : List Size → ℕ → List ℕ
@@ -71,7 +79,8 @@ main_arguments (Some f) arg = for_parameters f.parameters (wrapped W64 arg)
 abbrev pub ran : Program → ℤ → ℕ → Outcome
 ran program arg n =
     let main = slice_get program.functions program.main in
-    enter (does program) program.main main (main_arguments main arg) outside (start program n)
+    enter program (does program) program.main main (main_arguments main arg) outside
+    (start program n)
 
 -- the events within some steps, and the end, if it is within them too
 abbrev pub shows : Outcome → Shown Ended
@@ -97,5 +106,5 @@ Calm program arg n = is_calm (meaning program arg n).end
 -- what a proof opens, by `unfolding computed`, to compute a meaning
 unfoldable pub computed : ℕ
 unfolding choose deeper counting with_value and_then ended_call in_loop landing finally_after
-    counted first_refused number_at with_number
+    counted first_refused number_at with_number given close clear
 computed = 0

@@ -124,7 +124,7 @@ break_through_finally =
     record {
       functions =
           function [] (Int ∷ [])
-          (Declare (record { local = 0; value = None })
+          (Declare (record { local = 0; stacked = None; value = None })
           ∷ For [] (Some (kept (Assign (Local 0) (lit 0))))
           (Some (kept (compare Less (local 0) (lit 3))))
           (Some (kept (Increment Postfix (Local 0) Kept (Pure (pures.Add Int)) 1 Kept)))
@@ -220,9 +220,10 @@ operators =
           function [] (Int ∷ Long ∷ [])
           (Declare (record {
             local = 0;
+            stacked = None;
             value = Some (On (Constant Int 127) (Extend Signed W8 Int));
           })
-          ∷ Declare (record { local = 1; value = Some (address FIRST_DATA) })
+          ∷ Declare (record { local = 1; stacked = None; value = Some (address FIRST_DATA) })
           ∷ put (long (Increment Postfix (Local 0) Kept (Pure (pures.Add Int)) 1
           (Extend Signed W8 Int)))
           ∷ put (long (Read (Local 0)))
@@ -272,7 +273,7 @@ sum_to_argument =
     record {
       functions =
           function (Long ∷ []) (Long ∷ [])
-          (Declare (record { local = 1; value = Some (long (Constant Int 0)) })
+          (Declare (record { local = 1; stacked = None; value = Some (long (Constant Int 0)) })
           ∷ For [] None (Some (kept (Binary (Pure (pures.Compare Greater Signed Long)) (local 0)
           (long (Constant Int 0))))) None
           (Block (statements
@@ -296,7 +297,7 @@ loops =
     record {
       functions =
           function [] (Int ∷ [])
-          (Declare (record { local = 0; value = None })
+          (Declare (record { local = 0; stacked = None; value = None })
           ∷ DoWhile (Block (statements
           (evaluate (Increment Postfix (Local 0) Kept (Pure (pures.Add Int)) 1 Kept)
           ∷ If (kept (equal (local 0) (lit 2))) Continue ∷ put (long (Read (Local 0))) ∷ [])))

@@ -12,6 +12,7 @@ use Rattle.source_meaning.specs.declared.ended.Ended.TheVariants.{Unhandled}
 use Rattle.source_meaning.specs.State.{Exception, State, Value, Normal, Target, End, Outcome, Gives}
 use Rattle.source_meaning.specs.State.{choose, emit, hold, let_go, deeper, with_value, and_then}
 use Rattle.source_meaning.specs.Tasks.{Handler, Context, Eval, Raise, RunFilter, Does}
+use Rattle.source_meaning.specs.DataStack.{reset_pointer_if}
 use Rattle.source_meaning.specs.Expressions.{all}
 
 -- what is raised where a noncontinuable exception is continued
@@ -49,6 +50,7 @@ run_filter does k e h exc context st =
     with_value (does (Eval e) (record {
       handlers = context.handlers;
       activation = h.activation;
+      data_part = None;
       exception = exc;
       abnormal = h.abnormal;
     }) (emit (events.Filter k) (hold st)))
@@ -58,4 +60,6 @@ abbrev pub run_finally : Does → ℕ → Statements → Bool → Context → St
 run_finally does k last flag context st =
     deeper 2 st (λ st.
     and_then (all does last (record context { abnormal = flag })
-    (emit (events.Finally k flag) (hold st))) (λ st. Gives Normal (let_go st)))
+    (emit (events.Finally k flag)
+    (hold (reset_pointer_if flag context.data_part context.activation st))))
+    (λ st. Gives Normal (let_go st)))

@@ -1,5 +1,5 @@
 -- Short forms of the parts of programs that are written by hand.
-use Rattle.std.specs.Prelude.{ℕ, List, [], ◌∷◌, ◌++◌, length, Some}
+use Rattle.std.specs.Prelude.{ℕ, List, [], ◌∷◌, ◌++◌, length, Some, None}
 use Rattle.seh_num.specs.declared.width.Width.TheVariants.{W32, W64}
 use Rattle.c_operations.specs.declared.operation.Operation.TheVariants.{Pure, Divide}
 use Rattle.c_operations.specs.declared.operation.Pure.TheVariants as pures
@@ -119,6 +119,7 @@ function parameters locals body =
       name = [];
       parameters = parameters;
       locals = locals;
+      data_frame = None;
       returns = Some Int;
       body = statements body;
     }

@@ -3,6 +3,8 @@ use Rattle.std.specs.Prelude.{ℕ, zero, suc, Bool, List, Option, None}
 use Rattle.c_operations.specs.declared.operation.Operation.{Operation}
 use Rattle.c_checked.specs.Expression.{Expression, Lvalue}
 use Rattle.c_checked.specs.Statement.{Filter, Statement, Statements}
+pub use Rattle.c_checked.specs.declared.function.DataPart.{DataPart}
+pub use Rattle.c_checked.specs.Program.{part_of}
 use Rattle.source_meaning.specs.State.{Exception, State, End, Outcome, Gives}
 
 -- a handler: its filter, its activation, and what AbnormalTermination answers there
@@ -11,11 +13,13 @@ pub record Handler : Type 0 where
   pub activation : ℕ
   pub abnormal : Bool
 
--- the handlers around a place, innermost first; its activation; the exception that the innermost
--- filter or `__except` block around it is about, and what AbnormalTermination answers there
+-- the handlers around a place, innermost first; its activation, and what that has of the data
+-- stack, which isn't asked for in a filter; the exception that the innermost filter or `__except`
+-- block around it is about, and what AbnormalTermination answers there
 pub record Context : Type 0 where
   pub handlers : List Handler
   pub activation : ℕ
+  pub data_part : Option DataPart
   pub exception : Exception
   pub abnormal : Bool
 

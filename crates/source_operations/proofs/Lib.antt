@@ -1,3 +1,4 @@
 pub mod Bytes
+pub mod DataStack
 pub mod FirstMemory
 pub mod Loads

@@ -41,4 +41,8 @@ number_of r = None
 -- the number that an operation gives which changes no memory
 abbrev pub computed : (ℕ → Bool) → Operation → ℕ → ℕ → Memory → Option ℕ
 computed reserved (operations.Store w) a b m = None
+computed reserved (operations.Allocate n) a b m = None
+computed reserved (operations.SetPointer n) a b m = None
+computed reserved (operations.Place w offset) a b m = None
+computed reserved (operations.Clear w offset) a b m = None
 computed reserved o a b m = number_of (performing.performed reserved o a b m)

@@ -5,11 +5,12 @@ ghost use Rattle.source_meaning.specs.Source as model;
 ghost use Rattle.x64_memory.specs.PageMaps.{memory_of};
 ghost use Rattle.source_operations.specs.Regions as specs;
 
-use host_layout::range::{FIRST_DATA, PAGE};
+use crate::data_stack::set_pointer;
+use host_layout::range::{FIRST_DATA, FIRST_DATA_STACK, PAGE};
 use seh_num::limit::MOST_GLOBALS;
 use std::alloc::{AllocError, Global};
 use x64_memory::page_map::PageMap;
-use x64_memory::region::{ARENA, Region};
+use x64_memory::region::{ARENA, DATA_STACK, Region};
 
 /// The end of the pages of the globals, of which there is one at least.
 pub fn data_end(globals: &[u8]) -> u64
@@ -19,8 +20,9 @@ pub fn data_end(globals: &[u8]) -> u64
     FIRST_DATA + PAGE * ((globals.len() as u64).saturating_sub(1) / PAGE + 1)
 }
 
-/// The arena, whose pages have no rights, and the globals, which may be read and written.
-fn regions(data_end: u64) -> [Region; 2]
+/// The arena, whose pages have no rights, and the data stack and the globals, which may be read and
+/// written.
+fn regions(data_end: u64) -> [Region; 3]
     ensures { result ≡ specs.regions data_end }
 {
     let data = Region {
@@ -30,7 +32,7 @@ fn regions(data_end: u64) -> [Region; 2]
         write: true,
         execute: false,
     };
-    [ARENA, data]
+    [ARENA, DATA_STACK, data]
 }
 
 /// The memory that a program with these globals begins with. Only the system's memory can be
@@ -42,5 +44,6 @@ pub fn first_memory(alloc: Global, globals: &[u8]) -> Result<PageMap, AllocError
     let regions = regions(data_end(globals));
     let mut space = PageMap::new(alloc, &regions)?;
     space.fill(FIRST_DATA, globals);
+    set_pointer(&mut space, FIRST_DATA_STACK);
     Ok(space)
 }

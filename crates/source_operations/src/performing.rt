@@ -1,12 +1,14 @@
-//! Operations that may fault.
+//! Operations that may fault or change memory.
 
 ghost use Rattle.std.specs.Prelude.{◌≡◌, false};
 ghost use Rattle.flat_memory.specs.Memory.{Memory};
 ghost use Rattle.c_operations.specs.Performed as spec;
+ghost use Rattle.x64_memory.specs.PageMaps.{memory_of};
 ghost use Rattle.source_operations.specs.Reserved.{reserved_below};
 ghost use Rattle.source_operations.specs.Outcomes as outcomes;
 ghost use Rattle.source_operations.specs.Outcomes.{outcome_of, is_given};
 
+use crate::data_stack::{place, pointer, set_pointer};
 use crate::pure::{result_of, width};
 use crate::reserved::first_reserved;
 use c_operations::operation::{Operation, Signedness, Size};
@@ -16,6 +18,7 @@ use seh_num::division::{DivFault, div_signed, div_unsigned};
 use seh_num::event::Code;
 use seh_num::extension::{sign_extend, wrap, zero_extend};
 use seh_num::width::Width;
+use x64_memory::page_map::PageMap;
 use x64_memory::space::AddressSpace;
 
 /// What an operation comes to.
@@ -144,16 +147,16 @@ fn store<S: AddressSpace>(
 
 /// An operation on two operands, in a memory whose globals' pages end at an address. Where it gives
 /// no number, nothing is changed.
-pub fn perform<S: AddressSpace>(
-    space: &mut S,
+pub fn perform(
+    space: &mut PageMap,
     data_end: u64,
     operation: Operation,
     first: u64,
     second: u64,
 ) -> Performed
-    ensures outcome { outcome_of result (S.memory space.new) ≡
-        spec.performed (reserved_below data_end) operation first second (S.memory space.old) }
-    ensures kept { is_given result ≡ false → S.memory space.new ≡ S.memory space.old }
+    ensures outcome { outcome_of result (memory_of space.new) ≡
+        spec.performed (reserved_below data_end) operation first second (memory_of space.old) }
+    ensures kept { is_given result ≡ false → memory_of space.new ≡ memory_of space.old }
 {
     match operation {
         Operation::Pure(operation) => Performed::Gives(result_of(operation, first, second)),
@@ -161,6 +164,30 @@ pub fn perform<S: AddressSpace>(
         Operation::Remainder(signedness, size) => remainder(signedness, width(size), first, second),
         Operation::Load(width) => load(space, data_end, width, first),
         Operation::Store(width) => store(space, data_end, width, first, second),
+        Operation::Allocate(count) => {
+            let pointer = pointer(space);
+            set_pointer(space, pointer.wrapping_add(count));
+            Performed::Gives(pointer)
+        }
+        Operation::SetPointer(count) => {
+            set_pointer(space, first.wrapping_add(count));
+            Performed::Gives(first)
+        }
+        Operation::Place { width, offset } => {
+            place(
+                space,
+                data_end,
+                width,
+                first.wrapping_add(offset),
+                second,
+                second,
+            )
+        }
+        Operation::Clear { width, offset } => {
+            let before = second.wrapping_sub(width.bytes());
+            let at = first.wrapping_add(offset).wrapping_add(before);
+            place(space, data_end, width, at, 0, before)
+        }
     }
 }
 
@@ -175,7 +202,8 @@ fn number_of(outcome: Performed) -> Option<u64>
 }
 
 /// The number that an operation on two operands gives, in a memory whose globals' pages end at an
-/// address. None where it faults, where the language says nothing of it, and of a store.
+/// address. None where it faults, where the language says nothing of it, and where it may change
+/// memory.
 pub fn compute<S: AddressSpace>(
     space: &S,
     data_end: u64,
@@ -195,6 +223,10 @@ pub fn compute<S: AddressSpace>(
             number_of(remainder(signedness, width(size), first, second))
         }
         Operation::Load(width) => number_of(load(space, data_end, width, first)),
-        Operation::Store(_) => None,
+        Operation::Store(_)
+        | Operation::Allocate(_)
+        | Operation::SetPointer(_)
+        | Operation::Place { .. }
+        | Operation::Clear { .. } => None,
     }
 }

@@ -158,6 +158,11 @@ pub fn result_of(operation: Pure, first: u64, second: u64) -> u64
             zero_extend(width(size), first),
             zero_extend(width(size), second),
         ),
+        Pure::MultiplyBy(factor) => product(
+            Width::W64,
+            zero_extend(Width::W64, first),
+            zero_extend(Width::W64, factor),
+        ),
         Pure::And(size) => zero_extend(width(size), first) & zero_extend(width(size), second),
         Pure::Or(size) => zero_extend(width(size), first) | zero_extend(width(size), second),
         Pure::Xor(size) => zero_extend(width(size), first) ^ zero_extend(width(size), second),

@@ -4,7 +4,10 @@ ghost use Rattle.std.specs.Prelude.{◌≡◌, not};
 ghost use Rattle.flat_memory.specs.Memory.{first_refused};
 ghost use Rattle.source_operations.specs.Reserved.{reserved_below};
 
-use host_layout::range::{FIRST_DATA, GUARD_START, IMAGE_BASE, IMAGE_RANGE_END, STACK_END};
+use host_layout::range::{
+    DATA_STACK_START, FIRST_DATA, FIRST_DATA_STACK, GUARD_START, IMAGE_BASE, IMAGE_RANGE_END,
+    STACK_END,
+};
 
 /// Whether an address is reserved, where the globals' pages end at another.
 pub fn is_reserved(data_end: u64, address: u64) -> bool
@@ -13,7 +16,8 @@ pub fn is_reserved(data_end: u64, address: u64) -> bool
     let in_stack = GUARD_START <= address && address < STACK_END;
     let in_image = IMAGE_BASE <= address && address < IMAGE_RANGE_END;
     let in_data = FIRST_DATA <= address && address < data_end;
-    in_stack || (in_image && !in_data)
+    let in_pointer = DATA_STACK_START <= address && address < FIRST_DATA_STACK;
+    in_stack || (in_image && !in_data) || in_pointer
 }
 
 /// The first reserved address of some.

@@ -42,6 +42,8 @@ use Rattle.source_plans.specs.declared.frame.ContinuationFrame.{ContinuationFram
 use Rattle.source_plans.specs.declared.frame.ContinuationFrame.TheVariants as frame_kinds
 use Rattle.source_plans.specs.declared.frame.Finish.{Finish}
 use Rattle.source_plans.specs.declared.frame.Finish.TheVariants as finishes
+use Rattle.source_plans.specs.declared.frame.StackAction.{StackAction}
+use Rattle.source_plans.specs.declared.frame.StackAction.TheVariants as stack_actions
 use Rattle.source_plans.specs.declared.frame.Action.{Action}
 use Rattle.source_plans.specs.declared.frame.Action.TheVariants as actions
 use Rattle.source_plans.specs.declared.frame.Next.{Next}
@@ -55,6 +57,7 @@ abbrev pub place_of : Place → frames.Place
 place_of p =
     record {
       activation = p.activation;
+      data_part = p.data_part;
       exception = exception_of p.exception;
       abnormal = p.abnormal;
     }
@@ -193,6 +196,8 @@ for_frame_of for_parts.Tests k p = frames.TestsFor k p
 
 abbrev pub statement_frame_of : StatementFrame → frames.StatementFrame
 statement_frame_of (in_statements.Initialises x p) = frames.Initialises x (place_of p)
+statement_frame_of (in_statements.InitialisesStacked v p) =
+    frames.InitialisesStacked v.now (place_of p)
 statement_frame_of in_statements.EndsEvaluation = frames.EndsEvaluation
 statement_frame_of (in_statements.Branches s t p) =
     frames.Branches (statement s.now.value) (option_map (λ t. statement t.now.value) t) (place_of p)
@@ -227,7 +232,7 @@ waiting_of (waiting.Assignment f) = frames.Assignment (assignment_frame_of f)
 waiting_of (waiting.Statement f) = frames.InStatement (statement_frame_of f)
 waiting_of (waiting.Sequel f) = frames.Sequel (sequel_frame_of f)
 waiting_of (waiting.Body f) = frames.Body (body_frame_of f)
-waiting_of (waiting.EndsCall n s) = frames.EndsCall n s
+waiting_of (waiting.EndsCall n s part) = frames.EndsCall n s part
 waiting_of (waiting.Lands held block p) =
     frames.Lands held (all_statements block.now.items) (place_of p)
 waiting_of (waiting.Finishes k last p) =
@@ -248,6 +253,11 @@ abbrev pub phased : Phase → tasks.Task → frames.Place → frames.Next
 phased phases.Before task p = frames.Start task p
 phased phases.After task p = frames.Begin task p
 
+abbrev pub stack_action_of : StackAction → frames.Place → frames.Next
+stack_action_of (stack_actions.Find base offset) p = frames.FindStacked base offset p
+stack_action_of (stack_actions.Put v x) p = frames.PutStacked v.now x p
+stack_action_of (stack_actions.Clear v n) p = frames.ClearElements v.now n p
+
 abbrev pub action_of : Action → frames.Next
 action_of (actions.Over how) = frames.Over (finish_of how)
 action_of (actions.Give how) = frames.Give (result_of how)
@@ -262,6 +272,7 @@ action_of (actions.DeclareEach ds i p) =
     frames.DeclareEach (declared_from ds.now.items i) (place_of p)
 action_of (actions.DeclareName d p) = frames.DeclareName (statements.declared d.now) (place_of p)
 action_of (actions.SetLocal x v p) = frames.SetLocal x v (place_of p)
+action_of (actions.OnStack a p) = stack_action_of a (place_of p)
 action_of (actions.Guard body f block p) =
     frames.Guard (all_statements body.now.items) (filter f.now) (all_statements block.now.items)
     (place_of p)

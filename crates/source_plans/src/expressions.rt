@@ -10,7 +10,7 @@ ghost use Rattle.source_plans.specs.Views.{place_of, plan_of};
 
 use crate::frame::{
     Action, AssignmentFrame, Callee, Completion, Compound, ContinuationFrame, Next, OperandFrame,
-    Phase, Plan, Stepped, Waiting,
+    Phase, Plan, StackAction, Stepped, Waiting,
 };
 use crate::place::Place;
 use crate::task::Task;
@@ -91,6 +91,14 @@ pub fn expression_plan<'p>(expr: &'p Expr, place: Place) -> Plan<'p>
     )
 }
 
+/// For what stands so many bytes above the base that a local keeps.
+fn stacked_plan<'p>(base: u64, offset: u64, place: Place) -> Plan<'p>
+    ensures { plan_of result ≡ frames.Then (frames.FindStacked base offset (place_of place)) }
+{
+    let find = StackAction::Find { base, offset };
+    then(Next::Does(Action::OnStack(find, place)))
+}
+
 /// For a place that is found.
 pub fn find_plan<'p>(target: &'p Lvalue, place: Place) -> Plan<'p>
     ensures { plan_of result ≡ plans.find_plan (tree.lvalue target.now) (place_of place) }
@@ -98,6 +106,7 @@ pub fn find_plan<'p>(target: &'p Lvalue, place: Place) -> Plan<'p>
     match target {
         Lvalue::Local(_) => gives(0),
         Lvalue::Global { address, .. } => gives(*address),
+        Lvalue::Stacked { base, offset, .. } => stacked_plan(*base, *offset, place),
         Lvalue::Indirection { pointer, .. } => then(evaluates(pointer, place)),
         Lvalue::Element { array, index, .. } => {
             operand(OperandFrame::EvaluatesIndex(index, place), array, place)
@@ -262,6 +271,7 @@ pub fn node_plan<'p>(alloc: Global, node: &'p Node, place: Place) -> Plan<'p>
 {
     match node {
         Node::Constant { value, .. } => gives(*value),
+        Node::StackedArray { base, offset } => stacked_plan(*base, *offset, place),
         Node::Read(target) => read_plan(target, place),
         Node::AddressOf(target) => then(start(Task::Locate(target), place)),
         Node::Assign { target, value } => assign_plan(target, value, place),

@@ -3,7 +3,8 @@
 use crate::place::{Exception, Place};
 use crate::task::{ForLoop, Task};
 use c_checked::expression::{Access, Conversion, Expr, Fixity, Lvalue, Node};
-use c_checked::statement::{Declared, Filter, Stmt};
+use c_checked::function::DataPart;
+use c_checked::statement::{Declared, Filter, StackedVariable, Stmt};
 use c_operations::built_in::BuiltIn;
 use c_operations::operation::{Operation, Pure};
 use source_meaning::ended::Ended;
@@ -103,6 +104,7 @@ pub enum Phase {
 #[derive(Clone, Copy, Drop)]
 pub enum StatementFrame<'p> {
     Initialises(u64, Place),
+    InitialisesStacked(&'p StackedVariable, Place),
     EndsEvaluation,
     /// The statement where the condition isn't 0, and the one where it is.
     Branches(&'p Box<Stmt>, Option<&'p Box<Stmt>>, Place),
@@ -156,8 +158,9 @@ pub enum Waiting<'p> {
     Statement(StatementFrame<'p>),
     Sequel(SequelFrame<'p>),
     Body(BodyFrame<'p>),
-    /// The end of a call: how many activations there were before it, and its function's surplus.
-    EndsCall(usize, u64),
+    /// The end of a call: how many activations there were before it, its function's surplus, and
+    /// what its activation has of the data stack.
+    EndsCall(usize, u64, Option<DataPart>),
     /// The end of a `__try` with an `__except`, whose handler is the machine's last: what was held
     /// where it was entered, and its block.
     Lands(u64, &'p Vec<Stmt>, Place),
@@ -182,6 +185,17 @@ pub enum Finish {
     OutOfSteps,
 }
 
+/// What is done with what stands on the data stack.
+#[derive(Clone, Copy, Drop)]
+pub enum StackAction<'p> {
+    /// The address of what stands so many bytes above the base that a local keeps is given.
+    Find { base: u64, offset: u64 },
+    /// A variable takes a number.
+    Put(&'p StackedVariable, u64),
+    /// So many elements of an array become 0, the last one first.
+    Clear(&'p StackedVariable, u64),
+}
+
 /// What is to be done next, other than to pass arguments.
 #[derive(Clone, Copy, Drop)]
 pub enum Action<'p> {
@@ -200,6 +214,7 @@ pub enum Action<'p> {
     DeclareEach(&'p Vec<Declared>, usize, Place),
     DeclareName(&'p Declared, Place),
     SetLocal(u64, u64, Place),
+    OnStack(StackAction<'p>, Place),
     /// A `__try` with an `__except` is entered.
     Guard(&'p Vec<Stmt>, &'p Filter, &'p Vec<Stmt>, Place),
     /// A filter's answer.

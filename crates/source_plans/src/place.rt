@@ -1,5 +1,6 @@
 //! Where a part of a program runs.
 
+use c_checked::function::DataPart;
 use c_checked::statement::Filter;
 use seh_num::code::NONCONTINUABLE_EXCEPTION;
 
@@ -20,6 +21,8 @@ pub struct Exception {
 pub struct Place {
     /// The activation's index, the outermost being 0.
     pub activation: usize,
+    /// What the activation has of the data stack; None in a filter.
+    pub data_part: Option<DataPart>,
     /// The exception that a filter is asked about, or that an `__except` block took over; elsewhere
     /// `NO_EXCEPTION`.
     pub exception: Exception,

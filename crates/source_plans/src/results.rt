@@ -11,7 +11,7 @@ ghost use Rattle.source_plans.specs.Views.{place_of, plan_of};
 use crate::expressions::{evaluates, gives, operand, push, start, then};
 use crate::frame::{
     Action, AssignmentFrame, BodyFrame, Callee, Completion, Compound, ContinuationFrame, ForPart,
-    Next, OperandFrame, Plan, SequelFrame, StatementFrame, Stepped, Waiting,
+    Next, OperandFrame, Plan, SequelFrame, StackAction, StatementFrame, Stepped, Waiting,
 };
 use crate::place::{Exception, NONCONTINUABLE, Place};
 use crate::statements::{branch, ends, first_plan, for_body, iterate, tested};
@@ -258,6 +258,10 @@ pub fn in_statement_plan<'p>(frame: StatementFrame<'p>, value: u64) -> Plan<'p>
     match frame {
         StatementFrame::Initialises(local, place) => {
             then(Next::Does(Action::SetLocal(local, value, place)))
+        }
+        StatementFrame::InitialisesStacked(variable, place) => {
+            let put = StackAction::Put(variable, value);
+            then(Next::Does(Action::OnStack(put, place)))
         }
         StatementFrame::EndsEvaluation => ends(),
         StatementFrame::Branches(yes, no, place) => branch(value == 0, yes, no, place),

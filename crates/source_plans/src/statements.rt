@@ -17,7 +17,7 @@ use crate::frame::{
 use crate::place::Place;
 use crate::task::{ForLoop, Task};
 use c_checked::expression::Expr;
-use c_checked::statement::{Declared, Stmt};
+use c_checked::statement::{Declared, StackedVariable, Stmt};
 
 /// A statement is run, or a part of one that ends normally.
 pub fn ends<'p>() -> Plan<'p>
@@ -113,6 +113,24 @@ pub fn initialise_plan<'p>(declared: &'p Declared, place: Place) -> Plan<'p>
         &declared.value,
         place,
         then(Next::Does(Action::SetLocal(declared.local, 0, place))),
+    )
+}
+
+/// For a variable on the data stack, which is 0: its initialiser.
+pub fn initialise_stacked_plan<'p>(
+    variable: &'p StackedVariable,
+    value: &'p Option<Expr>,
+    place: Place,
+) -> Plan<'p>
+    ensures { let p = place_of place in plan_of result
+        ≡ plans.evaluated (frames.InitialisesStacked variable.now p)
+        (option_map tree.expression value.now) p plans.ends }
+{
+    evaluated(
+        StatementFrame::InitialisesStacked(variable, place),
+        value,
+        place,
+        ends(),
     )
 }
 

@@ -1,3 +1,5 @@
+pub mod StackedPlaces
+pub mod Stacked
 pub mod Stacks
 pub mod LocalsLemmas
 pub mod Handlers

@@ -4,3 +4,4 @@ pub mod Functions
 pub mod Machines
 pub mod Finished
 pub mod Directly
+pub mod DataStack

@@ -4,6 +4,7 @@ ghost use Rattle.std.specs.Prelude.{◌≡◌, ◌++◌, [], ◌∷◌, List, If
 ghost use Rattle.seh_num.specs.declared.width.Width.TheVariants.{W32};
 ghost use Rattle.seh_num.specs.Widths.{signed};
 ghost use Rattle.source_meaning.specs.Expressions.{raised};
+ghost use Rattle.source_meaning.specs.Source.{data_end as model_data_end};
 ghost use Rattle.seh_num.specs.declared.event.Event.{Event as Event'};
 ghost use Rattle.c_checked.specs.Program as programs;
 ghost use Rattle.c_checked.specs.Whole as whole;
@@ -12,6 +13,7 @@ ghost use Rattle.source_machine.specs.Machine as model;
 ghost use Rattle.source_plans.specs.Views as views;
 ghost use Rattle.source_plans.specs.Views.{place_of};
 ghost use Rattle.source_steps.specs.Machines.{machine_of, shown_after, Moved, Showed};
+ghost use Rattle.source_steps.specs.DataStack.{activated};
 
 use crate::activations::with_zeros;
 use crate::functions::FunctionNumber;
@@ -61,18 +63,51 @@ fn raised(code: u64, flags: u64) -> Exception
 }
 
 impl<'p> Machine<'p> {
+    /// An activation begins of the function of this number, whose surplus is this.
+    fn activate(
+        &mut self,
+        data_end: u64,
+        number: FunctionNumber,
+        function: &'p Function,
+        values: Vec<u64>,
+        surplus: u64,
+    ) -> Result<Next<'p>, AllocError>
+        ensures { (p : programs.Program) → data_end ≡ model_data_end p.globals → IfOk result
+            (Moved self.old self.new (λ m. activated p m number.value
+            (programs.function function.now) values.items surplus)) }
+    {
+        let activation = self.activations.len();
+        let locals = with_zeros(values, function.locals.len())?;
+        self.activations.push(locals)?;
+        self.functions.push(number)?;
+        if let Some(how) = self.open_frame(data_end, &function.data_frame, activation) {
+            return Ok(Next::Does(Action::Over(how)));
+        }
+        let data_part = function.data_part();
+        self.push(ContinuationFrame::Waits(Waiting::EndsCall(activation, surplus, data_part)))?;
+        let place = Place {
+            activation,
+            data_part,
+            exception: NO_EXCEPTION,
+            abnormal: false,
+        };
+        Ok(Next::Does(Action::Proceed(&function.body, 0, place)))
+    }
+
     /// The body of the function of this number, in an activation of its own, which counts the
     /// function's weight in the depth, and its surplus in steps.
     fn enter(
         &mut self,
+        data_end: u64,
         number: FunctionNumber,
         function: &'p Function,
         values: Vec<u64>,
     ) -> Result<Next<'p>, AllocError>
-        ensures { IfOk result (Moved self.old self.new (λ m. model.entered m number.value (Some
+        ensures { (p : programs.Program) → data_end ≡ model_data_end p.globals → IfOk result
+            (Moved self.old self.new (λ m. model.entered p m number.value (Some
             (programs.function function.now)) values.items)) }
     {
-        let surplus = function.surplus();
+        let surplus = function.frame_surplus() + function.data_surplus();
         if self.is_deep(1 + surplus) {
             return Ok(too_deep());
         }
@@ -81,17 +116,7 @@ impl<'p> Machine<'p> {
         }
         self.steps_left -= surplus;
         self.held = self.held.saturating_add(surplus);
-        let activation = self.activations.len();
-        let locals = with_zeros(values, function.locals.len())?;
-        self.activations.push(locals)?;
-        self.functions.push(number)?;
-        self.push(ContinuationFrame::Waits(Waiting::EndsCall(activation, surplus)))?;
-        let place = Place {
-            activation,
-            exception: NO_EXCEPTION,
-            abnormal: false,
-        };
-        Ok(Next::Does(Action::Proceed(&function.body, 0, place)))
+        self.activate(data_end, number, function, values, surplus)
     }
 
     /// A built-in function is called.
@@ -128,10 +153,12 @@ impl<'p> Machine<'p> {
     pub fn call(
         &mut self,
         program: &'p Checked,
+        data_end: u64,
         callee: Callee,
         values: Vec<u64>,
         place: Place,
     ) -> Result<MachineStep<'p>, AllocError>
+        requires { data_end ≡ model_data_end program.now.globals.items }
         ensures { IfOk result (Showed self.old self.new (λ m. model.called
             (whole.program program.now) m (views.callee_of callee) values.items
             (place_of place))) }
@@ -142,7 +169,7 @@ impl<'p> Machine<'p> {
                 None => Ok(silent(Next::Does(Action::Give(Completion::Value(0))))),
                 Some(function) => {
                     let number = FunctionNumber::new(program, index);
-                    Ok(silent(self.enter(number, function, values)?))
+                    Ok(silent(self.enter(data_end, number, function, values)?))
                 }
             },
         }

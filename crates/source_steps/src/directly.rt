@@ -125,6 +125,7 @@ impl<'p> Machine<'p> {
                 true
             }
             Lvalue::Global { access, .. } => self.store(data_end, access.width, address, value),
+            Lvalue::Stacked { access, .. } => self.store(data_end, access.width, address, value),
             Lvalue::Indirection { access, .. } => {
                 self.store(data_end, access.width, address, value)
             }

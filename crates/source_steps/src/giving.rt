@@ -14,6 +14,7 @@ ghost use Rattle.source_steps.specs.Finished.{resumed_from};
 
 use crate::machine::{Machine, MachineStep, showing, silent, silently};
 use c_checked::expression::Expr;
+use c_checked::function::DataPart;
 use c_checked::statement::Stmt;
 use seh_num::event::{Code, Event};
 use source_plans::expressions::start;
@@ -65,33 +66,47 @@ impl<'p> Machine<'p> {
         self.held = self.held.saturating_sub(surplus);
     }
 
-    /// The end of a call, of a function with this surplus.
+    /// The activations beyond so many are gone, with the surplus of the outermost of them.
+    fn leave_activations(&mut self, count: usize, surplus: u64)
+        ensures { (x : frames.Next) (es : List Event') → model.with_activations
+            (machine_of self.old x es) count surplus ≡ machine_of self.new x es }
+    {
+        self.activations.truncate(count);
+        self.functions.truncate(count);
+        self.let_go_surplus(surplus);
+    }
+
+    /// The end of a call, of a function with this surplus, and what its activation has of the data
+    /// stack.
     fn leave_call(
         &mut self,
         count: usize,
         surplus: u64,
+        part: Option<DataPart>,
         how: Completion,
     ) -> Result<Next<'p>, AllocError>
         ensures { IfOk result (Moved self.old self.new (λ m. model.left_call m count surplus
-            (views.result_of how))) }
+            part (views.result_of how))) }
     {
-        self.activations.truncate(count);
-        self.functions.truncate(count);
         match how {
             Completion::Normal => {
-                self.let_go_surplus(surplus);
+                self.close_part(part, count);
+                self.leave_activations(count, surplus);
                 Ok(Next::Does(Action::Give(Completion::Value(0))))
             }
             Completion::Returned(value) => {
-                self.let_go_surplus(surplus);
+                self.close_part(part, count);
+                self.leave_activations(count, surplus);
                 Ok(Next::Does(Action::Give(Completion::Value(value))))
             }
             Completion::Target(level, exception) => {
+                self.activations.truncate(count);
+                self.functions.truncate(count);
                 self.hold_activation()?;
                 Ok(Next::Does(Action::Give(Completion::Target(level, exception))))
             }
             other => {
-                self.let_go_surplus(surplus);
+                self.leave_activations(count, surplus);
                 Ok(Next::Does(Action::Give(other)))
             }
         }
@@ -114,8 +129,10 @@ impl<'p> Machine<'p> {
             return silent(Next::Does(Action::Give(Completion::Target(level, exception))));
         }
         self.held = held;
+        self.reset_pointer(place.data_part, place.activation);
         let inside = Place {
             activation: place.activation,
+            data_part: place.data_part,
             exception,
             abnormal: place.abnormal,
         };
@@ -279,7 +296,9 @@ impl<'p> Machine<'p> {
             Waiting::Statement(frame) => silently(self.resume_statement(frame, how)),
             Waiting::Sequel(frame) => silently(self.resume_sequel(frame, how)),
             Waiting::Body(frame) => silently(self.resume_body(frame, how)),
-            Waiting::EndsCall(count, surplus) => silently(self.leave_call(count, surplus, how)),
+            Waiting::EndsCall(count, surplus, part) => {
+                silently(self.leave_call(count, surplus, part, how))
+            }
             Waiting::Lands(held, block, place) => {
                 let _ = self.handlers.pop();
                 Ok(self.resume_landing(held, block, place, how))

@@ -11,6 +11,7 @@
 
 pub mod activations;
 pub mod calls;
+pub mod data_stack;
 pub mod directly;
 pub mod functions;
 pub mod giving;

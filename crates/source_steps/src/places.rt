@@ -69,6 +69,7 @@ impl<'p> Machine<'p> {
                 Ok(Next::Does(Action::Give(Completion::Value(value))))
             }
             Lvalue::Global { access, .. } => self.load(*access, address, place),
+            Lvalue::Stacked { access, .. } => self.load(*access, address, place),
             Lvalue::Indirection { access, .. } => self.load(*access, address, place),
             Lvalue::Element { access, .. } => self.load(*access, address, place),
         }
@@ -93,6 +94,9 @@ impl<'p> Machine<'p> {
                 Next::Does(Action::Give(Completion::Value(value)))
             }
             Lvalue::Global { access, .. } => {
+                Next::Does(Action::Operate(Operation::Store(access.width), address, value, place))
+            }
+            Lvalue::Stacked { access, .. } => {
                 Next::Does(Action::Operate(Operation::Store(access.width), address, value, place))
             }
             Lvalue::Indirection { access, .. } => {

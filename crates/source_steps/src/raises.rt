@@ -71,6 +71,7 @@ impl<'p> Machine<'p> {
         self.push(ContinuationFrame::Waits(Waiting::Statement(StatementFrame::EndsFilter)))?;
         let inside = Place {
             activation: handler.activation,
+            data_part: None,
             exception,
             abnormal: handler.abnormal,
         };
@@ -92,10 +93,12 @@ impl<'p> Machine<'p> {
         if self.is_deep(2) {
             return Ok(silent(too_deep()));
         }
+        self.reset_pointer_if(abnormal, place.data_part, place.activation);
         self.held = self.held.saturating_add(2);
         self.push(ContinuationFrame::Waits(Waiting::Sequel(SequelFrame::EndsFinally)))?;
         let inside = Place {
             activation: place.activation,
+            data_part: place.data_part,
             exception: place.exception,
             abnormal,
         };

@@ -71,17 +71,35 @@ impl<'p> Machine<'p> {
         silently(self.follow(plan))
     }
 
-    /// A declared name is 0 first, in its own initialiser too.
-    fn declare(
+    /// A local is declared, which is 0 first, in its own initialiser too.
+    fn declare_local(
         &mut self,
         declared: &'p Declared,
         place: Place,
-    ) -> Result<MachineStep<'p>, AllocError>
-        ensures { IfOk result (Showed self.old self.new (λ m. model.declared m
-            (trees.declared declared.now) (place_of place))) }
+    ) -> Result<Next<'p>, AllocError>
+        ensures { (p : Program) → let d = trees.declared declared.now in IfOk result
+            (Moved self.old self.new (λ m. model.declared_at p m None d.local d.value
+            (place_of place))) }
     {
         self.set_local(declared.local, 0, place);
-        self.planned(initialise_plan(declared, place))
+        self.follow(initialise_plan(declared, place))
+    }
+
+    /// A name is declared.
+    fn declare(
+        &mut self,
+        data_end: u64,
+        declared: &'p Declared,
+        place: Place,
+    ) -> Result<Next<'p>, AllocError>
+        ensures { (p : Program) → data_end ≡ model_data_end p.globals → IfOk result
+            (Moved self.old self.new (λ m. model.declared p m (trees.declared declared.now)
+            (place_of place))) }
+    {
+        match &declared.stacked {
+            None => self.declare_local(declared, place),
+            Some(variable) => self.declare_stacked(data_end, variable, &declared.value, place),
+        }
     }
 
     /// A task, before or after its step.
@@ -129,11 +147,14 @@ impl<'p> Machine<'p> {
             Action::DeclareEach(declared, next, place) => {
                 self.planned(declare_plan(declared, next, place))
             }
-            Action::DeclareName(declared, place) => self.declare(declared, place),
+            Action::DeclareName(declared, place) => {
+                silently(self.declare(data_end, declared, place))
+            }
             Action::SetLocal(local, value, place) => {
                 self.set_local(local, value, place);
                 Ok(silent(Next::Does(Action::Give(Completion::Normal))))
             }
+            Action::OnStack(action, place) => silently(self.act_on_stack(data_end, action, place)),
             Action::Guard(body, filter, block, place) => {
                 silently(self.guard(body, filter, block, place))
             }
@@ -165,7 +186,9 @@ impl<'p> Machine<'p> {
             Next::Pass(callee, values, arguments, next, place) => {
                 self.planned(pass_plan(callee, values, arguments, next, place))
             }
-            Next::Call(callee, values, place) => self.call(program, callee, values, place),
+            Next::Call(callee, values, place) => self.call(
+                program, data_end, callee, values, place,
+            ),
         }
     }
 

@@ -10,7 +10,7 @@ use Rattle.c_checked.specs.declared.expression.Access.{Access}
 use Rattle.c_checked.specs.declared.expression.Conversion.{Conversion}
 use Rattle.c_checked.specs.declared.expression.Fixity.{Fixity}
 use Rattle.c_checked.specs.Expression as nodes
-use Rattle.c_checked.specs.Expression.{Expression, On, Node, Lvalue, Local, Global, Indirection}
+use Rattle.c_checked.specs.Expression.{Expression, On, Node, Lvalue, Local, Global, Stacked, Indirection}
 use Rattle.c_checked.specs.Expression.{Element}
 use Rattle.c_checked.specs.Program.{Program}
 use Rattle.source_meaning.specs.Source.{is_reserved}
@@ -109,6 +109,8 @@ module _ (program : Program) (st : State) (p : Place) (hs : List Handler) where
   written_leads st' (Local x) a v fs n e =
       record { steps = 1; is = ap (λ st. then' st fs n (Give (Value v))) (same_Some _ _ e) }
   written_leads st' (Global access _) a v fs n e =
+      leads_on program 1 _ _ _ refl (access_leads st' access a v fs n e)
+  written_leads st' (Stacked access _ _) a v fs n e =
       leads_on program 1 _ _ _ refl (access_leads st' access a v fs n e)
   written_leads st' (Indirection access _) a v fs n e =
       leads_on program 1 _ _ _ refl (access_leads st' access a v fs n e)

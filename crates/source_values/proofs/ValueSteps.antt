@@ -19,8 +19,8 @@ use Rattle.c_operations.specs.Performed as performing
 use Rattle.c_operations.specs.Performed.{performed}
 use Rattle.c_checked.specs.declared.expression.Access.{Access}
 use Rattle.c_checked.specs.Expression as nodes
-use Rattle.c_checked.specs.Expression.{Expression, On, Node, Lvalue, Local, Global, Indirection}
-use Rattle.c_checked.specs.Expression.{Element}
+use Rattle.c_checked.specs.Expression.{Expression, On, Node, Lvalue, Local, Global, Stacked}
+use Rattle.c_checked.specs.Expression.{Indirection, Element}
 use Rattle.c_checked.specs.Program.{Program}
 use Rattle.source_meaning.specs.Source.{is_reserved}
 use Rattle.source_meaning.specs.State.{State, Value}
@@ -119,6 +119,10 @@ computed_gives reserved (operations.Divide s z) a b m v e = quotient_gives s (wi
 computed_gives reserved (operations.Remainder s z) a b m v e = remainder_gives s (width z) a b m v e
 computed_gives reserved (operations.Load w) a b m v e = access_gives _ _ _ m v e
 computed_gives reserved (operations.Store w) a b m v e = absurd (none-some v e)
+computed_gives reserved (operations.Allocate n) a b m v e = absurd (none-some v e)
+computed_gives reserved (operations.SetPointer n) a b m v e = absurd (none-some v e)
+computed_gives reserved (operations.Place w offset) a b m v e = absurd (none-some v e)
+computed_gives reserved (operations.Clear w offset) a b m v e = absurd (none-some v e)
 
 -- ---- at a place in a state, with so many steps left
 
@@ -167,6 +171,8 @@ module _ (program : Program) (st : State) (p : Place) (hs : List Handler) where
       gives 1 _ fs (slice_index here.locals x, n) r refl
       (ap (λ (v : ℕ). (v, n)) (same_Some _ _ e) ∙ same)
   read_leads (Global access _) a fs n v r e same =
+      leads_on program 1 _ _ _ refl (load_leads access a fs n v r e same)
+  read_leads (Stacked access _ _) a fs n v r e same =
       leads_on program 1 _ _ _ refl (load_leads access a fs n v r e same)
   read_leads (Indirection access _) a fs n v r e same =
       leads_on program 1 _ _ _ refl (load_leads access a fs n v r e same)
@@ -241,6 +247,8 @@ module _ (program : Program) (st : State) (p : Place) (hs : List Handler) where
         → Leads program (at fs n (frames.Find l p)) (gave fs r)
     address_leads (Local x) fs n r e = gives 1 _ fs (0, n) r refl (same_Some _ _ e)
     address_leads (Global access a) fs n r e = gives 1 _ fs (a, n) r refl (same_Some _ _ e)
+    address_leads (Stacked access base offset) fs n r e =
+        gives 2 _ fs (spec.stacked_address here base offset, n) r refl (same_Some _ _ e)
     address_leads (Indirection access f) fs n r e =
         leads_on program 1 _ _ _ refl (value_leads f fs n r e)
     address_leads (Element access f i) fs n r e =
@@ -259,6 +267,8 @@ module _ (program : Program) (st : State) (p : Place) (hs : List Handler) where
         → spec.node_value here x n ≡ Some r
         → Leads program (at fs n (frames.Evaluate x p)) (gave fs r)
     node_leads (nodes.Constant z v) fs n r e = gives 1 _ fs (v, n) r refl (same_Some _ _ e)
+    node_leads (nodes.StackedArray base offset) fs n r e =
+        gives 2 _ fs (spec.stacked_address here base offset, n) r refl (same_Some _ _ e)
     node_leads (nodes.Read l) fs n r e =
         let a = then_from (spec.address here l n)
         (λ a left. with_left (spec.read here l a) left) r e in

@@ -11,8 +11,8 @@ use Rattle.c_operations.specs.Numbers.{result_of}
 use Rattle.c_operations.specs.Performed.{OperationResult, Gives, performed}
 use Rattle.c_checked.specs.declared.expression.Access.{Access}
 use Rattle.c_checked.specs.Expression as nodes
-use Rattle.c_checked.specs.Expression.{Expression, On, Node, Lvalue, Local, Global, Indirection}
-use Rattle.c_checked.specs.Expression.{Element}
+use Rattle.c_checked.specs.Expression.{Expression, On, Node, Lvalue, Local, Global, Stacked}
+use Rattle.c_checked.specs.Expression.{Indirection, Element}
 use Rattle.source_meaning.specs.State.{Exception, State, set_local, set_memory}
 use Rattle.source_meaning.specs.Expressions.{of_test, converted, value_of, apart, field_of}
 use Rattle.source_meaning.specs.Expressions.{incremented_value}
@@ -51,6 +51,10 @@ abbrev pub either : Bool → Option (ℕ × ℕ) → Option (ℕ × ℕ) → Opt
 either true one other = one
 either false one other = other
 
+-- where a variable on the data stack stands, by the local that keeps its base
+abbrev pub stacked_address : Surroundings → (base offset : ℕ) → ℕ
+stacked_address k base offset = result_of (Add Long) (slice_index k.locals base) offset
+
 -- ---- what is at a place that was located
 
 abbrev pub loaded : Surroundings → Access → ℕ → Option ℕ
@@ -60,6 +64,7 @@ loaded k access a =
 abbrev pub read : Surroundings → Lvalue → ℕ → Option ℕ
 read k (Local x) a = Some (slice_index k.locals x)
 read k (Global access _) a = loaded k access a
+read k (Stacked access _ _) a = loaded k access a
 read k (Indirection access _) a = loaded k access a
 read k (Element access _ _) a = loaded k access a
 
@@ -74,6 +79,7 @@ abbrev mutual
   pub address : Surroundings → Lvalue → ℕ → Option (ℕ × ℕ)
   address k (Local x) left = Some (0, left)
   address k (Global access a) left = Some (a, left)
+  address k (Stacked access base offset) left = Some (stacked_address k base offset, left)
   address k (Indirection access e) left = value k e left
   address k (Element access e i) left =
       then_with (value k e left) (λ a left.
@@ -81,6 +87,8 @@ abbrev mutual
 
   pub node_value : Surroundings → Node → ℕ → Option (ℕ × ℕ)
   node_value k (nodes.Constant z v) left = Some (v, left)
+  node_value k (nodes.StackedArray base offset) left =
+      Some (stacked_address k base offset, left)
   node_value k (nodes.Read l) left =
       then_with (address k l left) (λ a left. with_left (read k l a) left)
   node_value k (nodes.AddressOf l) left =
@@ -181,6 +189,8 @@ stored st other = None
 abbrev pub written : (ℕ → Bool) → State → Place → Lvalue → ℕ → ℕ → Option State
 written reserved st p (Local x) a v = Some (set_local st p.activation x v)
 written reserved st p (Global access _) a v =
+    stored st (performed reserved (Store access.width) a v st.memory)
+written reserved st p (Stacked access _ _) a v =
     stored st (performed reserved (Store access.width) a v st.memory)
 written reserved st p (Indirection access _) a v =
     stored st (performed reserved (Store access.width) a v st.memory)

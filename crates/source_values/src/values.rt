@@ -26,6 +26,13 @@ fn local(around: &Surroundings<'_>, local: u64) -> u64
     }
 }
 
+/// The address of a variable on the data stack, by the local that keeps its base.
+fn stacked_address(around: &Surroundings<'_>, base: u64, offset: u64) -> u64
+    ensures { result ≡ spec.stacked_address (surroundings_of around.now) base offset }
+{
+    result_of(Pure::Add(Size::Long), local(around, base), offset)
+}
+
 /// The value of what is at an address.
 fn loaded(around: &Surroundings<'_>, access: Access, address: u64) -> Option<u64>
     ensures { result ≡ spec.loaded (surroundings_of around.now) access address }
@@ -44,6 +51,7 @@ pub fn read(around: &Surroundings<'_>, target: &Lvalue, address: u64) -> Option<
     match target {
         Lvalue::Local(index) => Some(local(around, *index)),
         Lvalue::Global { access, .. } => loaded(around, *access, address),
+        Lvalue::Stacked { access, .. } => loaded(around, *access, address),
         Lvalue::Indirection { access, .. } => loaded(around, *access, address),
         Lvalue::Element { access, .. } => loaded(around, *access, address),
     }
@@ -70,6 +78,9 @@ pub fn address(around: &Surroundings<'_>, target: &Lvalue, left: u64) -> Option<
     match target {
         Lvalue::Local(_) => Some((0, left)),
         Lvalue::Global { address, .. } => Some((*address, left)),
+        Lvalue::Stacked { base, offset, .. } => {
+            Some((stacked_address(around, *base, *offset), left))
+        }
         Lvalue::Indirection { pointer, .. } => value(around, pointer, left),
         Lvalue::Element { array, index, .. } => {
             let (base, left) = value(around, array, left)?;
@@ -224,6 +235,10 @@ fn node_value(around: &Surroundings<'_>, node: &Node, left: u64) -> Option<(u64,
 {
     match node {
         Node::Constant { value, .. } => Some((*value, left)),
+        Node::StackedArray { base, offset } => Some((
+            stacked_address(around, *base, *offset),
+            left,
+        )),
         Node::Read(target) => read_value(around, target, left),
         Node::AddressOf(target) => address_value(around, target, left),
         Node::Assign { .. } => None,

@@ -87,13 +87,13 @@ pure_length (pures.Compare r s z) = compare_length r s (width z)
 pure_length (pures.Constant v) = omega arith
 pure_length p = omega arith
 
-pub work_length : (o : Operation) → length (work o) ≤ 3
-work_length (operations.Pure p) = pure_length p
+pub work_length : (o : Operation) → length (work o) ≤ 5
+work_length (operations.Pure p) = let a = pure_length p in omega arith
 work_length (operations.Divide s z) = omega arith
 work_length o = omega arith
 
 pub compute_length : (y : Layout) (to : Slot) (o : Operation) (first second : Slot)
-    → length (compute_code y to o first second) ≤ 10
+    → length (compute_code y to o first second) ≤ 12
 compute_length y to o first second =
     let a = fetch_if_length (has_first o) y Rax first in
     let b = fetch_if_length (has_second o) y Rcx second in

@@ -1,12 +1,14 @@
 -- The instructions of each operation: the first operand is in RAX, the second in RCX, where the
 -- operation reads them, and RAX takes the result.
-use Rattle.std.specs.Prelude.{ℕ, List, [], ◌∷◌, None}
+use Rattle.std.specs.Prelude.{ℕ, List, [], ◌∷◌, Some, None}
 use Rattle.seh_num.specs.declared.width.Width.{Width}
 use Rattle.seh_num.specs.declared.width.Width.TheVariants.{W8, W16, W32, W64}
-use Rattle.seh_num.specs.Widths.{low}
+use Rattle.seh_num.specs.Widths.{bytes_of, low}
+use Rattle.host_layout.specs.declared.range.TheConstants.{DATA_STACK_START}
 use Rattle.x64_instr.specs.declared.register.Reg.{Reg}
 use Rattle.x64_instr.specs.declared.register.Reg.TheVariants.{Rax, Rcx, Rdx}
 use Rattle.x64_instr.specs.declared.operand.MemRef.{MemRef}
+use Rattle.x64_instr.specs.declared.operand.Scale.TheVariants.{One}
 use Rattle.x64_instr.specs.declared.operand.Base.TheVariants as bases
 use Rattle.x64_instr.specs.declared.operand.RegisterOrMemory.TheVariants as places
 use Rattle.x64_instr.specs.declared.operand.Operand.TheVariants as operands
@@ -38,8 +40,25 @@ use Rattle.c_operations.specs.Numbers.{width}
 abbrev pub above : Reg → ℕ → MemRef
 above r d = record { base = bases.Register r; index = None; displacement = d }
 
+-- the place that two registers give together
+abbrev pub at_sum : Reg → Reg → MemRef
+at_sum r i =
+    record {
+      base = bases.Register r;
+      index = Some (record { register = i; scale = One });
+      displacement = 0;
+    }
+
+-- where the data stack's pointer stands
+abbrev pub data_pointer : MemRef
+data_pointer = record { base = bases.Nothing; index = None; displacement = DATA_STACK_START }
+
 abbrev pub move : Width → Reg → Reg → Instr
 move w to from = instrs.Move w (places.Register to) (operands.Register from)
+
+-- the low 64 bits of a number to a register
+abbrev pub set : Reg → ℕ → Instr
+set to v = instrs.Move W64 (places.Register to) (operands.Immediate (low W64 v))
 
 -- a number of 32 bits in RAX, the upper half 0, by MOVZX where it has fewer
 abbrev pub zero_extended : Width → Size → List Instr
@@ -92,8 +111,7 @@ compare relations.GreaterOrEqual s w = compared w Rax Rcx (not_less s)
 -- ---- operations without faults
 
 abbrev pub pure_code : Pure → List Instr
-pure_code (pures.Constant v) =
-    instrs.Move W64 (places.Register Rax) (operands.Immediate (low W64 v)) ∷ []
+pure_code (pures.Constant v) = set Rax v ∷ []
 pure_code pures.First = []
 pure_code (pures.Extend s from z) = extended s from z
 pure_code (pures.Not z) = instrs.Unary unary.Not (width z) (places.Register Rax) ∷ []
@@ -103,6 +121,8 @@ pure_code (pures.Add z) =
 pure_code (pures.Subtract z) =
     instrs.Arithmetic arithmetic.Sub (width z) (places.Register Rax) (operands.Register Rcx) ∷ []
 pure_code (pures.Multiply z) = instrs.Multiply (width z) Rax (places.Register Rcx) ∷ []
+pure_code (pures.MultiplyBy n) =
+    set Rcx n ∷ instrs.Multiply W64 Rax (places.Register Rcx) ∷ []
 pure_code (pures.And z) =
     instrs.Arithmetic arithmetic.And (width z) (places.Register Rax) (operands.Register Rcx) ∷ []
 pure_code (pures.Or z) =
@@ -115,9 +135,9 @@ pure_code (pures.ShiftRight s z) =
     instrs.Shift (right s) (width z) (places.Register Rax) counts.Cl ∷ []
 pure_code (pures.Compare r s z) = compare r s (width z)
 
--- ---- operations that can fault
+-- ---- operations that can fault, and those of variables on the data stack
 
--- what comes before the instruction that does, that instruction, and what comes after it
+-- what comes before the instruction that can fault, that instruction, and what comes after it
 
 abbrev pub high_half : Signedness → Width → Instr
 high_half Unsigned w = instrs.Move W32 (places.Register Rdx) (operands.Immediate 0)
@@ -146,3 +166,27 @@ work (operations.Remainder s z) =
 work (operations.Load w) = load w ∷ []
 work (operations.Store w) =
     instrs.Move w (places.Memory (above Rax 0)) (operands.Register Rcx) ∷ move W64 Rax Rcx ∷ []
+-- the pointer to RAX, and the number added to it in memory
+work (operations.Allocate n) =
+    instrs.Move W64 (places.Register Rax) (operands.Memory data_pointer)
+    ∷ set Rcx n
+    ∷ instrs.Arithmetic arithmetic.Add W64 (places.Memory data_pointer) (operands.Register Rcx)
+    ∷ []
+work (operations.SetPointer n) =
+    set Rcx n
+    ∷ instrs.Arithmetic arithmetic.Add W64 (places.Register Rcx) (operands.Register Rax)
+    ∷ instrs.Move W64 (places.Memory data_pointer) (operands.Register Rcx)
+    ∷ []
+work (operations.Place w offset) =
+    set Rdx offset
+    ∷ instrs.Move w (places.Memory (at_sum Rax Rdx)) (operands.Register Rcx)
+    ∷ move W64 Rax Rcx
+    ∷ []
+-- RCX becomes what is before the element, which stands so far above the array's first byte
+work (operations.Clear w offset) =
+    set Rdx offset
+    ∷ instrs.Arithmetic arithmetic.Add W64 (places.Register Rax) (operands.Register Rdx)
+    ∷ instrs.Arithmetic arithmetic.Sub W64 (places.Register Rcx) (operands.Immediate (bytes_of w))
+    ∷ instrs.Move w (places.Memory (at_sum Rax Rcx)) (operands.Immediate 0)
+    ∷ move W64 Rax Rcx
+    ∷ []

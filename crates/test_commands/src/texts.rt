@@ -4,7 +4,8 @@ use crate::calls::{Shown, answer, compiled, words_of};
 use crate::ways::{COMPILED, MEANING, TEXT, WAYS, all_show};
 use std::process::Abort;
 use test_texts::{
-    binary, cold_parts, depths, examples, handlers, many_locals, refused, texts, unary, walks,
+    binary, cold_parts, data_stack, depths, examples, handlers, many_locals, refused, texts, unary,
+    walks,
 };
 
 /// Expressions, calls and loops show what they mean, and a recursion returns as often as it called.
@@ -101,6 +102,18 @@ fn many_locals(rt: HostRuntime) {
 #[test]
 fn cold_parts(rt: HostRuntime) {
     all_show(&rt, rt.alloc(), &WAYS, &TEXT, cold_parts::COLD);
+}
+
+/// Arrays of functions, and variables of which an address is taken, stand on the data stack.
+#[test]
+fn data_stack(rt: HostRuntime) {
+    all_show(&rt, rt.alloc(), &WAYS, &TEXT, data_stack::VARIABLES);
+    all_show(&rt, rt.alloc(), &WAYS, &TEXT, data_stack::EXCEPTIONS);
+    all_show(&rt, rt.alloc(), &WAYS, &TEXT, data_stack::WITHIN);
+    all_show(&rt, rt.alloc(), &MEANING, &TEXT, data_stack::DEEPER);
+    all_show(&rt, rt.alloc(), &MEANING, &TEXT, data_stack::STEPS);
+    all_show(&rt, rt.alloc(), &WAYS, &TEXT, data_stack::LIMITS);
+    all_show(&rt, rt.alloc(), &WAYS, &TEXT, data_stack::RULES);
 }
 
 /// Each program shows what is beside it.

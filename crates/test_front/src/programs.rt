@@ -125,6 +125,49 @@ int f(){int a$65535$,a$;} => 1 0 0 1
 int f(){int a$65536$,a$;} => TooMany { at: 131083, what: Locals }
 ";
 
+/// Local arrays of a function have 65,536 bytes at most, each at a multiple of its element's size;
+/// other locals and other functions don't count.
+const LOCAL_ARRAYS: &str = r"
+int f(){int a[3], *b[2], c = 1, d[4] = 2;} => 1 0 0 1
+int f(){for (int a[2], b; b < 2; b++) ;} => 1 0 0 1
+int f(){int a[0x10]; a[1] = a[2];} => 1 0 0 2
+int f(){char a[65536];} => 1 0 0 1
+int f(){char a[65537];} => TooMany { at: 15, what: ArrayBytes }
+int f(){unsigned a[16384];} => 1 0 0 1
+int f(){unsigned a[16385];} => TooMany { at: 19, what: ArrayBytes }
+int f(){char *a[8192];} => 1 0 0 1
+int f(){char *a[8193];} => TooMany { at: 16, what: ArrayBytes }
+int f(){char a[65535], b[1];} => 1 0 0 1
+int f(){char a[65535], b[2];} => TooMany { at: 25, what: ArrayBytes }
+int f(){char a[1]; int b[16383];} => 1 0 0 2
+int f(){char a[1]; int b[16384];} => TooMany { at: 25, what: ArrayBytes }
+int f(){short a[1]; long long b[8191]; int *c[0];} => 1 0 0 3
+int f(){char a[65533]; int b[1];} => TooMany { at: 29, what: ArrayBytes }
+int f(){void a[18446744073709551615], b, *c[8192];} => 1 0 0 1
+int f(){void *a[18446744073709551615];} => TooMany { at: 16, what: ArrayBytes }
+int f(){char a[65536]; int b, *c; void *d[0];} => 1 0 0 3
+int f(){char a[65536];} int g(){char a[65536];} => 2 0 0 1
+int f(){{char a[40000];} {char b[40000];}} => TooMany { at: 33, what: ArrayBytes }
+int f(){if (1) {char a[65536];} else {char b[1];}} => TooMany { at: 45, what: ArrayBytes }
+int f(){char a[65536]; for (char b[1]; ; ) ;} => TooMany { at: 35, what: ArrayBytes }
+int f(){__try{char a[65536];}__except(1){char b[1];}} => TooMany { at: 48, what: ArrayBytes }
+int f(){__try{char a[65536];}__finally{char b[1];}} => TooMany { at: 46, what: ArrayBytes }
+";
+
+/// No program continues with the token at the place of a local array.
+const UNEXPECTED_IN_ARRAYS: &str = r"
+int f(){int a[];} => Unexpected { at: 14 }
+int f(){int a[1;} => Unexpected { at: 15 }
+int f(){int a[-1];} => Unexpected { at: 14 }
+int f(){int a[b];} => Unexpected { at: 14 }
+int f(){int a['x'];} => Unexpected { at: 14 }
+int f(){int a[1][2];} => Unexpected { at: 16 }
+int f(){int a[1] + 2;} => Unexpected { at: 17 }
+int f(){int a[1] = {1};} => Unexpected { at: 19 }
+int f(){int [1];} => Unexpected { at: 12 }
+int f(){for (int a[; ; ) ;} => Unexpected { at: 19 }
+";
+
 /// 64 statements and 64 expressions may be around a statement or an expression, and one more
 /// makes it too deep.
 const NESTED: &str = r"
@@ -160,6 +203,15 @@ fn texts_are_programs_or_refused(rt: HostRuntime) {
         &rt,
         rt.alloc(),
         Reader::Program,
-        &[PROGRAMS, UNEXPECTED, BEYOND_LIMITS, COUNTED, NESTED, LONG],
+        &[
+            PROGRAMS,
+            UNEXPECTED,
+            BEYOND_LIMITS,
+            COUNTED,
+            LOCAL_ARRAYS,
+            UNEXPECTED_IN_ARRAYS,
+            NESTED,
+            LONG,
+        ],
     );
 }

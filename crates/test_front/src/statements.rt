@@ -8,7 +8,7 @@ use crate::rows::{Reader, all_as_wanted};
 use c_lex::token::Token;
 use c_parse_stmt::left::Left;
 use c_parse_stmt::statements::items;
-use c_syntax::limit::MOST_STATEMENTS;
+use c_syntax::limit::{MOST_ARRAY_BYTES, MOST_STATEMENTS};
 use std::alloc::{AllocError, Global};
 
 /// The three numbers that a row begins with; 0 for a word that is none.
@@ -17,6 +17,7 @@ fn given_of(words: &str) -> Option<(u64, Left)> {
     let (locals, funclets) = words.split_once(' ')?;
     let left = Left {
         locals: locals.parse().unwrap_or(0),
+        bytes: MOST_ARRAY_BYTES,
         funclets: funclets.parse().unwrap_or(0),
     };
     Some((room.parse().unwrap_or(0), left))
@@ -52,6 +53,7 @@ const BLOCKS: &str = r"
 1 0 0: ; break; continue; __leave; return; } => 5 0 0
 1 3 0: int a, *b; { unsigned long c; } {} } => 3 0 0
 0 9 1: int a, *b; } => 1 7 1
+0 9 1: int a[2], *b, c[3]; } => 1 6 1
 1 2 2: __try { int a; } __finally { } } => 1 1 1
 2 0 2: __try { __try {} __finally {} } __finally {} ; } => 2 0 0
 ";
@@ -74,6 +76,9 @@ const REFUSED: &str = r"
 0 1 0: int } => Unexpected { at: 4 }
 0 1 0: int a + 1; } => Unexpected { at: 6 }
 0 1 0: int a, b; } => TooMany { at: 5, what: Locals }
+0 1 0: int a[2], b; } => TooMany { at: 8, what: Locals }
+0 1 0: char a[65537]; } => TooMany { at: 7, what: ArrayBytes }
+0 1 0: int a[1] = 1; } => TooDeep { at: 9 }
 0 1 0: int a; signed b; } => TooMany { at: 7, what: Locals }
 2 0 0: for (int => TooMany { at: 5, what: Locals }
 2 0 1: __try ; => Unexpected { at: 6 }

@@ -308,9 +308,10 @@ fn images_are_loaded_or_refused(rt: HostRuntime) {
     }
 }
 
-/// The arena, the stack and a section.
+/// The arena, the data stack, the stack and a section.
 const REGIONS: &str = r"
 20000000 20100000 no access
+30000000 30400000 read and write
 70000000 70800000 read and write
 140001000 140003000 read and execute
 ";

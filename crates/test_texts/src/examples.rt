@@ -186,4 +186,30 @@ int main(void) {
   return 0;
 }
 => 0 raise E0000001 0 / filter 1 / at asks / at fails / at works / at main / answer 1 / except E0000001 / at main / exit 0
+# array:
+// A function's array and a pointer to its variable: what a callee wrote before it raised is there.
+int fill(int *a, int n, int *done) {
+  int i;
+  for (i = 0; i < n; i++) {
+    if (i == 3)
+      RaiseException(0xE0000001, 0, 0, 0);
+    a[i] = i * i;
+    *done = i + 1;
+  }
+  return n;
+}
+int main(void) {
+  int squares[5];
+  int done = 0;
+  int i;
+  __try {
+    fill(squares, 5, &done);
+  } __except (done < 5) {
+    put(done);
+  }
+  for (i = 0; i < 5; i++)
+    put(squares[i]);
+  return 0;
+}
+=> 0 raise E0000001 0 / filter 1 / answer 1 / except E0000001 / 3 / 0 / 1 / 4 / 0 / 0 / exit 0
 ";

@@ -11,6 +11,7 @@
 
 pub mod binary;
 pub mod cold_parts;
+pub mod data_stack;
 pub mod depths;
 pub mod examples;
 pub mod handlers;

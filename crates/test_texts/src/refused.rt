@@ -42,8 +42,6 @@ pub const RULES: &str = r"
 => 2 ! refused LeaveOutsideTry 16
 # misplaced_jumps_return: int main(void){ __try{ } __finally{ return 1; } }
 => 2 ! refused JumpOutOfFinally 36
-# address_of_local_refused: int main(void){ int x; return &x == 0; }
-=> 2 ! refused NotLvalue 31
 # arguments of put: int main(void){ put(1,2); }
 => 2 ! refused ArgCount 16
 # unknown function: int main(void){ puts(1); }

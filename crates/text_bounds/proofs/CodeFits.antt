@@ -191,7 +191,7 @@ accepted_fits text xs within accepted few short named =
     let n = sound_counts program (accepted_is_sound text xs within accepted) in
     let f = n.functions in
     let g = n.funclets in
-    let b = lowered_is_bounded program in
+    let b = lowered_is_bounded program (accepted_is_sound text xs within accepted) in
     let c = code_is_bounded text xs in
     let names = functions_named text (file_of text xs empty_file).scope xs 1 in
     let all : text_room p + program_tables_room p + names_room p.functions + other_room

@@ -1,10 +1,13 @@
--- The code of a text takes at most 220 bytes for each of its nodes.
-use Rattle.std.proofs.Common.{◌+◌, ◌≤◌, refl, arith}
+-- The code of a text takes at most 237 bytes for each of its nodes.
+use Rattle.std.proofs.Common.{ℕ, ◌+◌, ◌≤◌, List, length, refl, arith}
 use Rattle.std.specs.Prelude.{Bool, true, false, if◌then◌else◌, Option, Some, None}
-use Rattle.text_bounds.specs.Words.{Expression, Lvalue, Conversion, Kept, CType, conversion, Weights, optional, NodesAdd, StatementsAdd, conversion_room, expression_room, read_room, write_room, locate_room, node_room, arguments_room, discarded_room, condition_room, initialiser_room, returned_room, all_declared_room, statement_room, statements_room, functions_room, Extend, Scale, same_type, to_width, width_of, sort_of, CodeIsBounded}
+use Rattle.text_bounds.specs.Words.{Expression, Lvalue, Conversion, Kept, CType, conversion, Weights, optional, NodesAdd, StatementsAdd, FunctionsAdd, conversion_room, expression_room, read_room, write_room, locate_room, node_room, arguments_room, discarded_room, condition_room, initialiser_room, put_initialiser_room, stacked_room, declared_at_room, returned_room, all_declared_room, statement_room, statements_room, functions_room, Extend, Scale, same_type, to_width, width_of, sort_of, CodeIsBounded}
 use Rattle.seh_num.specs.declared.width.Width.{Width}
 use Rattle.seh_num.specs.declared.width.Width.TheVariants.{W8}
 use Rattle.c_operations.specs.declared.operation.Signedness.{Signedness}
+use Rattle.c_operations.specs.declared.operation.Size.{Size}
+use Rattle.c_checked.specs.declared.statement.StackedVariable.{StackedVariable}
+use Rattle.c_checked.specs.Program.{DataFrame, declared_among}
 use Rattle.c_checked.specs.Expression as nodes
 use Rattle.text_bounds.proofs.StatementWeights.{weight_is_bounded}
 
@@ -18,14 +21,14 @@ rooms = record {
   statement = statement_room;
   statements = statements_room;
   functions = functions_room;
-  each = 219;
-  converted = 105;
+  each = 236;
+  converted = 73;
   retyped = 35;
 }
 
 -- ---- conversions
 
-conversion_most : (c : Conversion) → conversion_room c ≤ 105
+conversion_most : (c : Conversion) → conversion_room c ≤ 73
 conversion_most Kept = omega arith
 conversion_most (Extend s from size) = omega arith
 conversion_most (Scale s from by) = omega arith
@@ -70,6 +73,20 @@ value_initialiser : (o : Option nodes.Expression) → initialiser_room o ≤ opt
 value_initialiser None = omega arith
 value_initialiser (Some e) = omega arith
 
+value_put : (o : Option nodes.Expression) → put_initialiser_room o ≤ optional rooms o + 51
+value_put None = omega arith
+value_put (Some e) = omega arith
+
+-- a declared variable
+declared_small : (v : Option StackedVariable) (o : Option nodes.Expression)
+    → declared_at_room v o ≤ 236 + optional rooms o
+declared_small None o = let h = value_initialiser o in omega arith
+declared_small (Some v) o = by v.elements
+  where
+    by : (elements : Option ℕ) → stacked_room elements o ≤ 236 + optional rooms o
+    by None = let h = value_put o in omega arith
+    by (Some n) = omega arith
+
 value_returned : (o : Option nodes.Expression) → returned_room o ≤ optional rooms o + 35
 value_returned None = omega arith
 value_returned (Some e) = omega arith
@@ -84,6 +101,8 @@ nodes_add = record {
   of_types = conversion_small;
   constant = λ z n. omega arith;
   of_local = λ x. omega arith;
+  of_stacked = λ access base offset. omega arith;
+  array = λ base offset. omega arith;
   of_global = λ access a. omega arith;
   indirection = λ access e. omega arith;
   element = λ access e i. omega arith;
@@ -110,7 +129,7 @@ nodes_add = record {
 
 statements_add : StatementsAdd rooms
 statements_add = record {
-  declaration = λ d. let v = value_initialiser d.value in omega arith;
+  declaration = λ d. declared_small d.stacked d.value;
   block = λ ss. omega arith;
   evaluation = λ e. let v = value_discarded e in omega arith;
   if_alone = λ c s. omega arith;
@@ -129,9 +148,20 @@ statements_add = record {
   sequence = λ s ss. refl;
   no_declared = refl;
   several_declared = λ d ds. refl;
+}
+
+-- ---- functions
+
+few_declared : (locals : List Size) (o : Option DataFrame)
+    → declared_among locals o ≤ length locals
+few_declared locals None = omega arith
+few_declared locals (Some d) = omega arith
+
+functions_add : FunctionsAdd rooms
+functions_add = record {
   no_function = refl;
-  several_functions = λ f fs. omega arith;
+  several_functions = λ f fs. (let few = few_declared f.locals f.data_frame in omega arith);
 }
 
 pub code_is_bounded : CodeIsBounded
-code_is_bounded = weight_is_bounded rooms nodes_add statements_add
+code_is_bounded = weight_is_bounded rooms nodes_add statements_add functions_add

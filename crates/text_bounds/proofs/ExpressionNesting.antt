@@ -3,7 +3,7 @@ use Rattle.std.proofs.Common.{◌≡◌, ℕ, ◌+◌, ◌≤◌, max, refl, sym
 use Rattle.std.proofs.lemmas.Bool.{leb-true}
 use Rattle.std.specs.Prelude.{Bool, true, false, nat_le, nat_eq, if◌then◌else◌, List, [], ◌∷◌, length, map, Option, Some, None}
 use Rattle.c_checked.specs.Expression as nodes
-use Rattle.text_bounds.specs.Words.{Node, CType, Field, Literal, Arithmetic, start, height, Fault, TypedNode, compound_assigned, assigned, comma_of, Entity, LocalVariable, GlobalVariable, GlobalArray, UserFunction, BuiltInFunction, CodeFunction, AbnormalFunction, BuiltInConstant, Names, FaultAt, ResolvedExpression, ruled, rule_1, rule_2, rule_3, given_that, literal, name, field, Wanted, built_in_wants, fits, passed, Argument, Passed, before, spoiled, pass, pass_all, called, call_with, only_where, call, changed, resolve_expression, resolve_arguments, OfType, ZeroLiteral, expression_nesting, node_nesting, expression_reads, node_reads, heights, plain, typed, good, arguments_nesting, arguments_read}
+use Rattle.text_bounds.specs.Words.{Node, CType, Field, Literal, Arithmetic, start, height, Fault, TypedNode, compound_assigned, assigned, comma_of, Entity, LocalVariable, LocalArray, GlobalVariable, GlobalArray, UserFunction, BuiltInFunction, CodeFunction, AbnormalFunction, BuiltInConstant, Names, FaultAt, ResolvedExpression, ruled, rule_1, rule_2, rule_3, given_that, literal, name, field, Wanted, built_in_wants, fits, passed, Argument, Passed, before, spoiled, pass, pass_all, called, call_with, only_where, call, changed, resolve_expression, resolve_arguments, OfType, ZeroLiteral, expression_nesting, node_nesting, expression_reads, node_reads, heights, plain, typed, good, arguments_nesting, arguments_read}
 use Rattle.c_operations.specs.declared.field.Field.TheVariants as fields
 use Rattle.c_syntax.specs.declared.expression.Base.TheVariants.{UnsignedLongLong}
 use Rattle.c_syntax.specs.declared.expression.Field.TheVariants as record_fields
@@ -65,6 +65,7 @@ literal_shallow (literals.CharacterConstant c) = (omega arith, omega arith)
 
 name_shallow : (at : ℕ) (e : Option Entity) → ShallowIf 0 (name at e).found
 name_shallow at (Some (LocalVariable x t)) = (omega arith, omega arith)
+name_shallow at (Some (LocalArray x t)) = (omega arith, omega arith)
 name_shallow at (Some (GlobalVariable a t)) = (omega arith, omega arith)
 name_shallow at (Some (GlobalArray a t)) = (omega arith, omega arith)
 name_shallow at (Some (BuiltInConstant n)) = (omega arith, omega arith)

@@ -1,6 +1,6 @@
 -- The code of an expression takes no more than its room.
 use Rattle.std.proofs.Common.{◌≡◌, ℕ, ◌+◌, ◌≤◌, List, [], ◌∷◌, ◌++◌, Option, Some, None, sym, arith, zero-add}
-use Rattle.text_bounds.specs.Words.{Conversion, Expression, Node, Lvalue, Temporary, Instruction, expression_size, constant, copy, expression_code, instruction_room, code_room, conversion_room, read_room, write_room, expression_room, locate_room, arguments_room, node_room, On, Global, Indirection, Element, Arguments, Done, Next, Jump, JumpIfZero, Call, CallBuiltIn, address_count, read_size, locate_size, conversion_size, combine, argument_count, chosen_of, conversion_code, unary_code, choice_code, code_code, abnormal_code, read_code, write_code, address_code, locate_code, arguments_code, node_code, address_room}
+use Rattle.text_bounds.specs.Words.{Conversion, Expression, Node, Lvalue, Temporary, Instruction, expression_size, constant, copy, expression_code, instruction_room, code_room, conversion_room, read_room, write_room, expression_room, locate_room, arguments_room, node_room, On, Global, Stacked, Indirection, Element, Arguments, Done, Next, Jump, JumpIfZero, Call, CallBuiltIn, address_count, read_size, locate_size, conversion_size, combine, argument_count, chosen_of, conversion_code, unary_code, choice_code, code_code, abnormal_code, read_code, write_code, address_code, locate_code, arguments_code, node_code, address_room}
 use Rattle.c_operations.specs.declared.operation.Operation.TheVariants.{Pure, Divide}
 use Rattle.c_operations.specs.declared.operation.Signedness.TheVariants.{Signed}
 use Rattle.c_operations.specs.declared.operation.Size.TheVariants.{Long}
@@ -11,6 +11,7 @@ use Rattle.c_checked.specs.Expression as nodes
 use Rattle.lowering_expressions.specs.declared.scope.ExceptionSource.{ExceptionSource}
 use Rattle.lowering_expressions.specs.declared.scope.ExceptionSource.TheVariants.{NoException, OfFilter, KeptIn}
 use Rattle.lowering_expressions.specs.declared.scope.Names.{Names}
+use Rattle.x64_emit.proofs.Nearby.{operation_room_small}
 
 pub room_append : (is js : List Instruction) → code_room (is ++ js) ≡ code_room is + code_room js
 room_append [] js = sym (zero-add (code_room js))
@@ -36,11 +37,13 @@ addressed : (p : Lvalue) (d : ℕ) (located : List Instruction) (n : ℕ) → co
     → code_room (address_code p d located) ≤ address_room p n
 addressed (nodes.Local x) d located n h = omega arith
 addressed (Global access a) d located n h = h
+addressed (Stacked access base offset) d located n h = h
 addressed (Indirection access e) d located n h = h
 addressed (Element access e i) d located n h = h
 
-unary : (o : Pure') (d : ℕ) → code_room (unary_code o d) ≤ 70
+unary : (o : Pure') (d : ℕ) → code_room (unary_code o d) ≤ 73
 unary pures.First d = omega arith
+unary (pures.MultiplyBy n) d = omega arith
 unary o d = omega arith
 
 coded : (e : ExceptionSource) (d : ℕ) → instruction_room (code_code e d) ≤ 51
@@ -71,6 +74,7 @@ mutual
       → code_room (locate_code names p d at) ≤ locate_room p
   locate_bound names (nodes.Local x) d at = omega arith
   locate_bound names (Global access a) d at = omega arith
+  locate_bound names (Stacked access base offset) d at = omega arith
   locate_bound names (Indirection access e) d at = expression_bound names e d at
   locate_bound names (Element access e i) d at =
       two (expression_code names e d at) (expression_code names i (d + 1) (at + expression_size e))
@@ -93,6 +97,7 @@ mutual
   node_bound : (names : Names) (n : Node) (d at : ℕ)
       → code_room (node_code names n d at) ≤ node_room n
   node_bound names (nodes.Constant z n) d at = omega arith
+  node_bound names (nodes.StackedArray base offset) d at = omega arith
   node_bound names (nodes.Read p) d at =
       let a = locate_bound names p d at in
       let b = read p d d in
@@ -118,6 +123,7 @@ mutual
       let v = expression_bound names e (old + 1) from in
       let f = converted after old in
       let w = written p d old d in
+      let s = operation_room_small o in
       omega (
         arith,
         room_append (locate_code names p d at)
@@ -140,6 +146,7 @@ mutual
       let b = converted before (old + 1) in
       let f = converted after (old + 1) in
       let w = written p d (old + 1) (old + 1) in
+      let s = operation_room_small o in
       omega (
         arith,
         room_append (locate_code names p d at) (read_code p d old ++ new),
@@ -153,9 +160,9 @@ mutual
       omega (arith, room_append (expression_code names e d at) (unary_code o d))
   node_bound names (nodes.Binary o e f) d at =
       two (expression_code names e d at) (expression_code names f (d + 1) (at + expression_size e))
-      (combine d o ∷ []) (expression_room e) (expression_room f) 35
+      (combine d o ∷ []) (expression_room e) (expression_room f) 53
       (expression_bound names e d at) (expression_bound names f (d + 1) (at + expression_size e))
-      (omega arith)
+      (let s = operation_room_small o in omega arith)
   node_bound names (nodes.PointerDifference n e f) d at =
       two (expression_code names e d at) (expression_code names f (d + 1) (at + expression_size e))
       (combine d (Pure (pures.Subtract Long)) ∷ constant (d + 1) n

@@ -2,7 +2,7 @@
 use Rattle.std.proofs.Common.{◌≡◌, ℕ, ◌+◌, ◌*◌, ◌≤◌, refl, sym, subst, arith}
 use Rattle.std.proofs.Math.Nat.{mul-add, mul-one}
 use Rattle.std.specs.Prelude.{Bool, true, false, nat_le, nat_eq, if◌then◌else◌, List, [], ◌∷◌, length, map, Option, Some, None}
-use Rattle.text_bounds.specs.Words.{Node, CType, Field, Literal, Arithmetic, start, Fault, access_of, TypedNode, int, compound_assigned, assigned, comma_of, Entity, LocalVariable, GlobalVariable, GlobalArray, UserFunction, BuiltInFunction, CodeFunction, AbnormalFunction, BuiltInConstant, Names, FaultAt, ResolvedExpression, ruled, rule_1, rule_2, rule_3, given_that, literal, name, field, Wanted, built_in_wants, fits, passed, Argument, Passed, before, spoiled, pass, pass_all, called, call_with, only_where, call, changed, resolve_expression, resolve_arguments, OfType, ZeroLiteral, Weights, NodesAdd, nodes_of_arguments}
+use Rattle.text_bounds.specs.Words.{Node, CType, Field, Literal, Arithmetic, start, Fault, access_of, TypedNode, int, compound_assigned, assigned, comma_of, Entity, LocalVariable, LocalArray, GlobalVariable, GlobalArray, UserFunction, BuiltInFunction, CodeFunction, AbnormalFunction, BuiltInConstant, Names, FaultAt, ResolvedExpression, ruled, rule_1, rule_2, rule_3, given_that, literal, name, field, Wanted, built_in_wants, fits, passed, Argument, Passed, before, spoiled, pass, pass_all, called, call_with, only_where, call, changed, resolve_expression, resolve_arguments, OfType, ZeroLiteral, Weights, NodesAdd, nodes_of_arguments}
 use Rattle.c_operations.specs.declared.field.Field.{Field as Field'}
 use Rattle.c_operations.specs.declared.operation.Size.{Size}
 use Rattle.c_checked.specs.Expression as nodes
@@ -99,6 +99,8 @@ literal_light w adds (literals.CharacterConstant c) = constant_light w adds _ _
 name_light : (w : Weights) → NodesAdd w → (at : ℕ) (e : Option Entity)
     → LightIf w (w.each * 1) (name at e).found
 name_light w adds at (Some (LocalVariable x t)) = let h = adds.of_local x in
+    let e = mul-one w.each in omega arith
+name_light w adds at (Some (LocalArray x t)) = let h = adds.array x 0 in
     let e = mul-one w.each in omega arith
 name_light w adds at (Some (GlobalVariable a t)) = let h = adds.of_global (access_of t) a in
     let e = mul-one w.each in omega arith

@@ -3,6 +3,7 @@ pub mod Times
 pub mod OperatorWeights
 pub mod ExpressionWeights
 pub mod LocalCounts
+pub mod PlacedWeights
 pub mod StatementWeights
 pub mod ExpressionRooms
 pub mod ColdParts
@@ -15,6 +16,8 @@ pub mod NamesWithin
 pub mod CodeFits
 pub mod OperatorNesting
 pub mod ExpressionNesting
+pub mod PlacedNesting
 pub mod StatementNesting
+pub mod DataWeights
 pub mod StepWeights
 pub mod StepsPerTurn

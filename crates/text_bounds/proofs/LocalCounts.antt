@@ -1,12 +1,14 @@
 -- A function has no more locals than its body has nodes.
-use Rattle.std.proofs.Common.{ℕ, ◌≤◌, List, [], ◌∷◌, length, map, drop, arith}
-use Rattle.std.proofs.lemmas.List.{length-map, length-drop}
+use Rattle.std.proofs.Common.{◌≡◌, ◌+◌, ◌≤◌, List, [], ◌∷◌, ◌++◌, length, drop, arith, length-append}
+use Rattle.std.proofs.lemmas.List.{length-drop}
+use Rattle.std.specs.Prelude.{Bool, true, false, if◌then◌else◌}
+use Rattle.c_operations.specs.declared.operation.Size.TheVariants as sizes
 use Rattle.c_syntax.specs.declared.declaration.Parameter.{Parameter}
 use Rattle.c_syntax.specs.Limits.{locals, locals_of_all, locals_of_for_initialiser}
 use Rattle.c_syntax.specs.Statement as statements
 use Rattle.c_syntax.specs.Statement.{Local}
 use Rattle.c_resolved.proofs.Numbers.{statements_counted}
-use Rattle.text_bounds.specs.Words.{Statement, Statements, ForInitialiser, Declaring, Evaluating, Scope, Environment, Numbering, resolve_statements, nodes_of_locals, nodes_of_for_initialiser, nodes_of_statement, nodes_of_statements, size_of}
+use Rattle.text_bounds.specs.Words.{Statement, Statements, ForInitialiser, Declaring, Evaluating, Scope, Environment, Numbering, resolve_statements, nodes_of_locals, nodes_of_for_initialiser, nodes_of_statement, nodes_of_statements, Layout, base_local}
 
 locals_within : (ls : List Local) → length ls ≤ nodes_of_locals ls
 locals_within [] = omega arith
@@ -37,22 +39,27 @@ mutual
   statement_within (statements.TryFinally body at last) =
       let a = statements_within body in let b = statements_within last in omega arith
 
-  statements_within : (ss : Statements) → locals_of_all ss ≤ nodes_of_statements ss
+  pub statements_within : (ss : Statements) → locals_of_all ss ≤ nodes_of_statements ss
   statements_within statements.Empty = omega arith
   statements_within (statements.Then s ss) =
       let a = statement_within s in let b = statements_within ss in omega arith
 
--- its locals are those that are numbered after its parameters
+one_base : (b : Bool) → length (if b then sizes.Long ∷ [] else []) ≤ 1
+one_base true = omega arith
+one_base false = omega arith
+
+-- its locals are those that are numbered after its parameters, and that of the base
 pub few_locals : (ps : List Parameter) (body : Statements) (a : Environment) (block : Scope)
-    (number : ℕ) → length (drop (length ps) (resolve_statements body a block
-    (record { sizes = map (λ p. size_of p.of) ps; number = number })).counts.sizes)
-    ≤ nodes_of_statements body
-few_locals ps body a block number =
-    let n : Numbering = record { sizes = map (λ p. size_of p.of) ps; number = number } in
+    (n : Numbering) (l : Layout) → length n.sizes ≡ length ps
+    → length (drop (length ps) (resolve_statements body a block n).counts.sizes ++ base_local l)
+    ≤ 1 + nodes_of_statements body
+few_locals ps body a block n l same =
+    let one = one_base l.needed in
     let counted = (statements_counted body a block n).sizes in
     let within = statements_within body in
     omega (
       arith,
-      length-map ps (λ (p : Parameter). size_of p.of),
+      length-append (drop (length ps) (resolve_statements body a block n).counts.sizes)
+          (base_local l),
       length-drop (length ps) (resolve_statements body a block n).counts.sizes,
     )

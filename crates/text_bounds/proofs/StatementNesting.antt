@@ -3,7 +3,7 @@ use Rattle.std.proofs.Common.{◌≡◌, ℕ, ◌+◌, ◌≤◌, max, refl, sym
 use Rattle.std.specs.Prelude.{Bool, true, false, if◌then◌else◌, List, [], ◌∷◌, ◌++◌, map, Option, Some, None}
 use Rattle.c_checked.specs.Expression as nodes
 use Rattle.c_checked.specs.Statement as checked
-use Rattle.text_bounds.specs.Words.{Base, CType, start, ExternalDeclaration, Globals, Statement, Statements, ForInitialiser, Declaring, Evaluating, is_void, size_of, TypedNode, Names, FaultAt, resolve_expression, file_of, empty_file, with_parameters, around, function_of, functions_of, resolve, Scope, Near, Beyond, past_finally, with_number, Environment, Numbering, names_at, filter_names, inside, any, condition, to_type, to_answer, Value, Optional, declare, declare_all, only, returned, always, ResolvedFilter, resolve_filter, names_only, resolve_for_initialiser, resolve_statement, resolve_statements, height, expression_nesting, expression_reads, statement_notes, statements_notes, most_of_optional, most_of_declared, most_of_filter, most_of_statement, most_of, AreShallow}
+use Rattle.text_bounds.specs.Words.{Base, CType, start, ExternalDeclaration, Globals, Statement, Statements, ForInitialiser, Declaring, Evaluating, is_void, size_of, TypedNode, Names, FaultAt, resolve_expression, file_of, empty_file, with_parameters, around, function_of, functions_of, resolve, Scope, Near, Beyond, past_finally, with_number, Environment, Numbering, names_at, filter_names, inside, any, condition, to_type, to_answer, Value, Optional, without_initialiser, local_value, declare, declare_all, only, returned, always, ResolvedFilter, resolve_filter, names_only, resolve_for_initialiser, resolve_statement, resolve_statements, height, expression_nesting, expression_reads, declared_notes, statement_notes, statements_notes, most_of_optional, most_of_declared, most_of_filter, most_of_statement, most_of, AreShallow, layout_of, parameter_variable}
 use Rattle.c_syntax.specs.Expression.{Expression}
 use Rattle.c_syntax.specs.Program.{Function}
 use Rattle.c_syntax.specs.Statement as statements
@@ -15,6 +15,8 @@ use Rattle.lowering_invariants.proofs.Small.{lowered_is_small}
 use Rattle.text_bounds.specs.NestingLaws.{ResolvedIsShallow, AcceptedIsSmall}
 use Rattle.text_bounds.proofs.OperatorNesting.{ShallowIf}
 use Rattle.text_bounds.proofs.ExpressionNesting.{resolved_shallow}
+use Rattle.text_bounds.proofs.PlacedNesting.{nesting_placed, reads_placed, notes_placed}
+use Rattle.c_syntax.specs.declared.declaration.Length.{Length}
 
 -- ---- values
 
@@ -106,15 +108,26 @@ AreShallowIn n ss = (nests ss ≤ n) × (reads ss ≤ 15)
 
 -- ---- declarations
 
+-- an array has none
+unkept_shallow : (s : Names) (o : Option Expression) (n : ℕ)
+    → IsShallowOptional n (without_initialiser s o).value
+unkept_shallow s None n = (omega arith, omega arith)
+unkept_shallow s (Some e) n = (omega arith, omega arith)
+
+initial_shallow : (s : Names) (type : CType) (k : Option Length) (o : Option Expression)
+    → IsShallowOptional (height_of o) (local_value s type k o).value
+initial_shallow s type None o =
+    optional_shallow (λ e. to_type type (start e) (resolve_expression s e))
+    (λ e. typed_shallow s type (start e) e) o
+initial_shallow s type (Some k) o = unkept_shallow s o (height_of o)
+
 declares_shallow : (a : Environment) (base : Base) (ls : List Local) (block : Scope) (n : Numbering)
     → AreShallowIn (height_of_locals ls) (declare_all a base ls block n).done
 declares_shallow a base [] block n = (omega arith, omega arith)
 declares_shallow a base (l ∷ ls) block n =
     let m = declare a base l block n in
     let type : CType = record { base = base; pointers = l.pointers } in
-    let v = optional_shallow (λ e. to_type type (start e)
-    (resolve_expression (names_at a m.block) e))
-    (λ e. typed_shallow (names_at a m.block) type (start e) e) l.initialiser in
+    let v = initial_shallow (names_at a m.block) type l.length l.initialiser in
     let rest = declares_shallow a base ls m.block m.counts in
     let p = v.0 in let q = v.1 in let r = rest.0 in let s = rest.1 in
     (omega arith, omega arith)
@@ -149,6 +162,17 @@ begins_shallow a (Evaluating e) n =
     (λ e. any_shallow (names_at a []) e) e in
     let p = v.0 in let q = v.1 in
     (omega arith, omega arith)
+
+names_notes : (ss : List checked.Statement) → declared_notes (names_only ss) ≤ notes ss
+names_notes [] = omega arith
+names_notes (checked.Declare d ∷ ss) = let i = names_notes ss in omega arith
+names_notes (s ∷ ss) = let i = names_notes ss in omega arith
+
+begins_notes : (a : Environment) (f : ForInitialiser) (n : Numbering)
+    → declared_notes (resolve_for_initialiser a f n).declared ≤ 0
+begins_notes a (Declaring base ls) n = let i = names_notes (declare_all a base ls [] n).done in
+    let j = declares_notes a base ls [] n in omega arith
+begins_notes a (Evaluating e) n = omega arith
 
 -- ---- other parts
 
@@ -325,6 +349,7 @@ mutual
       let b = resolve_for_initialiser here f n in
       let within = record (inside here b.resolved.block) { loop = Near } in
       let m = statement_blocks s within [] b.resolved.counts in
+      let y = begins_notes here f n in
       let x = only_notes (resolve_statement s within [] b.resolved.counts).done in
       omega arith
   statement_blocks (statements.Return at e) a block n = omega arith
@@ -370,13 +395,25 @@ functions_shallow text file [] number within = tt
 functions_shallow text file (Globals base gs ∷ xs) number within = functions_shallow text file xs
     number within
 functions_shallow text file (Function t n ps body ∷ xs) number within =
-    let start' : Numbering = record { sizes = map (λ p. size_of p.of) ps; number = number } in
-    let i = statements_shallow body (around text file t) (with_parameters text ps [] 0) start' in
-    let j = statements_blocks body (around text file t) (with_parameters text ps [] 0) start' in
+    let begun : Numbering = record {
+      sizes = map (λ p. size_of p.of) ps;
+      variables = map parameter_variable ps;
+      number = number;
+    } in
+    let block = with_parameters text ps [] 0 in
+    let m = resolve_statements body (around text file t) block begun in
+    let draft = checked.statements m.done in
+    let layout = layout_of m.counts.variables draft in
+    let i = statements_shallow body (around text file t) block begun in
+    let j = statements_blocks body (around text file t) block begun in
+    let u = nesting_placed layout draft in
+    let v = reads_placed layout draft in
+    let w = notes_placed layout draft in
     let p = i.0 in
+    let q = i.1 in
     let e = within.0.expressions (omega arith) in
     let s = within.0.statements (omega arith) in (
-      record { expressions = omega arith; parameters = i.1; blocks = omega arith },
+      record { expressions = omega arith; parameters = omega arith; blocks = omega arith },
       functions_shallow text file xs (function_of text file t n ps body number).number within.1,
     )
 

@@ -1,7 +1,9 @@
 -- The code of statements, of the filters and `__finally` blocks in them, their scope records and
 -- what their cold parts have beside their code take no more than their room.
 use Rattle.std.proofs.Common.{◌≡◌, ℕ, ◌+◌, ◌-◌, ◌*◌, ◌≤◌, List, [], ◌∷◌, ◌++◌, length, Option, Some, None, sym, arith, zero-add, length-append}
-use Rattle.text_bounds.specs.Words.{Expression, Local, Temporary, LinearBody, LinearFunclet, Owner, expression_size, copy, expression_code, statements_code, instruction_room, code_room, discarded_room, condition_room, initialiser_room, all_declared_room, returned_room, statement_room, statements_room, cold_room, discarded_size, condition_size, declared_size, all_declared_size, statement_size, statements_size, jump_code, return_code, leave_code, discarded_code, returned_code, condition_code, initialiser_code, declared_code, all_declared_code, landed, repeated, statement_code, declared_room, filter_room}
+use Rattle.text_bounds.specs.Words.{Expression, Local, Temporary, LinearBody, LinearFunclet, Owner, expression_size, copy, expression_code, statements_code, instruction_room, code_room, discarded_room, condition_room, initialiser_room, all_declared_room, returned_room, statement_room, statements_room, cold_room, discarded_size, condition_size, declared_size, all_declared_size, statement_size, statements_size, jump_code, return_code, leave_code, discarded_code, returned_code, condition_code, initialiser_code, put_code, put_initialiser_code, stacked_declared_code, declared_at_code, declared_code, all_declared_code, reset_code, landed, repeated, statement_code, put_initialiser_room, stacked_room, declared_at_room, declared_room, filter_room}
+use Rattle.c_checked.specs.declared.function.DataPart.{DataPart}
+use Rattle.c_checked.specs.declared.statement.StackedVariable.{StackedVariable}
 use Rattle.c_checked.specs.Statement as statements
 use Rattle.c_checked.specs.Statement.{Declared, Filter, Always, Funclet, Statement, Declare, Block, Evaluate, If, IfElse, For, DoWhile, Break, Continue, Leave, TryExcept, TryFinally, Statements, Empty, Then}
 use Rattle.linear_code.specs.declared.instruction.Instruction.TheVariants as instructions
@@ -13,7 +15,7 @@ use Rattle.lowering_expressions.specs.declared.scope.Way.TheVariants.{Nowhere, J
 use Rattle.lowering_expressions.specs.Scope.{except_names, filter_names, finally_names, finally_scope, in_loop, in_try, in_except, in_guarded}
 use Rattle.seh_ir.specs.Regions.{region, except_kind, statement_regions, statements_regions}
 use Rattle.seh_ir.specs.ColdParts.{branch_cold, statement_cold, statements_cold}
-use Rattle.seh_ir.specs.Funclets.{filter_funclets, finally_funclet, in_funclet, statement_funclets, statements_funclets}
+use Rattle.seh_ir.specs.Funclets.{filter_funclets, finally_begin, finally_funclet, in_funclet, statement_funclets, statements_funclets}
 use Rattle.text_bounds.proofs.ColdParts.{branch_count}
 use Rattle.text_bounds.proofs.ExpressionRooms.{room_append, expression_bound}
 
@@ -73,9 +75,38 @@ initialised names x (Some e) at = let a = expression_bound names e 0 at in
           (copy (Local x) (Temporary 0) ∷ instructions.Separator ∷ []),
     )
 
+-- ---- variables on the data stack
+
+put_initialised : (names : Names) (v : StackedVariable) (e : Option Expression) (at : ℕ)
+    → code_room (put_initialiser_code names v e at) ≤ put_initialiser_room e
+put_initialised names v None at = omega arith
+put_initialised names v (Some e) at = let a = expression_bound names e 0 at in
+    omega (arith, room_append (expression_code names e 0 at) (put_code v))
+
+stacked_bound : (names : Names) (v : StackedVariable) (elements : Option ℕ) (e : Option Expression)
+    (at : ℕ) → code_room (stacked_declared_code names v elements e at) ≤ stacked_room elements e
+stacked_bound names v None e at = let a = put_initialised names v e (at + 3) in omega arith
+stacked_bound names v (Some n) e at = omega arith
+
+declared_at_bound : (names : Names) (o : Option StackedVariable) (x : ℕ) (e : Option Expression)
+    (at : ℕ) → code_room (declared_at_code names o x e at) ≤ declared_at_room o e
+declared_at_bound names None x e at = let a = initialised names x e (at + 1) in omega arith
+declared_at_bound names (Some v) x e at = stacked_bound names v v.elements e at
+
 declared_bound : (names : Names) (d : Declared) (at : ℕ)
     → code_room (declared_code names d at) ≤ declared_room d
-declared_bound names d at = let a = initialised names d.local d.value (at + 1) in omega arith
+declared_bound names d at = declared_at_bound names d.stacked d.local d.value at
+
+-- the pointer is set where a block begins
+reset : (o : Option DataPart) → instruction_room (reset_code o) ≤ 69
+reset None = omega arith
+reset (Some part) = omega arith
+
+finally_begins : (o : Option DataPart) (x : ℕ) → code_room (finally_begin o x) ≤ 96
+finally_begins None x = omega arith
+finally_begins (Some part) x = omega arith
+
+-- ---- declarations, and filters
 
 all_declared : (names : Names) (ds : List Declared) (at : ℕ)
     → code_room (all_declared_code names ds at) ≤ all_declared_room ds
@@ -200,20 +231,22 @@ mutual
   statement_bound scope at from owner names Leave = let a = left_by scope.leave in omega arith
   statement_bound scope at from owner names (TryExcept body filter block) =
       let target = at + statements_size body + 1 in
-      let end = target + 1 + statements_size block in
+      let end = target + 2 + statements_size block in
       let target' = from + statements_size body + 1 in
       let own = region from target' (except_kind filter target') in
       let a = statements_bound (in_try end scope) at from owner names body in
-      let b = statements_bound (in_except scope) (target + 1) (target' + 1) owner
+      let b = statements_bound (in_except scope) (target + 2) (target' + 2) owner
       (except_names names) block in
       let d = filtered owner (filter_names names) filter in
+      let r = reset scope.names.part in
       let inner = filter_funclets owner (filter_names names) filter in
       let last = statements_funclets owner (except_names names) block in
       omega (
         arith,
         room_append (statements_code (in_try end scope) body at)
-            (landed end scope.names.free ++ statements_code (in_except scope) block (target + 1)),
-        length-append (statements_regions body from) (own ∷ statements_regions block (target' + 1)),
+            (landed scope.names.part end scope.names.free
+            ++ statements_code (in_except scope) block (target + 2)),
+        length-append (statements_regions body from) (own ∷ statements_regions block (target' + 2)),
         funclets_append (statements_funclets owner names body) (inner ++ last),
         funclets_append inner last,
       )
@@ -223,7 +256,9 @@ mutual
       let owner' = in_funclet (k - 1) owner in
       let names' = finally_names names in
       let a = statements_bound guarded at from owner names body in
-      let b = statements_bound inner 0 0 owner' names' last in
+      let b = statements_bound inner 3 3 owner' names' last in
+      let r = finally_begins names.part names.free in
+      let ends = instructions.Return (Local names.free) ∷ [] in
       omega (
         arith,
         room_append (statements_code guarded body at)
@@ -233,7 +268,8 @@ mutual
             (region from (from + statements_size body + 1) (kinds.Finally (k - 1)) ∷ []),
         funclets_append (statements_funclets owner names body)
             (finally_funclet owner names last ∷ statements_funclets owner' names' last),
-        room_append (statements_code inner last 0) (instructions.Return (Local names.free) ∷ []),
+        room_append (finally_begin names.part names.free) (statements_code inner last 3 ++ ends),
+        room_append (statements_code inner last 3) ends,
       )
 
   pub statements_bound : (scope : LoweringContext) (at from : ℕ) (owner : Owner) (names : Names)

@@ -4,7 +4,7 @@ use Rattle.std.proofs.Common.{◌≡◌, ℕ, ◌+◌, ◌*◌, ◌≤◌, arith
 use Rattle.std.proofs.Math.Nat.{add-mul, mul-add, mul-one}
 use Rattle.std.specs.Prelude.{Bool, true, false, if◌then◌else◌, List, [], ◌∷◌, ◌++◌, length, map, Option, Some, None}
 use Rattle.c_operations.specs.declared.operation.Size.TheVariants as sizes
-use Rattle.text_bounds.specs.Words.{Kept, Base, CType, start, ExternalDeclaration, Globals, Statement, Statements, ForInitialiser, Declaring, Evaluating, nodes_of, is_void, size_of, TypedNode, int, Names, FaultAt, resolve_expression, file_of, empty_file, with_parameters, around, function_of, functions_of, Scope, Near, Beyond, past_finally, with_number, Environment, Numbering, names_at, filter_names, inside, any, condition, to_type, to_answer, Value, Optional, declare, declare_all, only, returned, always, ResolvedFilter, resolve_filter, names_only, resolve_for_initialiser, resolve_statement, resolve_statements, Weights, optional, NodesAdd, StatementsAdd, nodes_of_optional, nodes_of_locals, nodes_of_for_initialiser, nodes_of_statement, nodes_of_statements, nodes_of_globals, nothing}
+use Rattle.text_bounds.specs.Words.{Kept, Base, CType, start, ExternalDeclaration, Globals, Statement, Statements, ForInitialiser, Declaring, Evaluating, nodes_of, is_void, size_of, TypedNode, int, Names, FaultAt, resolve_expression, file_of, empty_file, with_parameters, around, function_of, functions_of, Scope, Near, Beyond, past_finally, with_number, Environment, Numbering, names_at, filter_names, inside, any, condition, to_type, to_answer, Value, Optional, without_initialiser, local_value, declare, declare_all, only, returned, always, ResolvedFilter, resolve_filter, names_only, resolve_for_initialiser, resolve_statement, resolve_statements, Weights, optional, NodesAdd, StatementsAdd, FunctionsAdd, layout_of, parameter_variable, nodes_of_optional, nodes_of_locals, nodes_of_for_initialiser, nodes_of_statement, nodes_of_statements, nodes_of_globals, nothing}
 use Rattle.c_checked.specs.Expression as nodes
 use Rattle.c_checked.specs.Program as checked_program
 use Rattle.c_checked.specs.Statement as checked
@@ -20,6 +20,10 @@ use Rattle.text_bounds.proofs.Times.{times_1, times_2, times_3, times_4, once}
 use Rattle.text_bounds.proofs.OperatorWeights.{LightIf, typed_weight, kept_weight}
 use Rattle.text_bounds.proofs.ExpressionWeights.{resolved_light}
 use Rattle.text_bounds.proofs.LocalCounts.{few_locals}
+use Rattle.text_bounds.proofs.PlacedWeights.{placed, nodes_placed, statements_placed}
+use Rattle.c_syntax.specs.declared.declaration.Length.{Length}
+use Rattle.c_syntax.specs.declared.declaration.Parameter.{Parameter}
+use Rattle.std.proofs.lemmas.List.{length-map}
 
 -- ---- nodes
 
@@ -133,6 +137,20 @@ declared_light w adds d ss m n h i =
     let t = times_2 w.each m n in
     omega arith
 
+-- an array's initialiser is a fault, and isn't kept
+unkept_light : (w : Weights) (s : Names) (o : Option Expression) (n : ℕ)
+    → optional w (without_initialiser s o).value ≤ n
+unkept_light w s None n = omega arith
+unkept_light w s (Some e) n = omega arith
+
+initial_light : (w : Weights) → NodesAdd w → (s : Names) (type : CType) (k : Option Length)
+    (o : Option Expression)
+    → optional w (local_value s type k o).value ≤ w.each * nodes_of_optional o
+initial_light w adds s type None o =
+    optional_light w (λ e. to_type type (start e) (resolve_expression s e))
+    (λ e. typed_light w adds s type (start e) e) o
+initial_light w adds s type (Some k) o = unkept_light w s o (w.each * nodes_of_optional o)
+
 declares_light : (w : Weights) → NodesAdd w → StatementsAdd w
     → (a : Environment) (base : Base) (ls : List Local) (block : Scope) (n : Numbering)
     → all w (declare_all a base ls block n).done ≤ w.each * nodes_of_locals ls
@@ -142,8 +160,7 @@ declares_light w on_nodes adds a base (l ∷ ls) block n =
     let type : CType = record { base = base; pointers = l.pointers } in
     declared_light w adds _ (declare_all a base ls m.block m.counts).done
     (nodes_of_optional l.initialiser) (nodes_of_locals ls)
-    (optional_light w (λ e. to_type type (start e) (resolve_expression (names_at a m.block) e))
-    (λ e. typed_light w on_nodes (names_at a m.block) type (start e) e) l.initialiser)
+    (initial_light w on_nodes (names_at a m.block) type l.length l.initialiser)
     (declares_light w on_nodes adds a base ls m.block m.counts)
 
 names_light : (w : Weights) → StatementsAdd w → (ss : List checked.Statement)
@@ -349,9 +366,9 @@ mutual
 
 -- ---- programs
 
-function_light : (w : Weights) → StatementsAdd w
+function_light : (w : Weights) → FunctionsAdd w
     → (f : checked_program.Function) (fs : List checked_program.Function) (k m n : ℕ)
-    → length f.locals ≤ m → w.statements f.body ≤ w.each * m → w.functions fs ≤ (w.each + 1) * n
+    → length f.locals ≤ 1 + m → w.statements f.body ≤ w.each * m → w.functions fs ≤ (w.each + 1) * n
     → w.functions (f ∷ fs) ≤ (w.each + 1) * ((1 + (k + m)) + n)
 function_light w adds f fs k m n few h i =
     let l = adds.several_functions f fs in
@@ -361,22 +378,33 @@ function_light w adds f fs k m n few h i =
     let t = times_2 w.each k m in
     omega arith
 
-functions_light : (w : Weights) → NodesAdd w → StatementsAdd w
+functions_light : (w : Weights) → NodesAdd w → StatementsAdd w → FunctionsAdd w
     → (text : List ℕ) (file : Scope) (xs : List ExternalDeclaration) (number : ℕ)
     → w.functions (functions_of text file xs number).done ≤ (w.each + 1) * nodes_of xs
-functions_light w on_nodes adds text file [] number = let h = adds.no_function in omega arith
-functions_light w on_nodes adds text file (Globals base gs ∷ xs) number =
-    let i = functions_light w on_nodes adds text file xs number in
+functions_light w on_nodes adds all_add text file [] number = let h = all_add.no_function in
+    omega arith
+functions_light w on_nodes adds all_add text file (Globals base gs ∷ xs) number =
+    let i = functions_light w on_nodes adds all_add text file xs number in
     let e = mul-add (w.each + 1) (nodes_of_globals gs) (nodes_of xs) in
     omega arith
-functions_light w on_nodes adds text file (Function t n ps body ∷ xs) number =
-    function_light w adds _ (functions_of text file xs
+functions_light w on_nodes adds all_add text file (Function t n ps body ∷ xs) number =
+    let begun : Numbering = record {
+      sizes = map (λ p. size_of p.of) ps;
+      variables = map parameter_variable ps;
+      number = number;
+    } in
+    let block = with_parameters text ps [] 0 in
+    let m = resolve_statements body (around text file t) block begun in
+    let layout = layout_of m.counts.variables (checked.statements m.done) in
+    function_light w all_add _ (functions_of text file xs
     (function_of text file t n ps body number).number).done (length ps) (nodes_of_statements body)
-    (nodes_of xs) (few_locals ps body (around text file t) (with_parameters text ps [] 0) number)
-    (statements_light w on_nodes adds body (around text file t) (with_parameters text ps [] 0)
-    (record { sizes = map (λ p. size_of p.of) ps; number = number }))
-    (functions_light w on_nodes adds text file xs (function_of text file t n ps body number).number)
+    (nodes_of xs) (few_locals ps body (around text file t) block begun layout
+    (length-map ps (λ (p : Parameter). size_of p.of)))
+    (statements_light (placed w layout) (nodes_placed w layout on_nodes)
+    (statements_placed w layout adds) body (around text file t) block begun)
+    (functions_light w on_nodes adds all_add text file xs
+    (function_of text file t n ps body number).number)
 
 pub weight_is_bounded : WeightIsBounded
-weight_is_bounded w on_nodes adds text xs = functions_light w on_nodes adds text
+weight_is_bounded w on_nodes adds all_add text xs = functions_light w on_nodes adds all_add text
     (file_of text xs empty_file).scope xs 1

@@ -23,7 +23,8 @@ slower program linear steps_per_turn most le h arg m n many = let p = mul_le (m 
     h arg m n (omega arith)
 
 pub steps_per_turn_are_bounded : StepsPerTurnAreBounded
-steps_per_turn_are_bounded text xs bytes few = let w = resolved_weight text xs in omega arith
+steps_per_turn_are_bounded text xs within bytes few =
+    let w = resolved_weight text xs within in omega arith
 
 pub accepted_follows : AcceptedFollows
 accepted_follows text xs within accepted = lowered_follows (program_of text xs)
@@ -33,5 +34,5 @@ pub accepted_shows_no_more : AcceptedShowsNoMore
 accepted_shows_no_more text xs bytes within accepted few =
     slower (program_of text xs) (lowered (program_of text xs))
     (steps_per_turn_of (program_of text xs))
-    (steps_per_turn_in bytes) (steps_per_turn_are_bounded text xs bytes few)
+    (steps_per_turn_in bytes) (steps_per_turn_are_bounded text xs within bytes few)
     (lowered_shows_no_more (program_of text xs) (accepted_is_sound text xs within accepted))

@@ -16,11 +16,11 @@ use Rattle.image_link.specs.Walks.{IsNamed}
 use Rattle.text_bounds.specs.Names.{name_bytes}
 use Rattle.text_bounds.specs.Rooms.{functions_room}
 
--- no text's code takes more than 220 bytes for each of its nodes
+-- no text's code takes more than 237 bytes for each of its nodes
 abbrev pub CodeIsBounded : Type 0
 CodeIsBounded =
     (text : List ℕ) (xs : List ExternalDeclaration)
-    → functions_room (resolve text xs).program.functions ≤ 220 * nodes_of xs
+    → functions_room (resolve text xs).program.functions ≤ 237 * nodes_of xs
 
 -- each accepted text within the limits can be linked, where its nodes, and the bytes of its
 -- functions' names, are no more than the bytes of the longest text, and these are names

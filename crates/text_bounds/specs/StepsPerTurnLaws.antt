@@ -16,8 +16,8 @@ steps_per_turn_in bytes = 8 * bytes + 256
 
 abbrev pub StepsPerTurnAreBounded : Type 0
 StepsPerTurnAreBounded =
-    (text : List ℕ) (xs : List ExternalDeclaration) (bytes : ℕ) → nodes_of xs ≤ bytes
-    → steps_per_turn_of (resolve text xs).program ≤ steps_per_turn_in bytes
+    (text : List ℕ) (xs : List ExternalDeclaration) → Within text xs → (bytes : ℕ)
+    → nodes_of xs ≤ bytes → steps_per_turn_of (resolve text xs).program ≤ steps_per_turn_in bytes
 
 -- a text's program, by what it is resolved to
 abbrev pub program_of : List ℕ → List ExternalDeclaration → Program

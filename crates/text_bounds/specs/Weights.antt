@@ -9,7 +9,7 @@ use Rattle.c_checked.specs.declared.expression.Access.{Access}
 use Rattle.c_checked.specs.declared.expression.Conversion.{Conversion}
 use Rattle.c_checked.specs.declared.expression.Conversion.TheVariants.{Kept}
 use Rattle.c_checked.specs.declared.expression.Fixity.{Fixity}
-use Rattle.c_checked.specs.Expression.{Expression, On, Node, Constant, Read, AddressOf, Assign, CompoundAssign, Increment, Unary, Binary, PointerDifference, Not, And, Or, Conditional, Comma, Call, CallBuiltIn, ExceptionCode, Information, AbnormalTermination, Lvalue, Local, Global, Indirection, Element, Arguments, Done, Next}
+use Rattle.c_checked.specs.Expression.{Expression, On, Node, Constant, StackedArray, Read, AddressOf, Assign, CompoundAssign, Increment, Unary, Binary, PointerDifference, Not, And, Or, Conditional, Comma, Call, CallBuiltIn, ExceptionCode, Information, AbnormalTermination, Lvalue, Local, Global, Stacked, Indirection, Element, Arguments, Done, Next}
 use Rattle.c_checked.specs.Program.{Function}
 use Rattle.c_checked.specs.Statement.{Declared, Always, Funclet, Statement, Declare, Block, Evaluate, If, IfElse, For, DoWhile, Return, Break, Continue, Leave, TryExcept, TryFinally, Statements, Empty, Then}
 use Rattle.c_syntax.specs.declared.expression.CType.{CType}
@@ -43,6 +43,9 @@ pub record NodesAdd (w : Weights) : Type 0 where
   pub of_types : (from to : CType) → w.conversion (conversion from to) ≤ w.retyped
   pub constant : (z : Size) (n : ℕ) → w.node (Constant z n) + w.converted ≤ w.each
   pub of_local : (x : ℕ) → w.node (Read (Local x)) + w.converted ≤ w.each
+  pub of_stacked : (access : Access) (base offset : ℕ)
+      → w.node (Read (Stacked access base offset)) + w.converted ≤ w.each
+  pub array : (base offset : ℕ) → w.node (StackedArray base offset) + w.converted ≤ w.each
   pub of_global : (access : Access) (a : ℕ) → w.node (Read (Global access a)) + w.converted ≤ w.each
   pub indirection : (access : Access) (e : Expression)
       → w.node (Read (Indirection access e)) + w.converted ≤ w.each + w.expression e
@@ -118,8 +121,10 @@ pub record StatementsAdd (w : Weights) : Type 0 where
   pub no_declared : w.declared [] ≡ 0
   pub several_declared : (d : Declared) (ds : List Declared)
       → w.declared (d ∷ ds) ≡ w.statement (Declare d) + w.declared ds
+
+-- and of functions: one adds at most 1 for each of its locals
+pub record FunctionsAdd (w : Weights) : Type 0 where
   pub no_function : w.functions [] ≡ 0
-  -- a function adds at most 1 for each of its locals
   pub several_functions : (f : Function) (fs : List Function)
       → w.functions (f ∷ fs)
       ≤ w.each + (length f.locals + (w.statements f.body + w.functions fs))

@@ -2,9 +2,9 @@
 
 ghost use Rattle.text_bounds.specs.RoomLaws.{LoweredIsBounded};
 
-/// The code and the tables of a program take no more than the room of its functions, by their
-/// expressions and statements, and 576 bytes for each function and each filter or `__finally`
-/// block.
+/// The code and the tables of a sound program take no more than the room of its functions, by their
+/// expressions and statements, 576 bytes for each function and each filter or `__finally` block,
+/// and 1,182 for each function, for its part of the data stack.
 pub fn laws()
     ensures bounded { LoweredIsBounded }
 {}

@@ -2,12 +2,12 @@
 
 ghost use Rattle.text_bounds.specs.StepsPerTurnLaws.{StepsPerTurnAreBounded, AcceptedFollows, AcceptedShowsNoMore};
 
-/// One turn represents at most 8 steps for each byte of the text, and 256.
+/// One turn of a text within the limits represents at most 8 steps for each byte of it, and 256.
 pub fn steps_per_turn_are_bounded()
     ensures bounded { StepsPerTurnAreBounded }
 {}
 
-/// From 16 n + 3 turns on the linear code of an accepted text has shown the events of n steps, and
+/// From 16 n + 6 turns on the linear code of an accepted text has shown the events of n steps, and
 /// has ended as they end.
 pub fn accepted_follows()
     ensures follows { AcceptedFollows }

@@ -150,7 +150,7 @@ registers_restored_at_landing_text =
     ++ codes "int main(void){ int x = 5; __try{ put(g(x)); } __except(1){ put(x); } return 0; }"
 
 abbrev pub registers_restored_at_landing : List ExternalDeclaration
-registers_restored_at_landing = Function (record { base = bases.Int; pointers = 0 }) (at 4 5) (record { of = (record { base = bases.Int; pointers = 0 }); name = (at 10 11) } ∷ []) (stmts.Then (stmts.Evaluate (Some (trees.Assign (trees.Variable (at 14 15)) 16 None (trees.Binary (trees.Variable (at 18 19)) 20 (binary.Arithmetic arithmetic.Multiply) (trees.Constant 22 (literals.Integer 3 integers.Int)))))) (stmts.Then (stmts.Evaluate (Some (trees.Call (at 25 39) (trees.Next (trees.Constant 40 (literals.Integer 3758096385 integers.Unsigned)) (trees.Next (trees.Constant 51 (literals.Integer 0 integers.Int)) (trees.Next (trees.Constant 53 (literals.Integer 0 integers.Int)) (trees.Next (trees.Constant 55 (literals.Integer 0 integers.Int)) trees.Done))))))) (stmts.Then (stmts.Return 59 (Some (trees.Variable (at 66 67)))) stmts.Empty))) ∷ Function (record { base = bases.Int; pointers = 0 }) (at 75 79) ([]) (stmts.Then (stmts.Declare bases.Int (record { pointers = 0; name = (at 91 92); initialiser = (Some (trees.Constant 95 (literals.Integer 5 integers.Int))) } ∷ [])) (stmts.Then (stmts.TryExcept (stmts.Then (stmts.Evaluate (Some (trees.Call (at 105 108) (trees.Next (trees.Call (at 109 110) (trees.Next (trees.Variable (at 111 112)) trees.Done)) trees.Done)))) stmts.Empty) 118 (trees.Constant 127 (literals.Integer 1 integers.Int)) (stmts.Then (stmts.Evaluate (Some (trees.Call (at 131 134) (trees.Next (trees.Variable (at 135 136)) trees.Done)))) stmts.Empty)) (stmts.Then (stmts.Return 141 (Some (trees.Constant 148 (literals.Integer 0 integers.Int)))) stmts.Empty))) ∷ []
+registers_restored_at_landing = Function (record { base = bases.Int; pointers = 0 }) (at 4 5) (record { of = (record { base = bases.Int; pointers = 0 }); name = (at 10 11) } ∷ []) (stmts.Then (stmts.Evaluate (Some (trees.Assign (trees.Variable (at 14 15)) 16 None (trees.Binary (trees.Variable (at 18 19)) 20 (binary.Arithmetic arithmetic.Multiply) (trees.Constant 22 (literals.Integer 3 integers.Int)))))) (stmts.Then (stmts.Evaluate (Some (trees.Call (at 25 39) (trees.Next (trees.Constant 40 (literals.Integer 3758096385 integers.Unsigned)) (trees.Next (trees.Constant 51 (literals.Integer 0 integers.Int)) (trees.Next (trees.Constant 53 (literals.Integer 0 integers.Int)) (trees.Next (trees.Constant 55 (literals.Integer 0 integers.Int)) trees.Done))))))) (stmts.Then (stmts.Return 59 (Some (trees.Variable (at 66 67)))) stmts.Empty))) ∷ Function (record { base = bases.Int; pointers = 0 }) (at 75 79) ([]) (stmts.Then (stmts.Declare bases.Int (record { pointers = 0; name = (at 91 92); length = None; initialiser = (Some (trees.Constant 95 (literals.Integer 5 integers.Int))) } ∷ [])) (stmts.Then (stmts.TryExcept (stmts.Then (stmts.Evaluate (Some (trees.Call (at 105 108) (trees.Next (trees.Call (at 109 110) (trees.Next (trees.Variable (at 111 112)) trees.Done)) trees.Done)))) stmts.Empty) 118 (trees.Constant 127 (literals.Integer 1 integers.Int)) (stmts.Then (stmts.Evaluate (Some (trees.Call (at 131 134) (trees.Next (trees.Variable (at 135 136)) trees.Done)))) stmts.Empty)) (stmts.Then (stmts.Return 141 (Some (trees.Constant 148 (literals.Integer 0 integers.Int)))) stmts.Empty))) ∷ []
 
 abbrev pub deep_recursion_deep_text : List ℕ
 deep_recursion_deep_text =
@@ -190,7 +190,7 @@ sum_to_argument_0_text =
     ++ codes "put(s); return 0; }"
 
 abbrev pub sum_to_argument_0 : List ExternalDeclaration
-sum_to_argument_0 = Function (record { base = bases.Int; pointers = 0 }) (at 4 8) (record { of = (record { base = bases.LongLong; pointers = 0 }); name = (at 19 20) } ∷ []) (stmts.Then (stmts.Declare bases.LongLong (record { pointers = 0; name = (at 33 34); initialiser = (Some (trees.Constant 37 (literals.Integer 0 integers.Int))) } ∷ [])) (stmts.Then (stmts.While 40 (trees.Binary (trees.Variable (at 47 48)) 49 (binary.Comparison comparisons.Greater) (trees.Constant 51 (literals.Integer 0 integers.Int))) (stmts.Block (stmts.Then (stmts.Evaluate (Some (trees.Assign (trees.Variable (at 55 56)) 57 None (trees.Binary (trees.Variable (at 59 60)) 61 (binary.Arithmetic arithmetic.Add) (trees.Variable (at 63 64)))))) (stmts.Then (stmts.Evaluate (Some (trees.Assign (trees.Variable (at 66 67)) 68 None (trees.Binary (trees.Variable (at 70 71)) 72 (binary.Arithmetic arithmetic.Subtract) (trees.Constant 74 (literals.Integer 1 integers.Int)))))) stmts.Empty)))) (stmts.Then (stmts.Evaluate (Some (trees.Call (at 79 82) (trees.Next (trees.Variable (at 83 84)) trees.Done)))) (stmts.Then (stmts.Return 87 (Some (trees.Constant 94 (literals.Integer 0 integers.Int)))) stmts.Empty)))) ∷ []
+sum_to_argument_0 = Function (record { base = bases.Int; pointers = 0 }) (at 4 8) (record { of = (record { base = bases.LongLong; pointers = 0 }); name = (at 19 20) } ∷ []) (stmts.Then (stmts.Declare bases.LongLong (record { pointers = 0; name = (at 33 34); length = None; initialiser = (Some (trees.Constant 37 (literals.Integer 0 integers.Int))) } ∷ [])) (stmts.Then (stmts.While 40 (trees.Binary (trees.Variable (at 47 48)) 49 (binary.Comparison comparisons.Greater) (trees.Constant 51 (literals.Integer 0 integers.Int))) (stmts.Block (stmts.Then (stmts.Evaluate (Some (trees.Assign (trees.Variable (at 55 56)) 57 None (trees.Binary (trees.Variable (at 59 60)) 61 (binary.Arithmetic arithmetic.Add) (trees.Variable (at 63 64)))))) (stmts.Then (stmts.Evaluate (Some (trees.Assign (trees.Variable (at 66 67)) 68 None (trees.Binary (trees.Variable (at 70 71)) 72 (binary.Arithmetic arithmetic.Subtract) (trees.Constant 74 (literals.Integer 1 integers.Int)))))) stmts.Empty)))) (stmts.Then (stmts.Evaluate (Some (trees.Call (at 79 82) (trees.Next (trees.Variable (at 83 84)) trees.Done)))) (stmts.Then (stmts.Return 87 (Some (trees.Constant 94 (literals.Integer 0 integers.Int)))) stmts.Empty)))) ∷ []
 
 abbrev pub sum_to_argument_9_text : List ℕ
 sum_to_argument_9_text =
@@ -198,7 +198,7 @@ sum_to_argument_9_text =
     ++ codes "put(s); return 0; }"
 
 abbrev pub sum_to_argument_9 : List ExternalDeclaration
-sum_to_argument_9 = Function (record { base = bases.Int; pointers = 0 }) (at 4 8) (record { of = (record { base = bases.LongLong; pointers = 0 }); name = (at 19 20) } ∷ []) (stmts.Then (stmts.Declare bases.LongLong (record { pointers = 0; name = (at 33 34); initialiser = (Some (trees.Constant 37 (literals.Integer 0 integers.Int))) } ∷ [])) (stmts.Then (stmts.While 40 (trees.Binary (trees.Variable (at 47 48)) 49 (binary.Comparison comparisons.Greater) (trees.Constant 51 (literals.Integer 0 integers.Int))) (stmts.Block (stmts.Then (stmts.Evaluate (Some (trees.Assign (trees.Variable (at 55 56)) 57 None (trees.Binary (trees.Variable (at 59 60)) 61 (binary.Arithmetic arithmetic.Add) (trees.Variable (at 63 64)))))) (stmts.Then (stmts.Evaluate (Some (trees.Assign (trees.Variable (at 66 67)) 68 None (trees.Binary (trees.Variable (at 70 71)) 72 (binary.Arithmetic arithmetic.Subtract) (trees.Constant 74 (literals.Integer 1 integers.Int)))))) stmts.Empty)))) (stmts.Then (stmts.Evaluate (Some (trees.Call (at 79 82) (trees.Next (trees.Variable (at 83 84)) trees.Done)))) (stmts.Then (stmts.Return 87 (Some (trees.Constant 94 (literals.Integer 0 integers.Int)))) stmts.Empty)))) ∷ []
+sum_to_argument_9 = Function (record { base = bases.Int; pointers = 0 }) (at 4 8) (record { of = (record { base = bases.LongLong; pointers = 0 }); name = (at 19 20) } ∷ []) (stmts.Then (stmts.Declare bases.LongLong (record { pointers = 0; name = (at 33 34); length = None; initialiser = (Some (trees.Constant 37 (literals.Integer 0 integers.Int))) } ∷ [])) (stmts.Then (stmts.While 40 (trees.Binary (trees.Variable (at 47 48)) 49 (binary.Comparison comparisons.Greater) (trees.Constant 51 (literals.Integer 0 integers.Int))) (stmts.Block (stmts.Then (stmts.Evaluate (Some (trees.Assign (trees.Variable (at 55 56)) 57 None (trees.Binary (trees.Variable (at 59 60)) 61 (binary.Arithmetic arithmetic.Add) (trees.Variable (at 63 64)))))) (stmts.Then (stmts.Evaluate (Some (trees.Assign (trees.Variable (at 66 67)) 68 None (trees.Binary (trees.Variable (at 70 71)) 72 (binary.Arithmetic arithmetic.Subtract) (trees.Constant 74 (literals.Integer 1 integers.Int)))))) stmts.Empty)))) (stmts.Then (stmts.Evaluate (Some (trees.Call (at 79 82) (trees.Next (trees.Variable (at 83 84)) trees.Done)))) (stmts.Then (stmts.Return 87 (Some (trees.Constant 94 (literals.Integer 0 integers.Int)))) stmts.Empty)))) ∷ []
 
 abbrev pub misplaced_jumps_leave_text : List ℕ
 misplaced_jumps_leave_text = codes "int main(void){ __leave; }"
@@ -232,11 +232,30 @@ division_by_zero_traced_text = codes "int main(void){ put(1/0); return 0; }"
 abbrev pub division_by_zero_traced : List ExternalDeclaration
 division_by_zero_traced = Function (record { base = bases.Int; pointers = 0 }) (at 4 8) ([]) (stmts.Then (stmts.Evaluate (Some (trees.Call (at 16 19) (trees.Next (trees.Binary (trees.Constant 20 (literals.Integer 1 integers.Int)) 21 (binary.Arithmetic arithmetic.Divide) (trees.Constant 22 (literals.Integer 0 integers.Int))) trees.Done)))) (stmts.Then (stmts.Return 26 (Some (trees.Constant 33 (literals.Integer 0 integers.Int)))) stmts.Empty)) ∷ []
 
-abbrev pub address_of_local_refused_text : List ℕ
-address_of_local_refused_text = codes "int main(void){ int x; return &x == 0; }"
+abbrev pub address_of_local_text : List ℕ
+address_of_local_text = codes "int main(void){ int x; return &x == 0; }"
 
-abbrev pub address_of_local_refused : List ExternalDeclaration
-address_of_local_refused = Function (record { base = bases.Int; pointers = 0 }) (at 4 8) ([]) (stmts.Then (stmts.Declare bases.Int (record { pointers = 0; name = (at 20 21); initialiser = None } ∷ [])) (stmts.Then (stmts.Return 23 (Some (trees.Binary (trees.Unary 30 unary.AddressOf (trees.Variable (at 31 32))) 33 (binary.Comparison comparisons.Equal) (trees.Constant 36 (literals.Integer 0 integers.Int))))) stmts.Empty)) ∷ []
+abbrev pub address_of_local : List ExternalDeclaration
+address_of_local = Function (record { base = bases.Int; pointers = 0 }) (at 4 8) ([]) (stmts.Then (stmts.Declare bases.Int (record { pointers = 0; name = (at 20 21); length = None; initialiser = None } ∷ [])) (stmts.Then (stmts.Return 23 (Some (trees.Binary (trees.Unary 30 unary.AddressOf (trees.Variable (at 31 32))) 33 (binary.Comparison comparisons.Equal) (trees.Constant 36 (literals.Integer 0 integers.Int))))) stmts.Empty)) ∷ []
+
+abbrev pub local_array_sum_text : List ℕ
+local_array_sum_text =
+    codes "int s(int *p, int n){ int t = 0; int i; for (i = 0; i < n; i++) t = t + p[i]; "
+    ++ codes "return t; } int main(void){ int a[4]; a[1] = 5; a[3] = 7; put(s(a, 4)); "
+    ++ codes "put((long long)a); return 0; }"
+
+abbrev pub local_array_sum : List ExternalDeclaration
+local_array_sum = Function (record { base = bases.Int; pointers = 0 }) (at 4 5) (record { of = (record { base = bases.Int; pointers = 1 }); name = (at 11 12) } ∷ record { of = (record { base = bases.Int; pointers = 0 }); name = (at 18 19) } ∷ []) (stmts.Then (stmts.Declare bases.Int (record { pointers = 0; name = (at 26 27); length = None; initialiser = (Some (trees.Constant 30 (literals.Integer 0 integers.Int))) } ∷ [])) (stmts.Then (stmts.Declare bases.Int (record { pointers = 0; name = (at 37 38); length = None; initialiser = None } ∷ [])) (stmts.Then (stmts.For 40 (stmts.Evaluating (Some (trees.Assign (trees.Variable (at 45 46)) 47 None (trees.Constant 49 (literals.Integer 0 integers.Int))))) (Some (trees.Binary (trees.Variable (at 52 53)) 54 (binary.Comparison comparisons.Less) (trees.Variable (at 56 57)))) (Some (trees.Postfix (trees.Variable (at 59 60)) increments.Increment 60)) (stmts.Evaluate (Some (trees.Assign (trees.Variable (at 64 65)) 66 None (trees.Binary (trees.Variable (at 68 69)) 70 (binary.Arithmetic arithmetic.Add) (trees.Index (trees.Variable (at 72 73)) 73 (trees.Variable (at 74 75)))))))) (stmts.Then (stmts.Return 78 (Some (trees.Variable (at 85 86)))) stmts.Empty)))) ∷ Function (record { base = bases.Int; pointers = 0 }) (at 94 98) ([]) (stmts.Then (stmts.Declare bases.Int (record { pointers = 0; name = (at 110 111); length = (Some (record { at = 112; value = 4 })); initialiser = None } ∷ [])) (stmts.Then (stmts.Evaluate (Some (trees.Assign (trees.Index (trees.Variable (at 116 117)) 117 (trees.Constant 118 (literals.Integer 1 integers.Int))) 121 None (trees.Constant 123 (literals.Integer 5 integers.Int))))) (stmts.Then (stmts.Evaluate (Some (trees.Assign (trees.Index (trees.Variable (at 126 127)) 127 (trees.Constant 128 (literals.Integer 3 integers.Int))) 131 None (trees.Constant 133 (literals.Integer 7 integers.Int))))) (stmts.Then (stmts.Evaluate (Some (trees.Call (at 136 139) (trees.Next (trees.Call (at 140 141) (trees.Next (trees.Variable (at 142 143)) (trees.Next (trees.Constant 145 (literals.Integer 4 integers.Int)) trees.Done))) trees.Done)))) (stmts.Then (stmts.Evaluate (Some (trees.Call (at 150 153) (trees.Next (trees.Cast 154 (record { base = bases.LongLong; pointers = 0 }) (trees.Variable (at 165 166))) trees.Done)))) (stmts.Then (stmts.Return 169 (Some (trees.Constant 176 (literals.Integer 0 integers.Int)))) stmts.Empty)))))) ∷ []
+
+abbrev pub data_stack_pointer_in_handlers_text : List ℕ
+data_stack_pointer_in_handlers_text =
+    codes "int g(void){ int b[4]; *(int*)0 = 1; return 0; } int h(void){ int c = 3; int *q "
+    ++ codes "= &c; return (int)(long long)q; } int main(void){ int x; int *p = &x; __try{ "
+    ++ codes "g(); } __except(put(h() - (int)(long long)p), 1){ put(h() - (int)(long long)p); "
+    ++ codes "} return 0; }"
+
+abbrev pub data_stack_pointer_in_handlers : List ExternalDeclaration
+data_stack_pointer_in_handlers = Function (record { base = bases.Int; pointers = 0 }) (at 4 5) ([]) (stmts.Then (stmts.Declare bases.Int (record { pointers = 0; name = (at 17 18); length = (Some (record { at = 19; value = 4 })); initialiser = None } ∷ [])) (stmts.Then (stmts.Evaluate (Some (trees.Assign (trees.Unary 23 unary.Indirection (trees.Cast 24 (record { base = bases.Int; pointers = 1 }) (trees.Constant 30 (literals.Integer 0 integers.Int)))) 32 None (trees.Constant 34 (literals.Integer 1 integers.Int))))) (stmts.Then (stmts.Return 37 (Some (trees.Constant 44 (literals.Integer 0 integers.Int)))) stmts.Empty))) ∷ Function (record { base = bases.Int; pointers = 0 }) (at 53 54) ([]) (stmts.Then (stmts.Declare bases.Int (record { pointers = 0; name = (at 66 67); length = None; initialiser = (Some (trees.Constant 70 (literals.Integer 3 integers.Int))) } ∷ [])) (stmts.Then (stmts.Declare bases.Int (record { pointers = 1; name = (at 78 79); length = None; initialiser = (Some (trees.Unary 82 unary.AddressOf (trees.Variable (at 83 84)))) } ∷ [])) (stmts.Then (stmts.Return 86 (Some (trees.Cast 93 (record { base = bases.Int; pointers = 0 }) (trees.Cast 98 (record { base = bases.LongLong; pointers = 0 }) (trees.Variable (at 109 110)))))) stmts.Empty))) ∷ Function (record { base = bases.Int; pointers = 0 }) (at 118 122) ([]) (stmts.Then (stmts.Declare bases.Int (record { pointers = 0; name = (at 134 135); length = None; initialiser = None } ∷ [])) (stmts.Then (stmts.Declare bases.Int (record { pointers = 1; name = (at 142 143); length = None; initialiser = (Some (trees.Unary 146 unary.AddressOf (trees.Variable (at 147 148)))) } ∷ [])) (stmts.Then (stmts.TryExcept (stmts.Then (stmts.Evaluate (Some (trees.Call (at 157 158) trees.Done))) stmts.Empty) 164 (trees.Comma (trees.Call (at 173 176) (trees.Next (trees.Binary (trees.Call (at 177 178) trees.Done) 181 (binary.Arithmetic arithmetic.Subtract) (trees.Cast 183 (record { base = bases.Int; pointers = 0 }) (trees.Cast 188 (record { base = bases.LongLong; pointers = 0 }) (trees.Variable (at 199 200))))) trees.Done)) 201 (trees.Constant 203 (literals.Integer 1 integers.Int))) (stmts.Then (stmts.Evaluate (Some (trees.Call (at 207 210) (trees.Next (trees.Binary (trees.Call (at 211 212) trees.Done) 215 (binary.Arithmetic arithmetic.Subtract) (trees.Cast 217 (record { base = bases.Int; pointers = 0 }) (trees.Cast 222 (record { base = bases.LongLong; pointers = 0 }) (trees.Variable (at 233 234))))) trees.Done)))) stmts.Empty)) (stmts.Then (stmts.Return 239 (Some (trees.Constant 246 (literals.Integer 0 integers.Int)))) stmts.Empty)))) ∷ []
 
 abbrev pub six_arguments_text : List ℕ
 six_arguments_text =
@@ -261,7 +280,7 @@ break_through_finally_text =
     ++ codes "__finally{ put(AbnormalTermination()); } } return i; }"
 
 abbrev pub break_through_finally : List ExternalDeclaration
-break_through_finally = Function (record { base = bases.Int; pointers = 0 }) (at 4 8) ([]) (stmts.Then (stmts.Declare bases.Int (record { pointers = 0; name = (at 20 21); initialiser = None } ∷ [])) (stmts.Then (stmts.For 23 (stmts.Evaluating (Some (trees.Assign (trees.Variable (at 28 29)) 30 None (trees.Constant 32 (literals.Integer 0 integers.Int))))) (Some (trees.Binary (trees.Variable (at 35 36)) 37 (binary.Comparison comparisons.Less) (trees.Constant 39 (literals.Integer 3 integers.Int)))) (Some (trees.Postfix (trees.Variable (at 42 43)) increments.Increment 43)) (stmts.Block (stmts.Then (stmts.TryFinally (stmts.Then (stmts.If 55 (trees.Binary (trees.Variable (at 59 60)) 61 (binary.Comparison comparisons.Equal) (trees.Constant 64 (literals.Integer 1 integers.Int))) (stmts.Break 67)) stmts.Empty) 76 (stmts.Then (stmts.Evaluate (Some (trees.Call (at 87 90) (trees.Next (trees.Call (at 91 110) trees.Done) trees.Done)))) stmts.Empty)) stmts.Empty))) (stmts.Then (stmts.Return 119 (Some (trees.Variable (at 126 127)))) stmts.Empty))) ∷ []
+break_through_finally = Function (record { base = bases.Int; pointers = 0 }) (at 4 8) ([]) (stmts.Then (stmts.Declare bases.Int (record { pointers = 0; name = (at 20 21); length = None; initialiser = None } ∷ [])) (stmts.Then (stmts.For 23 (stmts.Evaluating (Some (trees.Assign (trees.Variable (at 28 29)) 30 None (trees.Constant 32 (literals.Integer 0 integers.Int))))) (Some (trees.Binary (trees.Variable (at 35 36)) 37 (binary.Comparison comparisons.Less) (trees.Constant 39 (literals.Integer 3 integers.Int)))) (Some (trees.Postfix (trees.Variable (at 42 43)) increments.Increment 43)) (stmts.Block (stmts.Then (stmts.TryFinally (stmts.Then (stmts.If 55 (trees.Binary (trees.Variable (at 59 60)) 61 (binary.Comparison comparisons.Equal) (trees.Constant 64 (literals.Integer 1 integers.Int))) (stmts.Break 67)) stmts.Empty) 76 (stmts.Then (stmts.Evaluate (Some (trees.Call (at 87 90) (trees.Next (trees.Call (at 91 110) trees.Done) trees.Done)))) stmts.Empty)) stmts.Empty))) (stmts.Then (stmts.Return 119 (Some (trees.Variable (at 126 127)))) stmts.Empty))) ∷ []
 
 abbrev pub return_through_two_finallys_text : List ℕ
 return_through_two_finallys_text =

@@ -5,3 +5,4 @@
 
 pub mod linear_rows;
 pub mod source_rows;
+pub mod stack_rows;

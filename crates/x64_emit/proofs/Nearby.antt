@@ -3,10 +3,12 @@ use Rattle.std.proofs.Common.{◌≡◌, ℕ, zero, suc, ◌+◌, ◌-◌, ◌*�
 use Rattle.std.specs.Prelude.{OnOk}
 use Rattle.std.specs.List.{AllByRecursion}
 use Rattle.std.proofs.lemmas.Grind.{flat_map-append}
-use Rattle.x64_emit.specs.Words.{W32, W64, Instr, chosen, is_signed, spelled, sizes, temporary_at, fetched, fetch, distance, compare_zero, test_code, keep_register, arguments_code, passing_code, parameter_code, parameters_code, Links, template, template_size, body_size, code_from, IsInstructionNear, IsNear, instruction_room, code_room, slot_room, labels_from, Instruction, Layout, Slot, Local, Temporary, Rax, Rsp}
+use Rattle.x64_emit.specs.Words.{W32, W64, Instr, chosen, is_signed, spelled, sizes, temporary_at, fetched, fetch, distance, compare_zero, test_code, keep_register, arguments_code, passing_code, parameter_code, parameters_code, Links, template, template_size, body_size, code_from, IsInstructionNear, IsNear, instruction_room, code_room, slot_room, pure_room, operation_room, labels_from, Instruction, Layout, Slot, Local, Temporary, Rax, Rsp}
 use Rattle.x64_emit.proofs.Rooms.{template_in_room}
 use Rattle.linear_code.specs.declared.instruction.Instruction.TheVariants as instructions
+use Rattle.c_operations.specs.declared.operation.Operation.{Operation}
 use Rattle.c_operations.specs.declared.operation.Operation.TheVariants as operations
+use Rattle.c_operations.specs.declared.operation.Pure.{Pure}
 use Rattle.c_operations.specs.declared.operation.Pure.TheVariants as pures
 use Rattle.x64_emit.proofs.Lemmas.{sizes_spelled, template_sizes, short, sizes_small, fetch_length, PassesFew}
 
@@ -176,12 +178,25 @@ slot_room_small : (x : Slot) → slot_room x ≤ 16
 slot_room_small (Local i) = omega arith
 slot_room_small (Temporary i) = omega arith
 
+pure_room_small : (p : Pure) → pure_room p ≤ 14
+pure_room_small (pures.MultiplyBy n) = omega arith
+pure_room_small p = omega arith
+
+pub operation_room_small : (o : Operation) → operation_room o ≤ 29
+operation_room_small (operations.Pure p) = let a = pure_room_small p in omega arith
+operation_room_small (operations.Allocate n) = omega arith
+operation_room_small (operations.SetPointer n) = omega arith
+operation_room_small (operations.Place w offset) = omega arith
+operation_room_small (operations.Clear w offset) = omega arith
+operation_room_small o = omega arith
+
 -- no template takes more bytes than this
 pub room_small : (i : Instruction) → instruction_room i ≤ 109
 room_small (instructions.Compute to o first second) =
     let a = slot_room_small to in
     let b = slot_room_small first in
     let c = slot_room_small second in
+    let e = operation_room_small o in
     omega arith
 room_small (instructions.Information to field) = let a = slot_room_small to in omega arith
 room_small (instructions.Landing to) = let a = slot_room_small to in omega arith

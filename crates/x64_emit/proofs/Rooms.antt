@@ -3,7 +3,7 @@ use Rattle.std.proofs.Common.{◌≡◌, refl, ℕ, zero, suc, ◌+◌, ◌-◌,
 use Rattle.std.specs.Prelude.{◌==◌, ◌%◌, not}
 use Rattle.std.proofs.lemmas.Bool.{ne_eqb}
 use Rattle.seh_num.specs.declared.width.Width.{Width}
-use Rattle.x64_emit.specs.Words.{W8, W16, W32, W64, Rax, Rcx, Rdx, Rsp, R8, R9, little, is_signed, has_rex, prefixes, mode, displacement, sib, at_register, place_bytes, modrm_bits, modrm, opcode_register, Slot, Local, Temporary, Instruction, Layout, size, sizes, local_at, temporary_at, fetched, fetch_local, keep_local, fetch_placed, keep_placed, place_of, parameter_register, Place, InRegister, InFrame, Arriving, fetch, fetch_if, has_first, has_second, keep, operands_code, finish_code, compute_code, compare_zero, field_load, passing_code, arguments_code, call_code, clear_result, call_finally_code, local_unwind_code, template_size, slot_room, instruction_room}
+use Rattle.x64_emit.specs.Words.{W8, W16, W32, W64, Rax, Rcx, Rdx, Rsp, R8, R9, little, is_signed, has_rex, prefixes, mode, displacement, sib, at_register, place_bytes, modrm_bits, modrm, opcode_register, Slot, Local, Temporary, Instruction, Layout, size, sizes, local_at, temporary_at, fetched, fetch_local, keep_local, fetch_placed, keep_placed, place_of, parameter_register, Place, InRegister, InFrame, Arriving, fetch, fetch_if, has_first, has_second, keep, operands_code, finish_code, compute_code, compare_zero, field_load, passing_code, arguments_code, call_code, clear_result, call_finally_code, local_unwind_code, template_size, slot_room, instruction_room, pure_room, operation_room}
 use Rattle.seh_num.specs.Widths.{low}
 use Rattle.frame_rules.specs.Plan.{loads_then, opening_then, pops_then, epilogue}
 use Rattle.template_code.specs.Frames.{pushes_of, saves_of, saving_plan, plan_of_layout}
@@ -142,7 +142,7 @@ compare_size relations.Equal s Int = omega arith
 compare_size r s Int = omega arith
 compare_size r s z = omega arith
 
-pure_size : (p : Pure) → sizes (pure_code p) ≤ 11
+pure_size : (p : Pure) → sizes (pure_code p) ≤ pure_room p
 unfolding size modrm opcode_register
 pure_size (pures.Extend s n z) = let e = extended_size s n z in omega arith
 pure_size (pures.Compare r s z) = compare_size r s z
@@ -158,6 +158,7 @@ pure_size (pures.Subtract Int) = omega arith
 pure_size (pures.Subtract Long) = omega arith
 pure_size (pures.Multiply Int) = omega arith
 pure_size (pures.Multiply Long) = omega arith
+pure_size (pures.MultiplyBy n) = omega arith
 pure_size (pures.And Int) = omega arith
 pure_size (pures.And Long) = omega arith
 pure_size (pures.Or Int) = omega arith
@@ -171,7 +172,7 @@ pure_size (pures.ShiftRight Unsigned Long) = omega arith
 pure_size (pures.ShiftRight Signed Int) = omega arith
 pure_size (pures.ShiftRight Signed Long) = omega arith
 
-pub operation_size : (o : Operation) → sizes (before o) + sizes (work o) ≤ 11
+pub operation_size : (o : Operation) → sizes (before o) + sizes (work o) ≤ operation_room o
 unfolding size modrm opcode_register
 operation_size (operations.Pure p) = let e = pure_size p in omega arith
 operation_size (operations.Divide Unsigned Int) = omega arith
@@ -190,10 +191,20 @@ operation_size (operations.Store W8) = omega arith
 operation_size (operations.Store W16) = omega arith
 operation_size (operations.Store W32) = omega arith
 operation_size (operations.Store W64) = omega arith
+operation_size (operations.Allocate n) = omega arith
+operation_size (operations.SetPointer n) = omega arith
+operation_size (operations.Place W8 offset) = omega arith
+operation_size (operations.Place W16 offset) = omega arith
+operation_size (operations.Place W32 offset) = omega arith
+operation_size (operations.Place W64 offset) = omega arith
+operation_size (operations.Clear W8 offset) = omega arith
+operation_size (operations.Clear W16 offset) = omega arith
+operation_size (operations.Clear W32 offset) = omega arith
+operation_size (operations.Clear W64 offset) = omega arith
 
 compute_size : (y : Layout) (to : Slot) (o : Operation) (first second : Slot)
     → sizes (compute_code y to o first second)
-    ≤ slot_room to + slot_room first + slot_room second + 11
+    ≤ slot_room to + slot_room first + slot_room second + operation_room o
 compute_size y to o first second =
     let a = fetch_if_size (has_first o) y Rax first in
     let b = fetch_if_size (has_second o) y Rcx second in

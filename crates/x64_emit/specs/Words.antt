@@ -22,4 +22,4 @@ pub use Rattle.template_code.specs.declared.layout.Layout.{Layout}
 pub use Rattle.x64_emit.specs.Bodies.{label_list, labels_from, part_ranges}
 pub use Rattle.x64_emit.specs.Linking.{links_of}
 pub use Rattle.x64_emit.specs.Near.{IsInstructionNear, IsNear}
-pub use Rattle.x64_emit.specs.Rooms.{instruction_room, code_room, slot_room}
+pub use Rattle.x64_emit.specs.Rooms.{instruction_room, code_room, slot_room, pure_room, operation_room}

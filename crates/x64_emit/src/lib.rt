@@ -10,6 +10,7 @@
 
 pub mod body;
 pub mod calls;
+pub mod data_stack;
 pub mod entry;
 pub mod frames;
 mod immediates;

@@ -6,6 +6,7 @@ ghost use Rattle.x64_encode.specs.Chosen.{is_wide, IsEncodable};
 ghost use Rattle.template_code.specs.Operations as spec;
 ghost use Rattle.x64_emit.specs.Appending.{Appended};
 
+use crate::data_stack::{put_allocate, put_clear, put_place, put_set, put_set_pointer};
 use crate::immediates::put_constant;
 use crate::put::{RAX, RCX, above, arithmetic, copy, put, set};
 use c_operations::operation::{Operation, Pure, Relation, Signedness, Size};
@@ -217,6 +218,10 @@ fn put_pure(code: &mut Vec<u8>, operation: Pure) -> Result<(), AllocError>
         Pure::Add(size) => put(code, &arithmetic_of_both(x64::Operation::Add, size)),
         Pure::Subtract(size) => put(code, &arithmetic_of_both(x64::Operation::Sub, size)),
         Pure::Multiply(size) => put(code, &multiply(size)),
+        Pure::MultiplyBy(number) => {
+            put_set(code, Reg::Rcx, number)?;
+            put(code, &multiply(Size::Long))
+        }
         Pure::And(size) => put(code, &arithmetic_of_both(x64::Operation::And, size)),
         Pure::Or(size) => put(code, &arithmetic_of_both(x64::Operation::Or, size)),
         Pure::Xor(size) => put(code, &arithmetic_of_both(x64::Operation::Xor, size)),
@@ -251,7 +256,7 @@ pub fn put_before(code: &mut Vec<u8>, operation: Operation) -> Result<(), AllocE
         Operation::Divide(signedness, size) | Operation::Remainder(signedness, size) => {
             put(code, &high_half(signedness, size))
         }
-        Operation::Pure(_) | Operation::Load(_) | Operation::Store(_) => Ok(()),
+        _ => Ok(()),
     }
 }
 
@@ -319,5 +324,9 @@ pub fn put_work(code: &mut Vec<u8>, operation: Operation) -> Result<(), AllocErr
         }
         Operation::Load(width) => put(code, &load(width)),
         Operation::Store(width) => put_store(code, width),
+        Operation::Allocate(bytes) => put_allocate(code, bytes),
+        Operation::SetPointer(bytes) => put_set_pointer(code, bytes),
+        Operation::Place { width, offset } => put_place(code, width, offset),
+        Operation::Clear { width, offset } => put_clear(code, width, offset),
     }
 }

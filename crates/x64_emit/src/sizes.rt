@@ -74,7 +74,7 @@ fn operand_size(layout: &Layout, read: bool, slot: Slot) -> Option<u32>
 #[tactic(auto, unfolding(template_code::specs::Bytes::size, x64_encode::specs::Chosen::opcode_register))]
 fn operation_size(operation: Operation) -> Option<u32>
     ensures value { IfSome result (λ n. n ≡ sizes (before operation ++ work operation)) }
-    ensures small { IfSome result (λ n. n ≤ 11) }
+    ensures small { IfSome result (λ n. n ≤ 29) }
 {
     match operation {
         Operation::Pure(Pure::Constant(_)) => Some(CONSTANT_SIZE),

@@ -165,6 +165,16 @@ impl PageMap {
         stretch::likely_index_of(&self.stretches, self.likely, at / PAGE)
     }
 
+    /// The byte at an address, whatever the protection there; 0 where nothing is mapped.
+    pub fn byte(&self, at: u64) -> u8
+        ensures { result ≡ (memory_of self.now).byte at }
+    {
+        match self.index(at) {
+            None => 0,
+            Some(index) => self.pages[index].bytes[(at % PAGE) as usize],
+        }
+    }
+
     /// Puts bytes into one page, whatever its protection.
     fn fill_page(&mut self, at: u64, piece: &[u8])
         requires within { at % PAGE + length piece.now ≤ PAGE }

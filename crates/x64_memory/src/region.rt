@@ -2,7 +2,7 @@ ghost use Rattle.std.specs.Prelude.{◌≡◌};
 ghost use Rattle.x64_memory.specs.Regions.{region_mode};
 
 use flat_memory::protection::{Protection, Rights};
-use host_layout::range::{ARENA_END, ARENA_START};
+use host_layout::range::{ARENA_END, ARENA_START, DATA_STACK_END, DATA_STACK_START};
 
 /// Addresses from `start` to below `end` that are mapped with one protection.
 #[derive(Clone, Copy, Debug, PartialEq, Eq)]
@@ -25,6 +25,15 @@ pub const ARENA: Region = Region {
     end: ARENA_END,
     read: false,
     write: false,
+    execute: false,
+};
+
+/// The data stack, of variables of which an address is taken.
+pub const DATA_STACK: Region = Region {
+    start: DATA_STACK_START,
+    end: DATA_STACK_END,
+    read: true,
+    write: true,
     execute: false,
 };
 

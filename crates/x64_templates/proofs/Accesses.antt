@@ -1,7 +1,7 @@
 -- Loads and stores of the source, which can fault.
 use Rattle.std.proofs.Common.{◌≡◌, ℕ, zero, suc, ◌+◌, ◌*◌, ◌/◌, ◌%◌, ◌^◌, ◌<◌, Bool, true, false, cond, [], ◌∷◌, Option, Some, None, Ok, Err, refl, sym, ap, ◌∙◌, arith}
 use Rattle.std.specs.Prelude.{not}
-use Rattle.x64_templates.specs.Words.{Width, W8, W16, W32, W64, bytes_of, low, Protection, is_readable, is_writable, Memory, next, first_refused, may_read, may_write, number_at, with_number, with_bytes, access, unless_refused, IsApart, Rax, Rcx, Instr, Flags, ◌>>=◌, granted, effect, Gives, MachineView, machine, Agrees, above, move, Implements, is_among, refused, refusal}
+use Rattle.x64_templates.specs.Words.{Width, W8, W16, W32, W64, bytes_of, low, Protection, is_readable, is_writable, Memory, next, first_refused, may_read, may_write, number_at, with_number, with_bytes, access, unless_refused, IsApart, Rax, Rcx, Instr, Flags, ◌>>=◌, granted, effect, Gives, MachineView, machine, Agrees, above, move, Implements, is_among, refused, refusal, HasPointer}
 use Rattle.flat_memory.specs.declared.access.RefusedAccess.TheVariants as accesses
 use Rattle.flat_memory.specs.Memory.{distance}
 use Rattle.host_layout.specs.Ranges.{in_guard}
@@ -89,7 +89,7 @@ modes_agree : (reserved : ℕ → Bool) (m source : Memory) → Agrees reserved 
 modes_agree reserved m source agrees a r = ap (λ (x : Protection). is_readable x.rights)
     (agrees.protection a r)
 
-write_modes_agree : (reserved : ℕ → Bool) (m source : Memory) → Agrees reserved m source → (a : ℕ)
+pub write_modes_agree : (reserved : ℕ → Bool) (m source : Memory) → Agrees reserved m source → (a : ℕ)
     → reserved a ≡ false → may_write m a ≡ may_write source a
 write_modes_agree reserved m source agrees a r = ap (λ (x : Protection). is_writable x.rights)
     (agrees.protection a r)
@@ -212,7 +212,7 @@ store_by w v o rip f lt e =
           (with_number v.memory.byte (bytes_of w) v.rax (low w v.rcx))) v.memory;
     }) rip f)) e
 
-same_bytes : (f g : ℕ → ℕ) (n at v a : ℕ) → f a ≡ g a
+pub same_bytes : (f g : ℕ → ℕ) (n at v a : ℕ) → f a ≡ g a
     → with_number f n at v a ≡ with_number g n at v a
 unfolding with_number
 same_bytes f g n at v a e = ap (λ (x : ℕ). cond (is_among n at a) (v / 256 ^ distance at a % 256) x)
@@ -227,7 +227,19 @@ digits f n at v a lt = go (is_among n at a)
     go true = omega arith
     go false = lt
 
-own_apart : (reserved : ℕ → Bool) (n at a : ℕ) → at < 2 ^ 64
+-- the data stack's pointer stays one whatever is written
+pub pointer_stored : (reserved : ℕ → Bool) (source : Memory) (n at v : ℕ)
+    → HasPointer reserved source
+    → HasPointer reserved (with_bytes source (with_number source.byte n at v))
+pointer_stored reserved source n at v h a l u =
+    let p = h a l u in
+    record {
+      seen = p.seen;
+      writable = p.writable;
+      small = digits source.byte n at v a p.small;
+    }
+
+pub own_apart : (reserved : ℕ → Bool) (n at a : ℕ) → at < 2 ^ 64
     → first_refused (free reserved) n at ≡ None → reserved a ≡ true → IsApart a at n
 own_apart reserved n at a lt e own i il is =
     let f = free_is (reserved ((at + i) % 2 ^ 64)) (allowed (free reserved) n at i lt e il) in
@@ -271,6 +283,8 @@ store_implemented reserved w v source lt small agrees = outer
                 (agrees.byte a r);
             protection = agrees.protection;
             guard = agrees.guard;
+            pointer = pointer_stored reserved source (bytes_of w) v.rax (low w v.rcx)
+                agrees.pointer;
           };
           protection = refl;
           own = λ a own. untouched v.memory.byte (bytes_of w) v.rax (low w v.rcx) a

@@ -264,6 +264,7 @@ module _ (y : Layout) (n : Counts) (reserved : ℕ → Bool) (sp base : ℕ) (ar
       byte = λ a r. beside m x v a is (off_slots a x is (free_off l m b a h r)) ∙ h.source.byte a r;
       protection = h.source.protection;
       guard = h.source.guard;
+      pointer = h.source.pointer;
     };
   }
 

@@ -112,12 +112,7 @@ prepared (operations.Divide s z) v a b = let h = half_set s z (waiting v a b v.r
     record { rdx = h.rdx; does = h.does; ready = h.half }
 prepared (operations.Remainder s z) v a b = let h = half_set s z (waiting v a b v.rdx) in
     record { rdx = h.rdx; does = h.does; ready = h.half }
-prepared (operations.Load w) v a b = record {
-  rdx = v.rdx;
-  does = executes_nothing (waiting v a b v.rdx);
-  ready = tt;
-}
-prepared (operations.Store w) v a b = record {
+prepared o v a b = record {
   rdx = v.rdx;
   does = executes_nothing (waiting v a b v.rdx);
   ready = tt;

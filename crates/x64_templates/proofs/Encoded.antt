@@ -1,7 +1,8 @@
 -- Each instruction of an operation has a spelling, is followed by the next, and begins no epilogue.
 use Rattle.std.proofs.Common.{◌≡◌, ℕ, ◌^◌, ◌<◌, Bool, true, false, ltb, List, [], ◌∷◌, ◌++◌, Option, Some, None, refl, arith}
 use Rattle.std.proofs.lemmas.Bool.{lt-ltb}
-use Rattle.x64_templates.specs.Words.{Width, W8, W16, W32, W64, low, Reg, Rax, Rcx, Rsp, Instr, is_encodable, Slot, Local, Temporary, Size, Int, Long, Signedness, Unsigned, Signed, Relation, Pure, Operation, width, Counts, IsSlot, Layout, is_straight, AllStraight, begins_epilogue, takes_frame, NoneTakesFrame, compare, extended, pure_code, high_half, before, work, fetched, put_back, temporary_at, local_at, fetch_local, keep_local, fetch, fetch_if, has_first, has_second, keep, operands_code, finish_code, HasBase, SlotsHaveRoom, is_signed, is_rsp_place, is_subtraction, is_number, Place, InRegister, InFrame, Arriving, place_of, fetch_placed, keep_placed}
+use Rattle.x64_instr.specs.Operands.{immediate_of}
+use Rattle.x64_templates.specs.Words.{Width, W8, W16, W32, W64, low, bytes_of, Reg, Rax, Rcx, Rsp, Instr, is_encodable, Slot, Local, Temporary, Size, Int, Long, Signedness, Unsigned, Signed, Relation, Pure, Operation, width, Counts, IsSlot, Layout, is_straight, AllStraight, begins_epilogue, takes_frame, NoneTakesFrame, compare, extended, pure_code, high_half, before, work, fetched, put_back, temporary_at, local_at, fetch_local, keep_local, fetch, fetch_if, has_first, has_second, keep, operands_code, finish_code, HasBase, SlotsHaveRoom, is_signed, is_rsp_place, is_subtraction, is_number, Place, InRegister, InFrame, Arriving, place_of, fetch_placed, keep_placed}
 use Rattle.x64_templates.proofs.PlacedCode.{Encodable}
 use Rattle.c_operations.specs.declared.operation.Relation.TheVariants as relations
 use Rattle.c_operations.specs.declared.operation.Pure.TheVariants as pures
@@ -150,6 +151,7 @@ pure_fine (pures.Add z) = (refl, refl, refl, tt)
 pure_fine (pures.Subtract z) = (refl, refl, refl, tt)
 pure_fine (pures.Multiply Int) = (refl, refl, refl, tt)
 pure_fine (pures.Multiply Long) = (refl, refl, refl, tt)
+pure_fine (pures.MultiplyBy n) = (number_fine n, refl, refl, (refl, refl, refl, tt))
 pure_fine (pures.And z) = (refl, refl, refl, tt)
 pure_fine (pures.Or z) = (refl, refl, refl, tt)
 pure_fine (pures.Xor z) = (refl, refl, refl, tt)
@@ -168,8 +170,16 @@ before_fine : (o : Operation) → Fine (before o)
 before_fine (operations.Pure p) = tt
 before_fine (operations.Divide s z) = half_fine s z
 before_fine (operations.Remainder s z) = half_fine s z
-before_fine (operations.Load w) = tt
-before_fine (operations.Store w) = tt
+before_fine o = tt
+
+clear_fine : (w : Width) (offset : ℕ) → is_signed W32 W64 (bytes_of w) ≡ true
+    → is_signed (immediate_of w) w 0 ≡ true → Fine (work (operations.Clear w offset))
+clear_fine w offset size zero = (
+  number_fine offset,
+  refl,
+  refl,
+  (refl, refl, refl, (size, refl, refl, (zero, refl, refl, (refl, refl, refl, tt)))),
+)
 
 pub work_fine : (o : Operation) → Fine (work o)
 work_fine (operations.Pure p) = pure_fine p
@@ -182,6 +192,28 @@ work_fine (operations.Load W16) = (refl, refl, refl, tt)
 work_fine (operations.Load W32) = (refl, refl, refl, tt)
 work_fine (operations.Load W64) = (refl, refl, refl, tt)
 work_fine (operations.Store w) = (refl, refl, refl, (refl, refl, refl, tt))
+work_fine (operations.Allocate n) = (
+  refl,
+  refl,
+  refl,
+  (number_fine n, refl, refl, (refl, refl, refl, tt)),
+)
+work_fine (operations.SetPointer n) = (
+  number_fine n,
+  refl,
+  refl,
+  (refl, refl, refl, (refl, refl, refl, tt)),
+)
+work_fine (operations.Place w offset) = (
+  number_fine offset,
+  refl,
+  refl,
+  (refl, refl, refl, (refl, refl, refl, tt)),
+)
+work_fine (operations.Clear W8 offset) = clear_fine W8 offset refl refl
+work_fine (operations.Clear W16 offset) = clear_fine W16 offset refl refl
+work_fine (operations.Clear W32 offset) = clear_fine W32 offset refl refl
+work_fine (operations.Clear W64 offset) = clear_fine W64 offset refl refl
 
 pub operands_fine : (y : Layout) (n : Counts) (sp base : ℕ) (o : Operation) (first second : Slot)
     → SlotsHaveRoom y n sp base → IsSlot n first → IsSlot n second

@@ -82,6 +82,7 @@ pushed_agrees reserved v source sp back below own agrees = record {
       ∙ agrees.byte a r;
   protection = agrees.protection;
   guard = agrees.guard;
+  pointer = agrees.pointer;
 }
 
 readable : (r : Rights) → is_writable r ≡ true → is_readable r ≡ true

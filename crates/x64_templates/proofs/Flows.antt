@@ -103,6 +103,7 @@ pure_nothing (pures.Negate z) = (refl, refl, tt)
 pure_nothing (pures.Add z) = (refl, refl, tt)
 pure_nothing (pures.Subtract z) = (refl, refl, tt)
 pure_nothing (pures.Multiply z) = (refl, refl, tt)
+pure_nothing (pures.MultiplyBy n) = (refl, refl, (refl, refl, tt))
 pure_nothing (pures.And z) = (refl, refl, tt)
 pure_nothing (pures.Or z) = (refl, refl, tt)
 pure_nothing (pures.Xor z) = (refl, refl, tt)
@@ -116,8 +117,7 @@ before_nothing (operations.Divide Unsigned z) = (refl, refl, tt)
 before_nothing (operations.Divide Signed z) = (refl, refl, tt)
 before_nothing (operations.Remainder Unsigned z) = (refl, refl, tt)
 before_nothing (operations.Remainder Signed z) = (refl, refl, tt)
-before_nothing (operations.Load w) = tt
-before_nothing (operations.Store w) = tt
+before_nothing o = tt
 
 work_keeps : (o : Operation) → KeepsRegisters (work o)
 work_keeps (operations.Pure p) = nothing_keeps (pure_code p) (pure_nothing p)
@@ -128,6 +128,10 @@ work_keeps (operations.Load W16) = (refl, tt)
 work_keeps (operations.Load W32) = (refl, tt)
 work_keeps (operations.Load W64) = (refl, tt)
 work_keeps (operations.Store w) = (refl, (refl, tt))
+work_keeps (operations.Allocate n) = (refl, (refl, (refl, tt)))
+work_keeps (operations.SetPointer n) = (refl, (refl, (refl, tt)))
+work_keeps (operations.Place w offset) = (refl, (refl, (refl, tt)))
+work_keeps (operations.Clear w offset) = (refl, (refl, (refl, (refl, (refl, tt)))))
 
 work_once : (o : Operation) → StoresOnce (work o)
 work_once (operations.Pure p) = nothing_once (pure_code p) (pure_nothing p)
@@ -138,6 +142,11 @@ work_once (operations.Load W16) = inr tt
 work_once (operations.Load W32) = inr tt
 work_once (operations.Load W64) = inr tt
 work_once (operations.Store w) = inr (refl, refl, tt)
+work_once (operations.Allocate n) = inl (refl, inl (refl, inr tt))
+work_once (operations.SetPointer n) = inl (refl, inl (refl, inr tt))
+work_once (operations.Place w offset) = inl (refl, inr (refl, refl, tt))
+work_once (operations.Clear w offset) = inl
+    (refl, inl (refl, inl (refl, inr (refl, refl, tt))))
 
 operands_nothing : (y : Layout) (o : Operation) (first second : Slot)
     → StoresNothing (operands_code y o first second)

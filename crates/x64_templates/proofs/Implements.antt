@@ -8,6 +8,7 @@ use Rattle.x64_templates.proofs.Lemmas.{result_small, low_below}
 use Rattle.x64_templates.proofs.Pures.{pure_gives}
 use Rattle.x64_templates.proofs.Divisions.{quotient_implemented, remainder_implemented}
 use Rattle.x64_templates.proofs.Accesses.{load_implemented, store_implemented}
+use Rattle.x64_templates.proofs.DataStack.{allocate_implemented, set_pointer_implemented, place_implemented, clear_implemented}
 
 -- ---- operations
 
@@ -31,6 +32,8 @@ pub works : (reserved : ℕ → Bool) (o : Operation) (v : MachineView) (source 
     → Implements reserved (work o) v (performed reserved o v.rax v.rcx source)
 works reserved (operations.Pure (pures.Constant n)) v source la lb ready agrees =
     pure_works reserved (pures.Constant n) v source (low_below W64 n) agrees
+works reserved (operations.Pure (pures.MultiplyBy n)) v source la lb ready agrees =
+    pure_works reserved (pures.MultiplyBy n) v source (low_below W64 _) agrees
 works reserved (operations.Pure p) v source la lb ready agrees =
     pure_works reserved p v source (result_small p v.rax v.rcx (la refl)) agrees
 works reserved (operations.Divide s z) v source la lb ready agrees = quotient_implemented reserved s
@@ -41,3 +44,11 @@ works reserved (operations.Load w) v source la lb ready agrees = load_implemente
     source (la refl) agrees
 works reserved (operations.Store w) v source la lb ready agrees = store_implemented reserved w v
     source (la refl) (lb refl) agrees
+works reserved (operations.Allocate n) v source la lb ready agrees = allocate_implemented reserved
+    n v source agrees
+works reserved (operations.SetPointer n) v source la lb ready agrees = set_pointer_implemented
+    reserved n v source (la refl) agrees
+works reserved (operations.Place w offset) v source la lb ready agrees = place_implemented reserved
+    w offset v source (la refl) (lb refl) agrees
+works reserved (operations.Clear w offset) v source la lb ready agrees = clear_implemented reserved
+    w offset v source (la refl) (lb refl) agrees

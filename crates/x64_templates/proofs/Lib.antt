@@ -10,6 +10,7 @@ pub mod Compares
 pub mod Pures
 pub mod Divisions
 pub mod Accesses
+pub mod DataStack
 pub mod Implements
 pub mod Operands
 pub mod Cells

@@ -14,6 +14,7 @@ module _ (reserved : ℕ → Bool) (m : Memory) where
   first_same : (o : Operation) (a b c : ℕ) → (has_first o ≡ true → a ≡ b)
       → performed reserved o a c m ≡ performed reserved o b c m
   first_same (operations.Pure (pures.Constant v)) a b c e = refl
+  first_same (operations.Allocate n) a b c e = refl
   first_same o a b c e = ap (λ x. performed reserved o x c m) (e refl)
 
   pure_second_same : (p : Pure) (a b c : ℕ) → (pure_has_second p ≡ true → b ≡ c)
@@ -23,6 +24,7 @@ module _ (reserved : ℕ → Bool) (m : Memory) where
   pure_second_same (pures.Extend s from z) a b c e = refl
   pure_second_same (pures.Not z) a b c e = refl
   pure_second_same (pures.Negate z) a b c e = refl
+  pure_second_same (pures.MultiplyBy n) a b c e = refl
   pure_second_same p a b c e = ap (result_of p a) (e refl)
 
   second_same : (o : Operation) (a b c : ℕ) → (has_second o ≡ true → b ≡ c)
@@ -30,6 +32,8 @@ module _ (reserved : ℕ → Bool) (m : Memory) where
   second_same (operations.Pure p) a b c e =
       ap (λ x. Gives x m) (pure_second_same p a b c e)
   second_same (operations.Load w) a b c e = refl
+  second_same (operations.Allocate n) a b c e = refl
+  second_same (operations.SetPointer n) a b c e = refl
   second_same o a b c e = ap (λ x. performed reserved o a x m) (e refl)
 
   -- an operation comes to the same on operands of which those that it reads are the same

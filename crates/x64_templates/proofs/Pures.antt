@@ -1,13 +1,13 @@
 -- The instructions of an operation without faults leave its result in RAX.
-use Rattle.std.proofs.Common.{◌≡◌, ℕ, ◌+◌, ◌-◌, ◌*◌, ◌/◌, ◌%◌, ◌^◌, ◌<◌, Bool, true, false, cond, ltb, [], ◌∷◌, Ok, ℤ, pos, negsuc, ◌-ℤ◌, refl, sym, ap, ◌∙◌, arith}
+use Rattle.std.proofs.Common.{◌≡◌, ℕ, ◌+◌, ◌-◌, ◌*◌, ◌/◌, ◌%◌, ◌^◌, ◌<◌, Bool, true, false, cond, ltb, [], ◌∷◌, Ok, ℤ, pos, negsuc, ◌-ℤ◌, refl, sym, ap, subst, ◌∙◌, arith}
 use Rattle.std.specs.Prelude.{bit_and, bit_or, bit_xor}
 use Rattle.std.specs.Int.Bits.{and_lt}
 use Rattle.std.proofs.Math.Nat.{div-le_self}
 use Rattle.std.proofs.lemmas.Int.{ints}
 use Rattle.std.proofs.lemmas.Nat.{or_lt, xor_lt}
-use Rattle.x64_templates.specs.Words.{Width, W8, W16, W32, W64, limit, half, low, signed, wrapped, Instr, Flags, added, subtracted, multiplied, effect, Size, Int, Long, Signedness, Unsigned, Signed, Pure, MachineView, machine, Yields, pure_code, shifted_right, result_of}
+use Rattle.x64_templates.specs.Words.{Width, W8, W16, W32, W64, limit, half, low, signed, wrapped, Instr, Flags, added, subtracted, multiplied, effect, Size, Int, Long, Signedness, Unsigned, Signed, Pure, MachineView, machine, Executes, Yields, Rcx, set, pure_code, shifted_right, result_of}
 use Rattle.c_operations.specs.declared.operation.Pure.TheVariants as pures
-use Rattle.x64_templates.proofs.Straight.{executes_one, executes_nothing}
+use Rattle.x64_templates.proofs.Straight.{executes_one, executes_nothing, executes_then}
 use Rattle.x64_templates.proofs.Compares.{compares}
 
 abbrev pub with_rax : MachineView → ℕ → MachineView
@@ -75,6 +75,32 @@ multiplies Int v = gives _ v (low W32 (low W32 (low W32 v.rax * low W32 v.rcx)))
 multiplies Long v = gives _ v (low W64 (low W64 (low W64 v.rax * low W64 v.rcx)))
     (low W64 (low W64 v.rax * low W64 v.rcx)) (twice_low W64 (low W64 v.rax * low W64 v.rcx))
     (λ rip f. (_, refl))
+
+-- a number put into RCX
+pub sets_rcx : (n : ℕ) (v : MachineView) → Executes (set Rcx n ∷ []) v
+    (record v { rcx = low W64 n })
+sets_rcx n v = executes_one (set Rcx n) v (record v { rcx = low W64 n }) (λ rip f. (
+  f,
+  ap (λ (x : ℕ). Ok (machine (record v { rcx = x }) rip f))
+      (let e : low W64 (low W64 (low W64 n)) ≡ low W64 n = omega arith in e),
+))
+
+multiplies_by : (n : ℕ) (v : MachineView) → Pured (pures.MultiplyBy n) v
+unfolding multiplies gives
+multiplies_by n v =
+    let w : MachineView = record v { rcx = low W64 n } in
+    let p = multiplies Long w in
+    let e : low W64 (low W64 v.rax * low W64 (low W64 n))
+    ≡ low W64 (low W64 v.rax * low W64 n) =
+    ap (λ (x : ℕ). low W64 (low W64 v.rax * x)) (twice_low W64 n) in
+    record {
+      rcx = low W64 n;
+      rdx = v.rdx;
+      does = executes_then (set Rcx n ∷ []) (pure_code (pures.Multiply Long)) v w
+          (with_rax w (low W64 (low W64 v.rax * low W64 n))) (sets_rcx n v)
+          (subst (λ (x : ℕ). Executes (pure_code (pures.Multiply Long)) w (with_rax w x)) e
+          p.does);
+    }
 
 kept_low : (k x : ℕ) (w : Width) → limit w ≡ 2 ^ k → x < 2 ^ k → low w x ≡ x
 kept_low k x W8 e lt = omega arith
@@ -260,6 +286,7 @@ pure_gives (pures.Negate z) v = negates z v
 pure_gives (pures.Add z) v = adds z v
 pure_gives (pures.Subtract z) v = subtracts z v
 pure_gives (pures.Multiply z) v = multiplies z v
+pure_gives (pures.MultiplyBy n) v = multiplies_by n v
 pure_gives (pures.And z) v = ands z v
 pure_gives (pures.Or z) v = ors z v
 pure_gives (pures.Xor z) v = xors z v

@@ -64,4 +64,5 @@ within_agrees reserved lo hi m m' source own w agrees = record {
   byte = λ a free. w.byte a (outside reserved lo hi own a free) ∙ agrees.byte a free;
   protection = λ a free. ap (λ (g : ℕ → Protection). g a) w.protection ∙ agrees.protection a free;
   guard = agrees.guard;
+  pointer = agrees.pointer;
 }

@@ -1,6 +1,6 @@
 -- Worked templates, computed down to bytes.
 use Rattle.std.proofs.Common.{false, ◌≡◌, List, [], ◌∷◌, ◌++◌, length, None, Some, refl}
-use Rattle.x64_templates.specs.Words.{W32, modrm, opcode_register, spelled, parameters_code, return_code, Int, Signed, Local, Temporary, Instruction, Layout, size, compute_code, jump_code, template_size, offset_of}
+use Rattle.x64_templates.specs.Words.{W32, W64, modrm, opcode_register, spelled, parameters_code, return_code, Int, Signed, Local, Temporary, Instruction, Layout, size, compute_code, jump_code, template_size, offset_of}
 use Rattle.template_code.specs.declared.layout.TheConstants.{NO_REGISTERS}
 use Rattle.c_operations.specs.declared.operation.Pure.TheVariants as pures
 use Rattle.c_operations.specs.declared.operation.Operation.TheVariants as operations
@@ -124,6 +124,53 @@ parameters_stay : spelled (parameters_code leaf_layout 0 2 ++ return_code leaf_l
     ≡ 0x48 ∷ 0x89 ∷ 0xC8 ∷ 0xC3 ∷ []
 unfolding leaf_layout modrm
 parameters_stay = refl
+
+-- ---- variables on the data stack
+
+-- mov rax,[0x30000000] ; mov rcx,48 ; add [0x30000000],rcx ; mov [rsp+264],rax
+room_taken : spelled (compute_code function_layout (Local 1) (operations.Allocate 48) (Local 1)
+    (Local 1)) ≡ 0x48 ∷ 0x8B ∷ 0x04 ∷ 0x25 ∷ 0x00 ∷ 0x00 ∷ 0x00 ∷ 0x30 ∷ 0x48 ∷ 0xB9 ∷ 0x30 ∷ 0x00
+    ∷ 0x00 ∷ 0x00 ∷ 0x00 ∷ 0x00 ∷ 0x00 ∷ 0x00 ∷ 0x48 ∷ 0x01 ∷ 0x0C ∷ 0x25 ∷ 0x00 ∷ 0x00 ∷ 0x00
+    ∷ 0x30 ∷ 0x48 ∷ 0x89 ∷ 0x84 ∷ 0x24 ∷ 0x08 ∷ 0x01 ∷ 0x00 ∷ 0x00 ∷ []
+unfolding function_layout modrm opcode_register
+room_taken = refl
+
+-- mov rax,[rsp+264] ; mov rcx,48 ; add rcx,rax ; mov [0x30000000],rcx ; mov [rsp+264],rax
+pointer_set : spelled (compute_code function_layout (Local 1) (operations.SetPointer 48) (Local 1)
+    (Local 1)) ≡ 0x48 ∷ 0x8B ∷ 0x84 ∷ 0x24 ∷ 0x08 ∷ 0x01 ∷ 0x00 ∷ 0x00 ∷ 0x48 ∷ 0xB9 ∷ 0x30 ∷ 0x00
+    ∷ 0x00 ∷ 0x00 ∷ 0x00 ∷ 0x00 ∷ 0x00 ∷ 0x00 ∷ 0x48 ∷ 0x01 ∷ 0xC1 ∷ 0x48 ∷ 0x89 ∷ 0x0C ∷ 0x25
+    ∷ 0x00 ∷ 0x00 ∷ 0x00 ∷ 0x30 ∷ 0x48 ∷ 0x89 ∷ 0x84 ∷ 0x24 ∷ 0x08 ∷ 0x01 ∷ 0x00 ∷ 0x00 ∷ []
+unfolding function_layout modrm opcode_register
+pointer_set = refl
+
+-- mov rax,[rsp+264] ; mov rcx,[rsp+128] ; mov rdx,16 ; mov [rax+rdx],ecx ; mov rax,rcx ;
+-- mov [rsp+128],rax
+variable_placed : spelled (compute_code function_layout (Temporary 0) (operations.Place W32 16)
+    (Local 1) (Temporary 0)) ≡ 0x48 ∷ 0x8B ∷ 0x84 ∷ 0x24 ∷ 0x08 ∷ 0x01 ∷ 0x00 ∷ 0x00 ∷ 0x48 ∷ 0x8B
+    ∷ 0x8C ∷ 0x24 ∷ 0x80 ∷ 0x00 ∷ 0x00 ∷ 0x00 ∷ 0x48 ∷ 0xBA ∷ 0x10 ∷ 0x00 ∷ 0x00 ∷ 0x00 ∷ 0x00
+    ∷ 0x00 ∷ 0x00 ∷ 0x00 ∷ 0x89 ∷ 0x4C ∷ 0x10 ∷ 0x00 ∷ 0x48 ∷ 0x89 ∷ 0xC8 ∷ 0x48 ∷ 0x89 ∷ 0x84
+    ∷ 0x24 ∷ 0x80 ∷ 0x00 ∷ 0x00 ∷ 0x00 ∷ []
+unfolding function_layout modrm opcode_register
+variable_placed = refl
+
+-- mov rax,[rsp+264] ; mov rcx,[rsp+128] ; mov rdx,16 ; add rax,rdx ; sub rcx,8 ;
+-- mov qword [rax+rcx],0 ; mov rax,rcx ; mov [rsp+128],rax
+element_cleared : spelled (compute_code function_layout (Temporary 0) (operations.Clear W64 16)
+    (Local 1) (Temporary 0)) ≡ 0x48 ∷ 0x8B ∷ 0x84 ∷ 0x24 ∷ 0x08 ∷ 0x01 ∷ 0x00 ∷ 0x00 ∷ 0x48 ∷ 0x8B
+    ∷ 0x8C ∷ 0x24 ∷ 0x80 ∷ 0x00 ∷ 0x00 ∷ 0x00 ∷ 0x48 ∷ 0xBA ∷ 0x10 ∷ 0x00 ∷ 0x00 ∷ 0x00 ∷ 0x00
+    ∷ 0x00 ∷ 0x00 ∷ 0x00 ∷ 0x48 ∷ 0x01 ∷ 0xD0 ∷ 0x48 ∷ 0x83 ∷ 0xE9 ∷ 0x08 ∷ 0x48 ∷ 0xC7 ∷ 0x44
+    ∷ 0x08 ∷ 0x00 ∷ 0x00 ∷ 0x00 ∷ 0x00 ∷ 0x00 ∷ 0x48 ∷ 0x89 ∷ 0xC8 ∷ 0x48 ∷ 0x89 ∷ 0x84 ∷ 0x24
+    ∷ 0x80 ∷ 0x00 ∷ 0x00 ∷ 0x00 ∷ []
+unfolding function_layout modrm opcode_register
+element_cleared = refl
+
+-- mov rax,[rsp+128] ; mov rcx,24 ; imul rax,rcx ; mov [rsp+128],rax
+index_scaled : spelled (compute_code function_layout (Temporary 0) (operations.Pure
+    (pures.MultiplyBy 24)) (Temporary 0) (Temporary 0)) ≡ 0x48 ∷ 0x8B ∷ 0x84 ∷ 0x24 ∷ 0x80 ∷ 0x00
+    ∷ 0x00 ∷ 0x00 ∷ 0x48 ∷ 0xB9 ∷ 0x18 ∷ 0x00 ∷ 0x00 ∷ 0x00 ∷ 0x00 ∷ 0x00 ∷ 0x00 ∷ 0x00 ∷ 0x48
+    ∷ 0x0F ∷ 0xAF ∷ 0xC1 ∷ 0x48 ∷ 0x89 ∷ 0x84 ∷ 0x24 ∷ 0x80 ∷ 0x00 ∷ 0x00 ∷ 0x00 ∷ []
+unfolding function_layout modrm opcode_register
+index_scaled = refl
 
 -- in a block a local is reached through the base: mov rax,[rsp+32] ; mov rax,[rax+256], and
 -- mov rcx,[rsp+32] ; mov [rcx+256],rax

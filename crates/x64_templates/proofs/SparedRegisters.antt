@@ -2,7 +2,7 @@
 -- arrive.
 use Rattle.std.proofs.Common.{◌≡◌, ℕ, ◌+◌, ◌<◌, ◌≤◌, ◌==◌, Bool, true, false, cond, List, [], ◌∷◌, ◌++◌, length, Option, Some, None, Ok, refl, sym, ap, subst, ◌∙◌, arith}
 use Rattle.std.specs.Prelude.{slice_index}
-use Rattle.x64_templates.specs.Words.{W8, W16, W32, W64, Rax, Rcx, Rdx, R8, R9, Width, Size, Int, Long, Signedness, Unsigned, Signed, Instr, Cpu, State, Answer, number, holds, with_rip, effect, target_of, jumped, Operation, Pure, Slot, Local, Temporary, Instruction, Layout, MachineView, registers_of, size, before, work, extended, pure_code, local_at, fetch_local, keep_local, fetch, fetch_if, keep, fetch_placed, keep_placed, has_first, has_second, operands_code, finish_code, compute_code, compare_zero, jump_equal, test_code, Links, template, Place, InRegister, InFrame, Arriving, place_of, parameter_register, HasCode, Reaches, FramePlace, AreArrived, IsKept, KeepsArrivals, IsSpare, is_rax, writes_only, spares_registers, SparesRegisters, sizes}
+use Rattle.x64_templates.specs.Words.{W8, W16, W32, W64, Rax, Rcx, Rdx, R8, R9, Width, Size, Int, Long, Signedness, Unsigned, Signed, Instr, Cpu, State, Answer, number, holds, with_rip, effect, target_of, jumped, Operation, Pure, Slot, Local, Temporary, Instruction, Layout, MachineView, registers_of, size, before, work, extended, pure_code, local_at, fetch_local, keep_local, fetch, fetch_if, keep, fetch_placed, keep_placed, has_first, has_second, needs_rax_alone, operands_code, finish_code, compute_code, compare_zero, jump_equal, test_code, Links, template, Place, InRegister, InFrame, Arriving, place_of, parameter_register, HasCode, Reaches, FramePlace, AreArrived, IsKept, KeepsArrivals, IsSpare, is_rax, writes_only, spares_registers, SparesRegisters, sizes}
 use Rattle.c_operations.specs.declared.operation.Pure.TheVariants as pures
 use Rattle.c_operations.specs.declared.operation.Operation.TheVariants as operations
 use Rattle.linear_code.specs.declared.instruction.Instruction.TheVariants as instructions
@@ -124,7 +124,7 @@ extended_rax Signed W32 Int = (refl, tt)
 extended_rax Signed W32 Long = (refl, tt)
 extended_rax Signed W64 z = (refl, tt)
 
-pure_rax : (p : Pure) → has_second (operations.Pure p) ≡ false → WritesRax (pure_code p)
+pure_rax : (p : Pure) → needs_rax_alone (operations.Pure p) ≡ true → WritesRax (pure_code p)
 pure_rax (pures.Constant v) e = (refl, tt)
 pure_rax pures.First e = tt
 pure_rax (pures.Extend s n z) e = extended_rax s n z
@@ -132,7 +132,7 @@ pure_rax (pures.Not z) e = (refl, tt)
 pure_rax (pures.Negate z) e = (refl, tt)
 pure_rax p e = absurd cc
 
-work_rax : (o : Operation) → has_second o ≡ false → WritesRax (work o)
+work_rax : (o : Operation) → needs_rax_alone o ≡ true → WritesRax (work o)
 work_rax (operations.Pure p) e = pure_rax p e
 work_rax (operations.Load W8) e = (refl, tt)
 work_rax (operations.Load W16) e = (refl, tt)
@@ -140,22 +140,38 @@ work_rax (operations.Load W32) e = (refl, tt)
 work_rax (operations.Load W64) e = (refl, tt)
 work_rax o e = absurd cc
 
-before_rax : (o : Operation) → has_second o ≡ false → WritesRax (before o)
+before_rax : (o : Operation) → needs_rax_alone o ≡ true → WritesRax (before o)
 before_rax (operations.Pure p) e = tt
 before_rax (operations.Load w) e = tt
 before_rax o e = absurd cc
 
--- up to where an operation of one operand begins
-pub operands_rax : (y : Layout) (o : Operation) (first second : Slot) → has_second o ≡ false
+-- such an operation has no second operand
+pure_alone : (p : Pure) → needs_rax_alone (operations.Pure p) ≡ true
+    → has_second (operations.Pure p) ≡ false
+pure_alone (pures.Constant v) e = refl
+pure_alone pures.First e = refl
+pure_alone (pures.Extend s n z) e = refl
+pure_alone (pures.Not z) e = refl
+pure_alone (pures.Negate z) e = refl
+pure_alone p e = absurd cc
+
+no_second : (o : Operation) → needs_rax_alone o ≡ true → has_second o ≡ false
+no_second (operations.Pure p) e = pure_alone p e
+no_second (operations.Load w) e = refl
+no_second o e = absurd cc
+
+-- up to where it begins
+pub operands_rax : (y : Layout) (o : Operation) (first second : Slot) → needs_rax_alone o ≡ true
     → WritesRax (operands_code y o first second)
 operands_rax y o first second e =
     rax_both (fetch_if (has_first o) y Rax first) (fetch_if (has_second o) y Rcx second ++ before o)
     (fetch_if_rax (has_first o) y first)
     (rax_both (fetch_if (has_second o) y Rcx second) (before o)
-    (subst (λ (read : Bool). WritesRax (fetch_if read y Rcx second)) (sym e) tt) (before_rax o e))
+    (subst (λ (read : Bool). WritesRax (fetch_if read y Rcx second)) (sym (no_second o e)) tt)
+    (before_rax o e))
 
 pub finish_rax : (y : Layout) (o : Operation) (to : Slot) → y.base ≡ None
-    → ((i : ℕ) → y.arrivals ≤ i → place_of y i ≡ InFrame) → IsKept y to → has_second o ≡ false
+    → ((i : ℕ) → y.arrivals ≤ i → place_of y i ≡ InFrame) → IsKept y to → needs_rax_alone o ≡ true
     → WritesRax (finish_code y o to)
 finish_rax y o to none framed kept e =
     rax_both (work o) (keep y to) (work_rax o e) (keep_rax y to none framed kept)

@@ -2,6 +2,7 @@
 use Rattle.std.specs.Prelude.{◌≡◌, ℕ, ◌+◌, ◌*◌, ◌^◌, ◌<◌, ◌≤◌, Bool, true, false, ◌⊎◌, Option, Some, None, slice_index}
 use Rattle.flat_memory.specs.Memory.{Memory, number_at, may_write}
 use Rattle.host_layout.specs.Ranges.{in_guard}
+use Rattle.host_layout.specs.declared.range.TheConstants.{DATA_STACK_START}
 use Rattle.linear_code.specs.declared.slot.Slot.{Slot}
 use Rattle.linear_code.specs.declared.slot.Slot.TheVariants.{Local, Temporary}
 use Rattle.linear_code.specs.BodyState.{BodyState, Counts}
@@ -55,12 +56,23 @@ abbrev pub KeepsReserved : Option ℕ → ℕ → (ℕ → Bool) → Type 0
 KeepsReserved None sp reserved = Unit {0}
 KeepsReserved (Some b) sp reserved = (a : ℕ) → sp + b ≤ a → a < sp + (b + 8) → reserved a ≡ true
 
+-- a byte of the data stack's pointer is the source's, may be written, and is a number of 8 bits
+pub record IsPointerByte (reserved : ℕ → Bool) (source : Memory) (a : ℕ) : Type 0 where
+  pub seen : reserved a ≡ false
+  pub writable : may_write source a ≡ true
+  pub small : source.byte a < 256
+
+abbrev pub HasPointer : (ℕ → Bool) → Memory → Type 0
+HasPointer reserved source =
+    (a : ℕ) → DATA_STACK_START ≤ a → a < DATA_STACK_START + 8 → IsPointerByte reserved source a
+
 -- the machine's memory agrees with the source's on all bytes that aren't reserved; slots are
--- reserved
+-- reserved, and the data stack's pointer isn't
 pub record Agrees (reserved : ℕ → Bool) (m source : Memory) : Type 0 where
   pub byte : (a : ℕ) → reserved a ≡ false → m.byte a ≡ source.byte a
   pub protection : (a : ℕ) → reserved a ≡ false → m.protection a ≡ source.protection a
   pub guard : (a : ℕ) → in_guard a ≡ true → reserved a ≡ true
+  pub pointer : HasPointer reserved source
 
 -- the number in the register in which a parameter arrives
 abbrev pub arriving : MachineView → ℕ → ℕ

@@ -1,5 +1,5 @@
 -- What a run comes to where the template of an instruction is placed.
-use Rattle.std.specs.Prelude.{◌≡◌, ℕ, ◌+◌, ◌*◌, ◌^◌, ◌<◌, ◌≤◌, true, false, ◌⊎◌, None, List, length, get_or}
+use Rattle.std.specs.Prelude.{◌≡◌, ℕ, ◌+◌, ◌*◌, ◌^◌, ◌<◌, ◌≤◌, true, ◌⊎◌, None, List, length, get_or}
 use Rattle.flat_memory.specs.Memory.{Memory}
 use Rattle.x64_machine.specs.declared.cpu.Flags.{Flags}
 use Rattle.x64_machine.specs.Effect.{State}
@@ -13,7 +13,7 @@ use Rattle.template_code.specs.Slots.{operands_code}
 use Rattle.template_code.specs.Template.{Links, template, template_size, body_size, code_from, HasLabels}
 use Rattle.template_code.specs.declared.layout.Layout.{Layout}
 use Rattle.template_code.specs.declared.layout.Place.TheVariants.{InFrame}
-use Rattle.template_code.specs.Operands.{has_second}
+use Rattle.template_code.specs.Operands.{needs_rax_alone}
 use Rattle.template_code.specs.Places.{place_of}
 use Rattle.x64_templates.specs.Frames.{IsKept}
 use Rattle.x64_templates.specs.Runs.{HasCode, FramePlace, AreArrived, ReachesBody, ReachesFault}
@@ -27,7 +27,7 @@ KeepsArrivals y instruction = Unit {0}
 
 -- an instruction of a leaf function, which writes RAX alone
 abbrev pub IsSpare : Instruction → Type 0
-IsSpare (instructions.Compute to o first second) = has_second o ≡ false
+IsSpare (instructions.Compute to o first second) = needs_rax_alone o ≡ true
 IsSpare (instructions.Jump label) = Unit {0}
 IsSpare (instructions.JumpIfZero slot label) = Unit {0}
 IsSpare instructions.Separator = Unit {0}

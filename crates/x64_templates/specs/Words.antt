@@ -5,14 +5,15 @@ pub use Rattle.seh_num.specs.declared.division.DivFault.{DivFault}
 pub use Rattle.seh_num.specs.declared.event.Code.{Code}
 pub use Rattle.seh_num.specs.declared.width.Width.{Width}
 pub use Rattle.seh_num.specs.declared.width.Width.TheVariants.{W8, W16, W32, W64}
+pub use Rattle.host_layout.specs.declared.range.TheConstants.{DATA_STACK_START}
 pub use Rattle.flat_memory.specs.Laws.{IsApart}
-pub use Rattle.flat_memory.specs.Memory.{Memory, next, may_read, may_write, with_bytes, access, unless_refused, is_among, refused, stored, after_store}
+pub use Rattle.flat_memory.specs.Memory.{Memory, next, may_read, may_write, with_bytes, access, unless_refused, is_among, refused, stored, after_store, pointer_of, with_pointer}
 unfoldable pub use Rattle.flat_memory.specs.Memory.{first_refused, number_at, with_number, executable}
 pub use Rattle.flat_memory.specs.Protections.{is_readable, is_writable}
 pub use Rattle.flat_memory.specs.declared.protection.Protection.{Protection}
 pub use Rattle.flat_memory.specs.declared.protection.Rights.TheVariants.{ReadWrite, Nothing, Read}
 pub use Rattle.c_operations.specs.Numbers.{width, is_less, are_equal, are_related, shifted_right, result_of}
-pub use Rattle.c_operations.specs.Performed.{Gives, OperationResult, Raises, Undefined, performed, signed_part, unsigned_part, quotient, remainder}
+pub use Rattle.c_operations.specs.Performed.{Gives, OperationResult, Raises, Undefined, performed, placed, before_last, signed_part, unsigned_part, quotient, remainder}
 pub use Rattle.c_operations.specs.declared.field.Field.{Field}
 pub use Rattle.c_operations.specs.declared.field.Field.TheVariants.{ExceptionCode, ExceptionFlags, NumberParameters, ExceptionInformation}
 pub use Rattle.c_operations.specs.declared.operation.Operation.{Operation}
@@ -55,8 +56,8 @@ pub use Rattle.template_code.specs.Bytes.{sizes, spelled, thunk}
 unfoldable pub use Rattle.template_code.specs.Bytes.{size}
 pub use Rattle.template_code.specs.Calls.{return_at, begin_call, parameter_register, keep_register, stack_parameter, parameter_code, parameters_code, field_load, information_code, keep_base, arguments_code, call_code, passing_code, field_at, return_code, finally_arguments, call_finally_code, address_to, local_unwind_code, parameter_placed}
 pub use Rattle.template_code.specs.Jumps.{distance, call, IsNear, compare_zero, jump_equal, test_code, jump_code, jump_if_zero_code, separator_code, jump}
-pub use Rattle.template_code.specs.Operands.{has_first, has_second}
-pub use Rattle.template_code.specs.Operations.{above, move, compare, before, work, high_half, extended, pure_code, compared, less, not_less, division}
+pub use Rattle.template_code.specs.Operands.{has_first, has_second, needs_rax_alone}
+pub use Rattle.template_code.specs.Operations.{above, at_sum, data_pointer, move, set, compare, before, work, high_half, extended, pure_code, compared, less, not_less, division}
 pub use Rattle.template_code.specs.Probing.{check_stack, first_touch, loop_back, page_down, touched_range, touching}
 pub use Rattle.template_code.specs.Slots.{fetched, put_back, temporary_at, local_at, keep_local, keep, fetch_local, fetch, fetch_if, operands_code, finish_code, compute_code, fetch_placed, keep_placed}
 pub use Rattle.template_code.specs.Template.{Links, template, offset_of, code_from, nowhere, body_size, HasLabels}
@@ -65,7 +66,7 @@ pub use Rattle.template_code.specs.declared.layout.Layout.{Layout}
 pub use Rattle.x64_templates.specs.CallStates.{sp_of, with_four, pushed, HasBelow, with_sp, moved, HasBack}
 pub use Rattle.x64_templates.specs.EntryStates.{with_arguments, InRegisters, OnStack, IsFunctionFrame, body_in_memory, FreshFrame, passed}
 pub use Rattle.x64_templates.specs.Exceptions.{IsField, field_width, MayRead, HasException}
-pub use Rattle.x64_templates.specs.Frames.{arriving, HasArrived, IsKept, number_placed, number_in, KeepsUnused, Agrees, slot_at, InTemporaries, InLocals, HasBase, SlotsHaveRoom, MemoryKeepsBase, KeepsReserved, HoldsBody, IsBytes, Changes}
+pub use Rattle.x64_templates.specs.Frames.{arriving, HasArrived, IsKept, number_placed, number_in, KeepsUnused, Agrees, slot_at, InTemporaries, InLocals, HasBase, SlotsHaveRoom, MemoryKeepsBase, KeepsReserved, HoldsBody, IsBytes, Changes, IsPointerByte, HasPointer}
 pub use Rattle.x64_templates.specs.Implements.{Implements, IsReady, HasOperands, LeavesResult, HeadFaults, high_of}
 pub use Rattle.x64_templates.specs.InstructionRuns.{InstructionDone, KeepsArrivals, IsSpare, IsLeafCode, SparesArrivals, IsLinked, RunsTo, RunsAllTo}
 pub use Rattle.x64_templates.specs.Keeping.{keeps_registers, stores_nothing, StoresNothing, Flows, StoresOnce, KeepsRegisters, is_volatile, is_rax, is_memory_or, writes_only, spares_registers, SparesRegisters, is_register, is_call}

@@ -1,5 +1,5 @@
 use Rattle.std.proofs.Common.{◌∙◌, ◌++◌, ◌∷◌, [], refl, ap}
-use Rattle.c_locals.specs.Words.{with_block, LocalVariable, with_name, CType}
+use Rattle.c_locals.specs.Words.{with_block, with_name, entity, spelled, CType}
 use Rattle.c_locals.proofs.DeclarationLocals.{declared_local}
 use Rattle.c_locals.proofs.declarations.declare.Goals as goal
 
@@ -11,6 +11,10 @@ returns c =
     declared_local c.args.env.now c.args.base l c.args.walk.now _ _ _ _ names _
     c.count_of-number.ensures
     (c.in_ok-declare.ensures ∙ ap (λ k. with_block names (with_name names.block k
-    (LocalVariable c.count_of-number.result of))) c.spelled.ensures)
+    (entity c.meaning_of.result))) c.spelled.ensures
+    ∙ ap (λ k. with_block names (with_name names.block
+    (spelled c.args.env.now.text.now l.name) k)) c.meaning_of.ensures)
     (c.in_ok-push.ensures.items ∙ ap (λ k. c.args.walk.now.sizes.items ++ k ∷ []) c.size_of.ensures)
+    (c.in_ok-push-2.ensures.items
+    ∙ ap (λ k. c.args.walk.now.variables.items ++ k ∷ []) c.variable_of.ensures)
     refl c.check_local.ensures c.in_ok-value.ensures

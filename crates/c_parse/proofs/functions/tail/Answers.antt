@@ -1,7 +1,7 @@
 use Rattle.std.proofs.Common.{refl}
 use Rattle.std.proofs.lemmas.Result.{err_from_is_err_and}
 use Rattle.c_lex.specs.declared.punctuator.Punctuator.TheVariants as punctuators
-use Rattle.c_syntax.specs.declared.limit.TheConstants.{MOST_LOCALS}
+use Rattle.c_syntax.specs.declared.limit.TheConstants.{MOST_LOCALS, MOST_ARRAY_BYTES}
 use Rattle.c_parse.specs.Words.{Left, NoPunctuator, APunctuator, NoBlockItems, HasBlockItems, NoParameters, HasParameters, NoTail, HasTail}
 use Rattle.c_parse.proofs.Refusing.{placed_in}
 use Rattle.c_parse.proofs.Bodies.{in_parameters, in_brace, in_body}
@@ -23,11 +23,12 @@ returns-in_err-body-clause-refused c =
     let r = c.from_residual-in_err-body in
     let p = err_from_is_err_and r.result r.ensures.1 in
     let k = c.in_ok-parameters in
-    let left : Left = record { locals = MOST_LOCALS; funclets = c.args.funclets } in
+    let left : Left =
+    record { locals = MOST_LOCALS; bytes = MOST_ARRAY_BYTES; funclets = c.args.funclets } in
     rw (p.1, p.2) (placed_in c.in_err-body.field-0.0 (NoBlockItems 65 left) (HasBlockItems 65 left)
     (NoTail c.args.funclets) (HasTail c.args.funclets) c.args.text.now c.in_ok-inner.inner.now
     c.args.tokens.now (in_body c.args.text.now left c.args.tokens.now k.following.now
-    c.in_ok-inner.inner.now k.parameters.items refl k.ensures.found k.ensures.few
+    c.in_ok-inner.inner.now k.parameters.items refl refl k.ensures.found k.ensures.few
     c.in_ok-inner.ensures.found) c.in_err-body.ensures.refused)
 
 pub returns-in_err-parameters-clause-refused : goal.returns-in_err-parameters-clause-refused

@@ -1,7 +1,7 @@
 use Rattle.std.proofs.lemmas.Result.{err_from_is_err_and}
 use Rattle.c_parse.specs.Words.{NoneBracketed, HasBracketed, NoLength, HasLength}
 use Rattle.c_parse.proofs.Refusing.{placed_in}
-use Rattle.c_parse.proofs.Placing.{no_room}
+use Rattle.c_parse_stmt.proofs.ArrayEnds.{no_room}
 use Rattle.c_parse.proofs.Lengths.{in_bracketed}
 use Rattle.c_parse.proofs.Declarators.{not_scalar, scalar}
 use Rattle.c_parse.proofs.globals.length.Goals as goal
@@ -30,5 +30,5 @@ pub returns-in-None-end_of-clause-refused : goal.returns-in-None-end_of-clause-r
 returns-in-None-end_of-clause-refused c =
     scalar c.no_room.result c.args.text.now c.args.base c.args.pointers c.args.bytes
     c.args.tokens.now c.requires c.in-None.ensures.none
-    (no_room c.args.base c.args.pointers c.args.bytes c.size_of.result 1 c.size_of.ensures.size
-    c.in-None-end_of.ensures.none) c.no_room.ensures
+    (no_room 1048576 c.args.base c.args.pointers c.args.bytes c.size_of.result 1
+    c.size_of.ensures.size c.in-None-end_of.ensures.none) c.no_room.ensures

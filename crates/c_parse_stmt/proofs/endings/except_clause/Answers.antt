@@ -24,9 +24,9 @@ returns-in-Err-clause-refused c =
     let f = c.in_ok-filter in
     λ following k whole body ts g. placed c.in-Err.refusal _ _ _ _ c.args.text.now f.following.now
     ts (except_open c.args.room c.args.at whole c.args.left
-    (left_of c.args.left.locals f.funclets) body (expression f.filter) c.args.text.now ts
-    following c.args.tokens.now f.following.now (omega arith) g k f.ensures.found f.ensures.low
-    f.ensures.taken refl) c.in-Err.ensures.refused
+    (left_of c.args.left.locals c.args.left.bytes f.funclets) body (expression f.filter)
+    c.args.text.now ts following c.args.tokens.now f.following.now (omega arith) g k
+    f.ensures.found f.ensures.low f.ensures.taken refl refl) c.in-Err.ensures.refused
 
 pub returns-in-Ok-clause-found : goal.returns-in-Ok-clause-found
 returns-in-Ok-clause-found c =
@@ -43,5 +43,6 @@ returns-in-Ok-clause-found c =
       statements = omega arith;
       low = f.ensures.low;
       locals = refl;
+      bytes = refl;
       funclets = f.ensures.taken;
     }

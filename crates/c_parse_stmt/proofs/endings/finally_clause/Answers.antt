@@ -16,5 +16,6 @@ returns-in_err-rest-clause-refused c =
     let p = err_from_is_err_and c.from_residual.result c.from_residual.ensures.1 in
     rw (p.1, p.2) (λ following k whole body ts g. placed c.in_err-rest.field-0.0 _ _ _ _
     c.args.text.now c.args.tokens.now ts (finally_open c.args.room c.args.at whole c.args.left
-    (left_of c.args.left.locals (c.args.left.funclets - 1)) body c.args.text.now ts following
-    c.args.tokens.now g k (omega arith) refl) c.in_err-rest.ensures.refused)
+    (left_of c.args.left.locals c.args.left.bytes (c.args.left.funclets - 1)) body
+    c.args.text.now ts following c.args.tokens.now g k (omega arith) refl refl)
+    c.in_err-rest.ensures.refused)

@@ -6,8 +6,8 @@ use Rattle.c_parse_stmt.proofs.locals.declaration.Goals as goal
 pub returns-then-left-eq0-clause-refused : goal.returns-then-left-eq0-clause-refused
 returns-then-left-eq0-clause-refused c =
     let s = c.in-Some in
-    rw (c.too_many_locals.ensures, c.if-left-eq0.true)
-    (full c.args.text.now c.args.room c.args.tokens.now s.following.now s.base s.ensures.found)
+    rw c.too_many_locals.ensures (full c.args.text.now c.args.room c.args.left c.args.tokens.now
+    s.following.now s.base c.if-left-eq0.true s.ensures.found)
 
 pub returns-in_err-locals-in-Some-clause-refused : goal.returns-in_err-locals-in-Some-clause-refused
 returns-in_err-locals-in-Some-clause-refused c =

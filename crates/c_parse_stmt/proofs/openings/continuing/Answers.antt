@@ -1,5 +1,5 @@
 use Rattle.std.proofs.lemmas.Result.{err_from_is_err_and}
-use Rattle.c_parse_stmt.proofs.Heading.{continue_end}
+use Rattle.c_parse_stmt.proofs.JumpEnds.{continue_end}
 use Rattle.c_parse_stmt.proofs.Sequences.{placed}
 use Rattle.c_parse_stmt.proofs.openings.continuing.Goals as goal
 

@@ -1,10 +1,9 @@
-use Rattle.std.proofs.Common.{arith, refl, option_map}
+use Rattle.std.proofs.Common.{arith, option_map}
 use Rattle.std.proofs.lemmas.Result.{err_from_is_err_and}
 use Rattle.c_parse_stmt.specs.Words.{expression, first}
 use Rattle.c_parse_stmt.proofs.ForHeads.{for_open, for_initialiser, for_condition, for_next}
 use Rattle.c_parse_stmt.proofs.Heading.{for_too_deep}
 use Rattle.c_parse_stmt.proofs.Sequences.{placed}
-use Rattle.c_parse_stmt.proofs.Wholes.{left_of}
 use Rattle.c_parse_stmt.proofs.openings.for_head.Goals as goal
 
 pub returns-then-room-eq0-clause-refused : goal.returns-then-room-eq0-clause-refused
@@ -32,9 +31,9 @@ returns-in-Err-clause-refused c =
     let o = c.in_ok-following in
     let f = c.in_ok-first in
     λ ts k. placed c.in-Err.refusal _ _ _ _ c.args.text.now f.following.now ts
-    (for_condition c.args.room c.args.at c.args.left (left_of f.locals c.args.left.funclets)
-    (first f.first) c.args.text.now ts c.args.tokens.now o.following.now f.following.now
-    (omega arith) k o.ensures.found f.ensures.found f.ensures.low f.ensures.taken refl)
+    (for_condition c.args.room c.args.at c.args.left f.left (first f.first) c.args.text.now ts
+    c.args.tokens.now o.following.now f.following.now (omega arith) k o.ensures.found
+    f.ensures.found f.ensures.low f.ensures.taken f.ensures.funclets f.ensures.end)
     c.in-Err.ensures.refused
 
 pub returns-in-Err-optional-clause-refused : goal.returns-in-Err-optional-clause-refused
@@ -43,8 +42,9 @@ returns-in-Err-optional-clause-refused c =
     let f = c.in_ok-first in
     let i = c.in-Ok in
     λ ts k. placed c.in-Err-optional.refusal _ _ _ _ c.args.text.now i.following.now ts
-    (for_next c.args.room c.args.at c.args.left (left_of f.locals c.args.left.funclets)
-    (first f.first) (option_map expression i.condition) c.args.text.now ts c.args.tokens.now
-    o.following.now f.following.now i.following.now (omega arith) k o.ensures.found
-    f.ensures.found f.ensures.low f.ensures.taken refl i.ensures.found i.ensures.low)
+    (for_next c.args.room c.args.at c.args.left f.left (first f.first)
+    (option_map expression i.condition) c.args.text.now ts c.args.tokens.now o.following.now
+    f.following.now i.following.now (omega arith) k o.ensures.found f.ensures.found
+    f.ensures.low f.ensures.taken f.ensures.funclets f.ensures.end i.ensures.found
+    i.ensures.low)
     c.in-Err-optional.ensures.refused

@@ -1,5 +1,5 @@
 use Rattle.std.proofs.lemmas.Result.{err_from_is_err_and}
-use Rattle.c_parse_stmt.proofs.Heading.{return_value}
+use Rattle.c_parse_stmt.proofs.JumpEnds.{return_value}
 use Rattle.c_parse_stmt.proofs.Sequences.{placed}
 use Rattle.c_parse_stmt.proofs.openings.returning.Goals as goal
 

@@ -31,6 +31,7 @@ governed-returns-in-Ok _ c =
     let w = c.args.walk.now in
     let first : Walk = record {
       sizes = w.sizes;
+      variables = w.variables;
       number = w.number;
       worst = c.condition.new.worst;
     } in
@@ -53,11 +54,13 @@ for_loop-returns-in-Ok-part-clause-made _ c =
     let w1 = c.for_initialiser.new.walk in
     let w2 : Walk = record {
       sizes = w1.sizes;
+      variables = w1.variables;
       number = w1.number;
       worst = c.condition_or_none.new.worst;
     } in
     let w3 : Walk = record {
       sizes = w1.sizes;
+      variables = w1.variables;
       number = w1.number;
       worst = c.any_or_none.new.worst;
     } in
@@ -142,6 +145,7 @@ guarded-returns-in-Ok-items _ c =
     let w = c.args.walk.now in
     let w1 : Walk = record {
       sizes = w.sizes;
+      variables = w.variables;
       number = w.number;
       worst = c.filter_value.new.worst;
     } in

@@ -1,5 +1,6 @@
 use Rattle.std.proofs.Common.{◌∙◌, ap}
-use Rattle.host_layout.specs.declared.range.TheConstants.{FIRST_DATA}
+use Rattle.host_layout.specs.declared.range.TheConstants.{FIRST_DATA, FIRST_DATA_STACK}
+use Rattle.flat_memory.specs.Memory.{with_pointer}
 use Rattle.x64_memory.specs.Regions.{mapped, filled}
 use Rattle.source_operations.specs.Regions.{regions}
 use Rattle.source_operations.proofs.FirstMemory.{globals_mapped}
@@ -7,8 +8,10 @@ use Rattle.source_operations.proofs.memory.first_memory.Goals as goal
 
 pub returns : goal.returns
 returns c =
-    c.fill.ensures.memory
-    ∙ ap (λ m. filled m FIRST_DATA c.args.globals.now)
+    let globals = c.args.globals.now in
+    c.set_pointer.ensures
+    ∙ ap (λ m. with_pointer m FIRST_DATA_STACK) (c.fill.ensures.memory
+    ∙ ap (λ m. filled m FIRST_DATA globals)
     (c.in_ok-space.ensures.memory ∙ ap mapped (c.regions-regions.ensures
-    ∙ ap regions c.data_end.ensures))
-    ∙ globals_mapped c.args.globals.now
+    ∙ ap regions c.data_end.ensures)))
+    ∙ globals_mapped globals

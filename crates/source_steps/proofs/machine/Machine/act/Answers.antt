@@ -36,6 +36,22 @@ returns-in-Operate c =
     (λ m. model.operated m o a b p (performed (reserved_below e) o a b m.state.memory))))
     c.requires c.operate.ensures)
 
+pub returns-in-DeclareName : goal.returns-in-DeclareName
+returns-in-DeclareName c =
+    let program = whole.program c.args._program.now in
+    unshown (λ n m. model.done program m (views.action_of n))
+    c.args.self.now c.declare.new.self _ _ c.declare.result
+    c.silently-in-DeclareName.result c.in-DeclareName.is c.silently-in-DeclareName.ensures
+    (c.declare.ensures program c.requires)
+
+pub returns-in-OnStack : goal.returns-in-OnStack
+returns-in-OnStack c =
+    let program = whole.program c.args._program.now in
+    unshown (λ n m. model.done program m (views.action_of n))
+    c.args.self.now c.act_on_stack.new.self _ _ c.act_on_stack.result
+    c.silently-in-OnStack.result c.in-OnStack.is c.silently-in-OnStack.ensures
+    (c.act_on_stack.ensures program c.requires)
+
 pub returns-in-SetLocal : goal.returns-in-SetLocal
 returns-in-SetLocal c = λ x es.
     ap (λ n. model.done (whole.program c.args._program.now) (machine_of c.args.self.now x es)

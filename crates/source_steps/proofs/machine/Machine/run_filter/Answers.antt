@@ -1,4 +1,4 @@
-use Rattle.std.proofs.Common.{◌≡◌, ◌+◌, ◌≤◌, ◌++◌, [], ◌∷◌, length, ap, sym, ◌∙◌, arith}
+use Rattle.std.proofs.Common.{◌≡◌, ◌+◌, ◌≤◌, ◌++◌, [], ◌∷◌, length, ap, sym, ◌∙◌, arith, None}
 use Rattle.std.proofs.lemmas.Bool.{ltb-false}
 use Rattle.seh_num.specs.declared.event.Event.TheVariants as events
 use Rattle.c_checked.specs.Expression as tree
@@ -30,6 +30,7 @@ returns c = λ x es.
     let next = plans.evaluates (tree.expression c.args.value.now)
     (record {
       activation = c.args.handler.activation;
+      data_part = None;
       exception =
           views.exception_of c.args.exception;
       abnormal = c.args.handler.abnormal;

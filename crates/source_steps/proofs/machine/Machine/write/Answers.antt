@@ -7,6 +7,7 @@ use Rattle.source_plans.specs.Views as views
 use Rattle.source_values.specs.Direct as spec
 use Rattle.source_steps.specs.Machines.{state_of}
 use Rattle.source_steps.specs.Directly.{WrittenTo}
+use Rattle.source_steps.proofs.StackedPlaces.{stacked_is}
 use Rattle.source_steps.proofs.machine.Machine.write.Goals as goal
 
 pub returns-in-Local : goal.returns-in-Local
@@ -25,6 +26,13 @@ returns-in-Global c =
     (views.place_of c.args.place) l c.args.address c.args.value) c.store.new.self
     c.store.result) (sym (ap lvalue c.in-Global.is ∙ made.global_is _ _))
     c.store.ensures
+
+pub returns-in-Stacked : goal.returns-in-Stacked
+returns-in-Stacked c =
+    subst (λ l. WrittenTo c.args.self.now (λ st. spec.written (reserved_below c.args.data_end) st
+    (views.place_of c.args.place) l c.args.address c.args.value) c.store-in-Stacked.new.self
+    c.store-in-Stacked.result) (sym (ap lvalue c.in-Stacked.is ∙ stacked_is _ _ _))
+    c.store-in-Stacked.ensures
 
 pub returns-in-Indirection : goal.returns-in-Indirection
 returns-in-Indirection c =

@@ -1,0 +1,4 @@
+pub mod Walked
+pub mod Placings
+pub mod PlacedTrees
+pub mod PlacedStatements
