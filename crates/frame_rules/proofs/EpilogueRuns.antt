@@ -95,13 +95,12 @@ opens f offset back a old ops rs s u (instrs.Arithmetic Add W64 (places.Register
     let high = known.high in
     let x = added W64 (registers s 4 % 2 ^ 64) (v % 2 ^ 64) in
     let w = x.0 % 2 ^ 64 in
-    let b = became (record {
+    let b = became (record s {
       cpu = record {
         registers = set s.cpu.registers 4 w;
         rip = a;
         flags = x.1;
       };
-      memory = s.memory;
     }) u (effect (with_rip s a)
     (instrs.Arithmetic Add W64 (places.Register Rsp) (operands.Immediate v))) refl ef in
     let o = opens_effect s u w (allocation ops) h.length b
@@ -122,13 +121,12 @@ opens f offset back a old ops rs s u (instrs.LoadAddress W64 Rsp m) known h done
     let at = frame_address f offset (allocation ops) c m parts.0
     (eqb-true ((offset + m.displacement) % 2 ^ 64) (allocation ops) parts.1) framed lt in
     let w = address_of c m % 2 ^ 64 in
-    let b = became (record {
+    let b = became (record s {
       cpu = record {
         registers = set s.cpu.registers 4 w;
         rip = a;
         flags = s.cpu.flags;
       };
-      memory = s.memory;
     }) u
     (effect (with_rip s a) (instrs.LoadAddress W64 Rsp m)) refl ef in
     let o = opens_effect s u w (allocation ops) h.length b
@@ -140,24 +138,22 @@ opens f offset back a old ops rs s u i known h done e ef = absurd (false≢true 
 
 pub pop_effect : (s : State) (a v : ℕ) (q : Reg) → load s.memory (registers s 4) W64 ≡ Ok v
     → effect (with_rip s a) (instrs.Pop q) ≡ Ok
-    (record {
+    (record s {
       cpu = record {
         registers = set
             (set s.cpu.registers 4 ((registers s 4 + 8) % 2 ^ 64 % 2 ^ 64)) (number q) (v % 2 ^ 64);
         rip = a;
         flags = s.cpu.flags;
       };
-      memory = s.memory;
     })
 pop_effect s a v q got =
-    let lower : State = record {
+    let lower : State = record s {
       cpu = record {
         registers = set s.cpu.registers 4
             ((registers s 4 + 8) % 2 ^ 64 % 2 ^ 64);
         rip = a;
         flags = s.cpu.flags;
       };
-      memory = s.memory;
     } in
     let G : Answer ℕ → Answer State = λ r. ◌>>=◌ {A = ℕ × State} (r >>= λ v. Ok (v, lower))
     (λ x. Ok (record x.1 { cpu = with_register W64 x.1.cpu q x.0 })) in
@@ -181,13 +177,12 @@ popped f back a old r rs s u (instrs.Pop q) high fits h e ef =
     let value : v ≡ old r = omega arith in
     let xs = set s.cpu.registers 4 w in
     let n : length xs ≡ 16 = length-set s.cpu.registers 4 w ∙ h.length in
-    let b = became (record {
+    let b = became (record s {
       cpu = record {
         registers = set xs (number q) v;
         rip = a;
         flags = s.cpu.flags;
       };
-      memory = s.memory;
     }) u (effect (with_rip s a) (instrs.Pop q))
     (pop_effect s a (old r) q (load_at s.memory (registers s 4) (old r) h.stack.0)) ef in
     let now : (k : ℕ) → registers u k ≡ get_or (set xs (number q) v) k 0 = λ k. ap

@@ -169,23 +169,21 @@ pub load_effect : (s : State) (a at v : ℕ) (q : Reg) (m : MemRef)
     → address_of (record { registers = s.cpu.registers; rip = a; flags = s.cpu.flags }) m ≡ at
     → load s.memory at W64 ≡ Ok v
     → effect (with_rip s a) (instrs.Move W64 (places.Register q) (operands.Memory m))
-    ≡ Ok (record {
+    ≡ Ok (record s {
       cpu = record {
         registers = set s.cpu.registers (number q) (v % 2 ^ 64);
         rip = a;
         flags = s.cpu.flags;
       };
-      memory = s.memory;
     })
 load_effect s a at v q m place got =
     let G : Answer ℕ → Answer State = λ r. r >>= λ x. Ok
-    (record {
+    (record s {
       cpu = record {
         registers = set s.cpu.registers (number q) (x % 2 ^ 64);
         rip = a;
         flags = s.cpu.flags;
       };
-      memory = s.memory;
     }) in
     ap (λ x. G (load s.memory x W64)) place ∙ ap G got
 
@@ -232,13 +230,12 @@ loads f offset back a old ops rs s u (instrs.Move W64 (places.Register q) (opera
     let fits = known.fits (number q) in
     let v = old (number q) % 2 ^ 64 in
     let value : v ≡ old (number q) = omega arith in
-    let b = became (record {
+    let b = became (record s {
       cpu = record {
         registers = set s.cpu.registers (number q) v;
         rip = a;
         flags = s.cpu.flags;
       };
-      memory = s.memory;
     }) u
     (effect (with_rip s a) (instrs.Move W64 (places.Register q) (operands.Memory m)))
     (load_effect s a (base + n) (old (number q)) q m at

@@ -58,13 +58,12 @@ sized s u a k (instrs.Move W32 (places.Register Rax) (operands.Immediate v)) n e
     let same : v ≡ k = eqb-true v k parts.0 in
     let small = ltb-true k (2 ^ 32) parts.1 in
     let w = v % 2 ^ 32 % 2 ^ 32 in
-    let b = became (record {
+    let b = became (record s {
       cpu = record {
         registers = set s.cpu.registers 0 w;
         rip = a;
         flags = s.cpu.flags;
       };
-      memory = s.memory;
     }) u
     (effect (with_rip s a) (instrs.Move W32 (places.Register Rax) (operands.Immediate v))) refl
     ef in
@@ -102,13 +101,12 @@ subtracted_step f offset back n a k e s u ops
     let high = entry.high in
     let x = subtracted W64 (registers s 4 % 2 ^ 64) (registers s 0 % 2 ^ 64) in
     let v = x.0 % 2 ^ 64 in
-    let b = became (record {
+    let b = became (record s {
       cpu = record {
         registers = set s.cpu.registers 4 v;
         rip = a;
         flags = x.1;
       };
-      memory = s.memory;
     }) u (effect (with_rip s a)
     (instrs.Arithmetic computes.Sub W64 (places.Register Rsp) (operands.Register Rax))) refl ef in
     let now : (q : ℕ) → registers u q ≡ get_or (set s.cpu.registers 4 v) q 0 = λ q. ap

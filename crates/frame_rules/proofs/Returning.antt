@@ -13,24 +13,22 @@ use Rattle.frame_rules.proofs.EveryFrame.{known, leaving_has, leaving_modes}
 
 pub return_effect : (s : State) (a v : ℕ) → load s.memory (registers s 4) W64 ≡ Ok v
     → effect (with_rip s a) instrs.Return ≡ Ok
-    (record {
+    (record s {
       cpu = record {
         registers = set s.cpu.registers 4
             ((registers s 4 + 8) % 2 ^ 64 % 2 ^ 64);
         rip = v;
         flags = s.cpu.flags;
       };
-      memory = s.memory;
     })
 return_effect s a v got =
-    let lower : State = record {
+    let lower : State = record s {
       cpu = record {
         registers = set s.cpu.registers 4
             ((registers s 4 + 8) % 2 ^ 64 % 2 ^ 64);
         rip = a;
         flags = s.cpu.flags;
       };
-      memory = s.memory;
     } in
     let G : Answer ℕ → Answer State = λ r. ◌>>=◌ {A = ℕ × State} (r >>= λ v. Ok (v, lower))
     (λ x. Ok (with_rip x.1 x.0)) in
@@ -44,13 +42,12 @@ returned f e s t a high h ef =
     let back = return_address e in
     let top = h.stack.0 in
     let w = (registers s 4 + 8) % 2 ^ 64 % 2 ^ 64 in
-    let u : State = record {
+    let u : State = record s {
       cpu = record {
         registers = set s.cpu.registers 4 w;
         rip = back;
         flags = s.cpu.flags;
       };
-      memory = s.memory;
     } in
     let same : u ≡ t = ok_same (sym (return_effect s a back
     (load_at s.memory (registers s 4) back h.stack.1)) ∙ ef) in

@@ -40,7 +40,7 @@ leads f offset back n a e s (Push r) xs (instrs.Push q) entry deep allowed d run
     let may : (b : ℕ) → at ≤ b → b < at + 8 → may_write s.memory b
     ≡ true = λ b x y. room f offset back n e s xs entry run b (omega arith) (omega arith) in
     record {
-      to = record {
+      to = record s {
         cpu = record {
           registers = set s.cpu.registers 4 at;
           rip = a;
@@ -82,7 +82,7 @@ leads f offset back n a e s (Save r k) xs (instrs.Move W64 (places.Memory m) (op
     → may_write s.memory b ≡ true = λ b x y. room f offset back n e s xs entry run b (omega arith)
     (omega arith) in
     record {
-      to = record {
+      to = record s {
         cpu = c;
         memory = with_bytes s.memory
             (with_number s.memory.byte 8 (base + k) (registers e (number q)));

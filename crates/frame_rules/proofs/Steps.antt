@@ -69,28 +69,26 @@ room f offset back n e s ops entry run a p q = ap (λ (g : ℕ → Protection). 
 pub push_effect : (s : State) (a v at : ℕ) (q : Reg) → registers s 4 ≡ at + 8 → at + 8 < 2 ^ 64
     → first_refused (may_write s.memory) 8 at ≡ None → registers s (number q) ≡ v
     → effect (with_rip s a) (instrs.Push q) ≡ Ok
-    (record {
+    (record s {
       cpu = record { registers = set s.cpu.registers 4 at; rip = a; flags = s.cpu.flags };
       memory = with_bytes s.memory (with_number s.memory.byte 8 at v);
     })
 push_effect s a v at q top lt may val =
     let F : ℕ → ℕ → ℕ → Answer State = λ x y w. store
-    (record {
+    (record s {
       cpu = record { registers = set s.cpu.registers 4 y; rip = a; flags = s.cpu.flags };
-      memory = s.memory;
     }) x W64 w in
     let raw : (registers s 4 + (2 ^ 64 - 8)) % 2 ^ 64 ≡ at = omega arith in
     let low : at % 2 ^ 64 ≡ at = omega arith in
     ap (λ x. F x (x % 2 ^ 64) (registers s (number q))) raw
     ∙ ap (λ y. F at y (registers s (number q))) low
     ∙ ap (F at at) val
-    ∙ store_at (record {
+    ∙ store_at (record s {
       cpu = record {
         registers = set s.cpu.registers 4 at;
         rip = a;
         flags = s.cpu.flags;
       };
-      memory = s.memory;
     }) at v may
 
 pub pushed_step : (f offset back n a : ℕ) (e s u : State) (ops : List UnwindOperation) (q : Reg)
@@ -114,7 +112,7 @@ pushed_step f offset back n a e s u ops q entry deep m p run ef =
     let may : (b : ℕ) → at ≤ b → b < at + 8 → may_write s.memory b
     ≡ true = λ b x y. room f offset back n e s ops entry run b (omega arith) (omega arith) in
     let after = with_bytes s.memory (with_number s.memory.byte 8 at (old r)) in
-    let b = became (record {
+    let b = became (record s {
       cpu = record {
         registers = set s.cpu.registers 4 at;
         rip = a;
@@ -181,14 +179,13 @@ fallen f offset back n k e s u ops entry deep p run long same sp others =
 
 pub subtract_effect : (s : State) (a v : ℕ) → effect (with_rip s a)
     (instrs.Arithmetic computes.Sub W64 (places.Register Rsp) (operands.Immediate v))
-    ≡ Ok (record {
+    ≡ Ok (record s {
       cpu = record {
         registers = set s.cpu.registers 4
             ((subtracted W64 (registers s 4 % 2 ^ 64) (v % 2 ^ 64)).0 % 2 ^ 64);
         rip = a;
         flags = (subtracted W64 (registers s 4 % 2 ^ 64) (v % 2 ^ 64)).1;
       };
-      memory = s.memory;
     })
 subtract_effect s a v = refl
 
@@ -209,13 +206,12 @@ allocated_step f offset back n a k e s u ops entry deep p run ef =
     let high = entry.high in
     let x = subtracted W64 (registers s 4 % 2 ^ 64) (k % 2 ^ 64) in
     let v = x.0 % 2 ^ 64 in
-    let b = became (record {
+    let b = became (record s {
       cpu = record {
         registers = set s.cpu.registers 4 v;
         rip = a;
         flags = x.1;
       };
-      memory = s.memory;
     }) u (effect (with_rip s a)
     (instrs.Arithmetic computes.Sub W64 (places.Register Rsp) (operands.Immediate k)))
     (subtract_effect s a k) ef in
@@ -259,13 +255,12 @@ framed_step f offset back n a e s u ops to m entry small same place saved allowe
     let at = stack_address c offset m place lt in
     let v = address_of c m % 2 ^ 64 in
     let value : v ≡ registers s 4 + offset = omega arith in
-    let b = became (record {
+    let b = became (record s {
       cpu = record {
         registers = set s.cpu.registers (number to) v;
         rip = a;
         flags = s.cpu.flags;
       };
-      memory = s.memory;
     }) u
     (effect (with_rip s a) (instrs.LoadAddress W64 to m)) refl ef in
     let now : (q : ℕ) → registers u q ≡ get_or (set s.cpu.registers (number to) v) q 0 = λ q. ap
@@ -308,7 +303,7 @@ pub save_effect : (s : State) (a v at : ℕ) (q : Reg) (m : MemRef)
     → address_of (record { registers = s.cpu.registers; rip = a; flags = s.cpu.flags }) m ≡ at
     → registers s (number q) % 2 ^ 64 ≡ v → first_refused (may_write s.memory) 8 at ≡ None
     → effect (with_rip s a) (instrs.Move W64 (places.Memory m) (operands.Register q))
-    ≡ Ok (record {
+    ≡ Ok (record s {
       cpu = record { registers = s.cpu.registers; rip = a; flags = s.cpu.flags };
       memory = with_bytes s.memory (with_number s.memory.byte 8 at v);
     })
@@ -343,7 +338,7 @@ saved_step f offset back n a k e s u ops q m entry deep place ms le apart order 
     → may_write s.memory b ≡ true = λ b x y. room f offset back n e s ops entry run b
     (omega arith) (omega arith) in
     let after = with_bytes s.memory (with_number s.memory.byte 8 (base + k) (old r)) in
-    let b = became (record { cpu = c; memory = after }) u
+    let b = became (record s { cpu = c; memory = after }) u
     (effect (with_rip s a) (instrs.Move W64 (places.Memory m) (operands.Register q)))
     (save_effect s a (old r) (base + k) q m at value
     (all_may (may_write s.memory) 8 (base + k) (omega arith) may)) ef in

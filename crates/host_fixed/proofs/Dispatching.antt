@@ -1,6 +1,6 @@
 -- What the dispatcher keeps.
 use Rattle.std.proofs.Common.{◌≡◌, ℕ, ◌+◌, ◌%◌, ◌^◌, Bool, true, false, ◌==◌, [], Option, Some, None, refl, arith}
-use Rattle.std.specs.Prelude.{nat_le}
+use Rattle.std.specs.Prelude.{nat_le, slice_get}
 use Rattle.seh_num.specs.declared.width.Width.TheVariants.{W32, W64}
 use Rattle.seh_num.specs.Widths.{half}
 use Rattle.seh_num.specs.declared.event.Code.{Code}
@@ -12,11 +12,11 @@ use Rattle.x64_machine.specs.Effect.{State}
 use Rattle.eh_tables.specs.declared.scope.ScopeRecord.{ScopeRecord}
 use Rattle.virtual_unwind.specs.CallerOf.{Functions}
 use Rattle.seh_records.specs.declared.dispatch.Kind.{Kind}
-use Rattle.seh_records.specs.declared.dispatch.Kind.TheVariants.{Search, ExceptionUnwind, LocalUnwind}
+use Rattle.seh_records.specs.declared.dispatch.Kind.TheVariants.{Search, ExceptionUnwind, LocalUnwind, Vectored}
 use Rattle.seh_records.specs.declared.dispatch.DispatchRecord.{DispatchRecord}
 use Rattle.seh_records.specs.declared.layout.TheConstants.{POINTERS_AT}
 use Rattle.seh_records.specs.Record.{misplaced, placed, return_address_at}
-use Rattle.seh_walk.specs.Walk.{is_search, walk_in, steps, filter_return, finally_return}
+use Rattle.seh_walk.specs.Walk.{is_search, is_unwinding, is_vectored, walk_in, steps, filter_return, finally_return, vectored_return}
 use Rattle.seh_search.specs.declared.search_result.SearchResult.{SearchResult}
 use Rattle.seh_search.specs.declared.search_result.SearchResult.TheVariants as searches
 use Rattle.seh_search.specs.Search.{search}
@@ -24,7 +24,7 @@ use Rattle.seh_unwind.specs.declared.unwind_result.UnwindResult.{UnwindResult}
 use Rattle.seh_unwind.specs.declared.unwind_result.UnwindResult.TheVariants as unwinds
 use Rattle.seh_unwind.specs.Unwind.{unwind}
 use Rattle.host_model.specs.Turns.{Turn, Continues, Ends, with_event}
-use Rattle.host_model.specs.Dispatch.{after_placing, if_placed, land, by_purpose, after_unwind, unwinds_on, accepting, accepted, after_search, searches_on, raising, raised, new_record, place_of, to_target, unwound_locally, again, searched_again, continued, if_finally, jumping, asked_row, by_sign, by_answer, answered, if_searching, filter_returned, if_unwinding, finally_returned, eax, entered, in_hand}
+use Rattle.host_model.specs.Dispatch.{after_placing, if_placed, land, by_purpose, after_unwind, unwinds_on, accepting, accepted, after_search, searches_on, raising, raised, new_record, place_of, to_target, unwound_locally, again, searching, asks_at, asks_on, continued, if_finally, jumping, asked_row, by_sign, by_answer, answered, if_searching, filter_returned, if_unwinding, finally_returned, by_vectored_answer, if_vectored, vectored_returned, eax, entered, in_hand}
 use Rattle.x64_decoded.specs.Fixed.{KeepsFixed}
 use Rattle.x64_decoded.proofs.Keeping.{keeps_same, keeps_then, stores_keep}
 use Rattle.host_fixed.proofs.Placing.{placing_keeps}
@@ -50,8 +50,8 @@ placing s at r go h = by (misplaced s.memory at) refl
     by : (o : Option ℕ) → misplaced s.memory at ≡ o → Keeps s.memory (if_placed s at r go o)
     by (Some a) e = tt
     by None e = from s.memory (placed s.memory at r)
-        (go (record { cpu = s.cpu; memory = placed s.memory at r }))
-        (placing_keeps s.memory at r e) (h (record { cpu = s.cpu; memory = placed s.memory at r }))
+        (go (record s { memory = placed s.memory at r }))
+        (placing_keeps s.memory at r e) (h (record s { memory = placed s.memory at r }))
 
 entering : (u : State) (at back : ℕ) → KeepsFixed u.memory
     (after_store u.memory (return_address_at at) W64 back)
@@ -64,6 +64,7 @@ land_keeps s r c = by r.kind
     by Search = keeps_same s.memory
     by ExceptionUnwind = keeps_same s.memory
     by LocalUnwind = keeps_same s.memory
+    by Vectored = keeps_same s.memory
 
 unwound_keeps : (s : State) (at : ℕ) (r : DispatchRecord) (x : UnwindResult)
     → Keeps s.memory (after_unwind s at r x)
@@ -99,14 +100,24 @@ searches_keep : (t : Functions) (s : State) (at : ℕ) (r : DispatchRecord)
     → Keeps s.memory (searches_on t s at r)
 searches_keep t s at r = searched_keeps t s at r (search steps t s.memory (walk_in r))
 
+asking_keeps : (t : Functions) (s : State) (at : ℕ) (r : DispatchRecord) (o : Option ℕ)
+    → Keeps s.memory (asks_at t s at r o)
+asking_keeps t s at r (Some handler) = placing s at r
+    (λ u. Continues (entered u at vectored_return handler ((at + POINTERS_AT) % 2 ^ 64) 0) [])
+    (λ u. entering u at vectored_return)
+asking_keeps t s at r None = placing s at (searching r) (λ u. searches_on t u at (searching r))
+    (λ u. searches_keep t u at (searching r))
+
+asks_keep : (t : Functions) (s : State) (at : ℕ) (r : DispatchRecord)
+    → Keeps s.memory (asks_on t s at r)
+asks_keep t s at r = asking_keeps t s at r (slice_get s.vectored r.row)
+
 pub raised_keeps : (t : Functions) (s : State) (code : Code) (flags : ℕ)
     (access : Option (Bool × ℕ)) (saved : Cpu)
     → Keeps s.memory (raised t s code flags access saved)
 raised_keeps t s code flags access saved = with_event_keeps s.memory _
     (raising t s code flags access saved)
-    (placing s (place_of saved) (new_record Search code flags access saved)
-    (λ u. searches_on t u (place_of saved) (new_record Search code flags access saved))
-    (λ u. searches_keep t u (place_of saved) (new_record Search code flags access saved)))
+    (asks_keep t s (place_of saved) (new_record Vectored code flags access saved))
 
 pub locally_keeps : (t : Functions) (s : State) (frame target : ℕ) (saved : Cpu)
     → Keeps s.memory (unwound_locally t s frame target saved)
@@ -117,9 +128,8 @@ locally_keeps t s frame target saved = placing s (place_of saved) (to_target sav
 continued_keeps : (t : Functions) (s : State) (at : ℕ) (r : DispatchRecord) (b : Bool)
     → Keeps s.memory (continued t s at r b)
 continued_keeps t s at r true = keeps_same s.memory
-continued_keeps t s at r false = with_event_keeps s.memory _ (searched_again t s at r)
-    (placing s at (again r) (λ u. searches_on t u at (again r))
-    (λ u. searches_keep t u at (again r)))
+continued_keeps t s at r false = with_event_keeps s.memory _ (asks_on t s at (again r))
+    (asks_keep t s at (again r))
 
 jumping_keeps : (t : Functions) (s : State) (at : ℕ) (r : DispatchRecord) (o : Option ScopeRecord)
     → Keeps s.memory (jumping t s at r o)
@@ -153,8 +163,22 @@ filter_keeps t s at (Some r) = by (is_search r.kind)
 pub finally_keeps : (t : Functions) (s : State) (at : ℕ) (o : Option DispatchRecord)
     → Keeps s.memory (finally_returned t s at o)
 finally_keeps t s at None = tt
-finally_keeps t s at (Some r) = by (is_search r.kind)
+finally_keeps t s at (Some r) = by (is_unwinding r.kind)
   where
     by : (b : Bool) → Keeps s.memory (if_unwinding t s at r b)
-    by true = tt
-    by false = unwinds_keep t s at r
+    by true = unwinds_keep t s at r
+    by false = tt
+
+vectored_answer_keeps : (t : Functions) (s : State) (at : ℕ) (r : DispatchRecord) (b : Bool)
+    → Keeps s.memory (by_vectored_answer t s at r b)
+vectored_answer_keeps t s at r true = continued_keeps t s at r (r.flags % 2 == 0)
+vectored_answer_keeps t s at r false = asks_keep t s at (record r { row = r.row + 1 })
+
+pub vectored_keeps : (t : Functions) (s : State) (at : ℕ) (o : Option DispatchRecord)
+    → Keeps s.memory (vectored_returned t s at o)
+vectored_keeps t s at None = tt
+vectored_keeps t s at (Some r) = by (is_vectored r.kind)
+  where
+    by : (b : Bool) → Keeps s.memory (if_vectored t s at r b)
+    by true = vectored_answer_keeps t s at r (nat_le (half W32) (eax s))
+    by false = tt

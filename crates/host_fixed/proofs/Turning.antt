@@ -22,7 +22,7 @@ use Rattle.x64_decoded.specs.Fixed.{KeepsFixed}
 use Rattle.x64_decoded.proofs.Keeping.{keeps_same, protect_keeps}
 use Rattle.x64_decoded.proofs.Effects.{steps_keep}
 use Rattle.host_fixed.specs.Laws.{TurnsKeepFixed, HostsKeepFixed}
-use Rattle.host_fixed.proofs.Dispatching.{Keeps, raised_keeps, locally_keeps, filter_keeps, finally_keeps}
+use Rattle.host_fixed.proofs.Dispatching.{Keeps, raised_keeps, locally_keeps, filter_keeps, finally_keeps, vectored_keeps}
 
 returned_keeps : (s : State) (x : Result ℕ RefusedAccess) (go : State → Turn)
     → ((a : ℕ) → Keeps s.memory (go (back s a))) → Keeps s.memory (returned s x go)
@@ -52,6 +52,10 @@ served_keeps t s (Some services.LocalUnwind) = returning_keeps s _ (λ a. locall
 served_keeps t s (Some services.FilterReturn) = filter_keeps t s (register s.cpu Rsp)
     (fetched s.memory (register s.cpu Rsp))
 served_keeps t s (Some services.FinallyReturn) = finally_keeps t s (register s.cpu Rsp)
+    (fetched s.memory (register s.cpu Rsp))
+served_keeps t s (Some services.AddVectored) = returning_keeps s _ (λ a. keeps_same s.memory)
+served_keeps t s (Some services.RemoveVectored) = returning_keeps s _ (λ a. keeps_same s.memory)
+served_keeps t s (Some services.VectoredReturn) = vectored_keeps t s (register s.cpu Rsp)
     (fetched s.memory (register s.cpu Rsp))
 served_keeps t s (Some services.Walk) = returning_keeps s _ (λ a. walked_keeps s.memory (back s a)
     (printed steps t s.memory (walk_from (back s a).cpu)) (keeps_same s.memory))

@@ -10,8 +10,12 @@ use crate::service::Service;
 /// A service that an image imports.
 #[derive(Clone, Copy, Debug, PartialEq, Eq)]
 pub enum ImportedService {
+    /// Adds a vectored handler. A program imports it where it calls it.
+    AddVectored,
     /// Raises an exception.
     RaiseException,
+    /// Takes a vectored handler out. A program imports it where it calls it.
+    RemoveVectored,
     /// The language handler of C, which the tables for unwinding name at each `__try`.
     CSpecificHandler,
     /// Unwinds within a function.
@@ -25,7 +29,7 @@ pub enum ImportedService {
 }
 
 /// How many services images can import.
-pub const IMPORTED_COUNT: u32 = 6;
+pub const IMPORTED_COUNT: u32 = 8;
 
 /// Those that every program imports, in the order of their slots.
 pub const IMPORTED: [ImportedService; 5] = [
@@ -42,7 +46,9 @@ impl ImportedService {
         ensures { result.now ≡ spec.name_of self.now }
     {
         match self {
+            ImportedService::AddVectored => name::ADD_VECTORED_EXCEPTION_HANDLER,
             ImportedService::RaiseException => name::RAISE_EXCEPTION,
+            ImportedService::RemoveVectored => name::REMOVE_VECTORED_EXCEPTION_HANDLER,
             ImportedService::CSpecificHandler => name::C_SPECIFIC_HANDLER,
             ImportedService::LocalUnwind => name::LOCAL_UNWIND,
             ImportedService::Protect => name::PROTECT,
@@ -57,12 +63,14 @@ impl ImportedService {
         ensures small { result < IMPORTED_COUNT }
     {
         match self {
-            ImportedService::RaiseException => 0,
-            ImportedService::CSpecificHandler => 1,
-            ImportedService::LocalUnwind => 2,
-            ImportedService::Protect => 3,
-            ImportedService::Put => 4,
-            ImportedService::Walk => 5,
+            ImportedService::AddVectored => 0,
+            ImportedService::RaiseException => 1,
+            ImportedService::RemoveVectored => 2,
+            ImportedService::CSpecificHandler => 3,
+            ImportedService::LocalUnwind => 4,
+            ImportedService::Protect => 5,
+            ImportedService::Put => 6,
+            ImportedService::Walk => 7,
         }
     }
 }

@@ -3,7 +3,10 @@
 ghost use Rattle.std.specs.Prelude.{◌≡◌};
 ghost use Rattle.host_layout.specs.Services.{address_of, service_at, service_named};
 
-use crate::name::{C_SPECIFIC_HANDLER, LOCAL_UNWIND, PROTECT, PUT, RAISE_EXCEPTION, WALK};
+use crate::name::{
+    ADD_VECTORED_EXCEPTION_HANDLER, C_SPECIFIC_HANDLER, LOCAL_UNWIND, PROTECT, PUT,
+    RAISE_EXCEPTION, REMOVE_VECTORED_EXCEPTION_HANDLER, WALK,
+};
 use crate::range::HOST_PAGE_START;
 
 /// What the host does for code that reaches one of its addresses.
@@ -23,6 +26,12 @@ pub enum Service {
     FilterReturn,
     /// Where a `__finally` block returns.
     FinallyReturn,
+    /// Adds the vectored handler at the address in RDX: in front of the others where ECX isn't 0.
+    AddVectored,
+    /// Takes out the vectored handler at the address in RCX.
+    RemoveVectored,
+    /// Where a vectored handler returns.
+    VectoredReturn,
     /// Shows the function of each live activation, the innermost first.
     Walk,
 }
@@ -41,6 +50,12 @@ pub const FILTER_RETURN_AT: u64 = HOST_PAGE_START + 0x60;
 /// Where a `__finally` block returns.
 pub const FINALLY_RETURN_AT: u64 = HOST_PAGE_START + 0x70;
 
+const ADD_VECTORED_AT: u64 = HOST_PAGE_START + 0x80;
+
+const REMOVE_VECTORED_AT: u64 = HOST_PAGE_START + 0x90;
+/// Where a vectored handler returns.
+pub const VECTORED_RETURN_AT: u64 = HOST_PAGE_START + 0xA0;
+
 const WALK_AT: u64 = HOST_PAGE_START + 0xB0;
 
 impl Service {
@@ -56,6 +71,9 @@ impl Service {
             Service::LocalUnwind => LOCAL_UNWIND_AT,
             Service::FilterReturn => FILTER_RETURN_AT,
             Service::FinallyReturn => FINALLY_RETURN_AT,
+            Service::AddVectored => ADD_VECTORED_AT,
+            Service::RemoveVectored => REMOVE_VECTORED_AT,
+            Service::VectoredReturn => VECTORED_RETURN_AT,
             Service::Walk => WALK_AT,
         }
     }
@@ -72,6 +90,9 @@ impl Service {
             LOCAL_UNWIND_AT => Some(Service::LocalUnwind),
             FILTER_RETURN_AT => Some(Service::FilterReturn),
             FINALLY_RETURN_AT => Some(Service::FinallyReturn),
+            ADD_VECTORED_AT => Some(Service::AddVectored),
+            REMOVE_VECTORED_AT => Some(Service::RemoveVectored),
+            VECTORED_RETURN_AT => Some(Service::VectoredReturn),
             WALK_AT => Some(Service::Walk),
             _ => None,
         }
@@ -81,8 +102,12 @@ impl Service {
     pub fn named(name: &[u8]) -> Option<Service>
         ensures { result ≡ service_named name.now }
     {
-        if name == RAISE_EXCEPTION {
+        if name == ADD_VECTORED_EXCEPTION_HANDLER {
+            Some(Service::AddVectored)
+        } else if name == RAISE_EXCEPTION {
             Some(Service::RaiseException)
+        } else if name == REMOVE_VECTORED_EXCEPTION_HANDLER {
+            Some(Service::RemoveVectored)
         } else if name == C_SPECIFIC_HANDLER {
             Some(Service::CSpecificHandler)
         } else if name == LOCAL_UNWIND {

@@ -23,7 +23,7 @@ use Rattle.host_model.specs.HostStep.{turn}
 use Rattle.host_model.specs.Loading.{mapped, start}
 use Rattle.host_model.specs.Machine.{run, machine}
 use Rattle.host_model.specs.Worked.{image_of, fourteen, leaving}
-use Rattle.host_model.specs.Images.{image, filter_and_finally_text, continued_raise_text, continued_in_vain_text, accepted_fault_text, local_unwind_text, raising_filter_text, raise_in_finally_text, continued_access_text}
+use Rattle.host_model.specs.Images.{image, filter_and_finally_text, continued_raise_text, continued_in_vain_text, accepted_fault_text, local_unwind_text, raising_filter_text, raise_in_finally_text, continued_access_text, vectored_handler_text, vectored_in_vain_text}
 
 unfoldable pub computed_image : ℕ
 unfolding libraries operation fetched_at tail_at first_refused number_at with_number executable
@@ -33,4 +33,5 @@ unfolding libraries operation fetched_at tail_at first_refused number_at with_nu
     misplaced placed fetched turn run machine u16 u32 u64 zeros image_of fourteen leaving image
     filter_and_finally_text continued_raise_text continued_in_vain_text accepted_fault_text
     local_unwind_text raising_filter_text raise_in_finally_text continued_access_text
+    vectored_handler_text vectored_in_vain_text
 computed_image = 0

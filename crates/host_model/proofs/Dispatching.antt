@@ -1,6 +1,6 @@
 -- Images with handlers, run by computing.
 use Rattle.std.proofs.Common.{refl}
-use Rattle.host_model.specs.Images.{ShowsFilterAndFinally, ShowsContinuedRaise, ShowsContinuedInVain, ShowsAcceptedFault, ShowsLocalUnwind, ShowsRaiseInFilter, ShowsRaiseInFinally, ShowsRaisesInFilters, ShowsContinuedAccess}
+use Rattle.host_model.specs.Images.{ShowsFilterAndFinally, ShowsContinuedRaise, ShowsContinuedInVain, ShowsAcceptedFault, ShowsLocalUnwind, ShowsRaiseInFilter, ShowsRaiseInFinally, ShowsRaisesInFilters, ShowsContinuedAccess, ShowsVectoredHandler, ShowsVectoredInVain}
 use Rattle.host_model.proofs.Computed.{computed_image}
 
 pub shows_filter_and_finally : ShowsFilterAndFinally
@@ -38,3 +38,11 @@ shows_raises_in_filters = refl
 pub shows_continued_access : ShowsContinuedAccess
 unfolding computed_image
 shows_continued_access = refl
+
+pub shows_vectored_handler : ShowsVectoredHandler
+unfolding computed_image
+shows_vectored_handler = refl
+
+pub shows_vectored_in_vain : ShowsVectoredInVain
+unfolding computed_image
+shows_vectored_in_vain = refl

@@ -1,6 +1,6 @@
 -- The dispatcher: what is done between two funclets. All suspended work is in records in the
 -- machine's stack.
-use Rattle.std.specs.Prelude.{ℕ, zero, suc, ◌+◌, ◌%◌, ◌^◌, Bool, true, false, ◌==◌, nat_le, List, [], ◌∷◌, replicate, Option, Some, None, slice_index, slice_set, ◌-◌}
+use Rattle.std.specs.Prelude.{ℕ, zero, suc, ◌+◌, ◌%◌, ◌^◌, Bool, true, false, ◌==◌, nat_le, List, [], ◌∷◌, replicate, Option, Some, None, slice_get, slice_index, slice_set, ◌-◌}
 use Rattle.seh_num.specs.declared.width.Width.TheVariants.{W32, W64}
 use Rattle.seh_num.specs.declared.event.Code.{Code}
 use Rattle.seh_num.specs.declared.event.Event.TheVariants as events
@@ -21,12 +21,12 @@ use Rattle.eh_tables.specs.declared.scope.ScopeRecord.{ScopeRecord}
 use Rattle.eh_tables.specs.Tables.{Entry}
 use Rattle.virtual_unwind.specs.CallerOf.{Functions, entry_of}
 use Rattle.seh_records.specs.declared.dispatch.Kind.{Kind}
-use Rattle.seh_records.specs.declared.dispatch.Kind.TheVariants.{Search, ExceptionUnwind, LocalUnwind}
+use Rattle.seh_records.specs.declared.dispatch.Kind.TheVariants.{Search, ExceptionUnwind, LocalUnwind, Vectored}
 use Rattle.seh_records.specs.declared.dispatch.DispatchRecord.{DispatchRecord}
 use Rattle.seh_records.specs.declared.dispatch.TheConstants.{EXCEPTION_NONCONTINUABLE}
 use Rattle.seh_records.specs.Record.{placed, misplaced, return_address_at, place_below}
 use Rattle.seh_records.specs.declared.layout.TheConstants.{POINTERS_AT}
-use Rattle.seh_walk.specs.Walk.{stop_cause, filter_return, finally_return, is_search, walk_in, steps}
+use Rattle.seh_walk.specs.Walk.{stop_cause, filter_return, finally_return, vectored_return, is_search, is_unwinding, is_vectored, walk_in, steps}
 use Rattle.seh_search.specs.declared.search_result.SearchResult.{SearchResult}
 use Rattle.seh_search.specs.declared.search_result.SearchResult.TheVariants as searches
 use Rattle.seh_search.specs.Search.{search}
@@ -48,7 +48,7 @@ in_hand r frame row walk = record r { frame = frame; row = row; walk = walk }
 -- where a record can't be placed the run has come to the stack's limit
 abbrev pub if_placed : State → ℕ → DispatchRecord → (State → Turn) → Option ℕ → Turn
 if_placed s at r go (Some a) = Ends [] (ends.StackLimit a)
-if_placed s at r go None = go (record { cpu = s.cpu; memory = placed s.memory at r })
+if_placed s at r go None = go (record s { memory = placed s.memory at r })
 
 -- the record is placed, and then the turn goes by it
 abbrev pub after_placing : State → ℕ → DispatchRecord → (State → Turn) → Turn
@@ -65,7 +65,7 @@ called registers first frame rsp =
 -- the funclet is called, with its return address below the record
 abbrev pub entered : State → ℕ → ℕ → ℕ → ℕ → ℕ → State
 entered s at back handler first frame =
-    record {
+    record s {
       cpu = record {
         registers = called s.cpu.registers first frame (return_address_at at);
         rip = handler;
@@ -96,7 +96,7 @@ landed c rax target = record {
 
 -- the state where a frame is landed in
 abbrev pub at_landing : State → Context → ℕ → ℕ → State
-at_landing s c rax target = record { cpu = landed c rax target; memory = s.memory }
+at_landing s c rax target = record s { cpu = landed c rax target }
 
 -- an unwinding for an exception shows that an `__except` block took over
 abbrev pub by_purpose : State → DispatchRecord → Context → Kind → Turn
@@ -104,6 +104,7 @@ by_purpose s r c Search = Continues (at_landing s c 0 r.target) []
 by_purpose s r c ExceptionUnwind =
     Continues (at_landing s c r.code.0 r.target) (events.Except r.code ∷ [])
 by_purpose s r c LocalUnwind = Continues (at_landing s c 0 r.target) []
+by_purpose s r c Vectored = Continues (at_landing s c 0 r.target) []
 
 -- an unwinding lands in its target frame
 abbrev pub land : State → DispatchRecord → Context → Turn
@@ -148,6 +149,31 @@ after_search t s at r (searches.Stop y) = stopped y
 abbrev pub searches_on : Functions → State → ℕ → DispatchRecord → Turn
 searches_on t s at r = after_search t s at r (search steps t s.memory (walk_in r))
 
+-- ---- vectored handlers
+
+-- past the last of them the record is for a search, from the saved state
+abbrev pub searching : DispatchRecord → DispatchRecord
+searching r = record r { kind = Search; row = 0 }
+
+-- the search begins
+abbrev pub searches_from : Functions → State → ℕ → DispatchRecord → Turn
+searches_from t s at r =
+    after_placing s at (searching r) (λ u. searches_on t u at (searching r))
+
+-- a vectored handler is called with the exception, and no frame
+abbrev pub asked_vectored : State → ℕ → DispatchRecord → ℕ → Turn
+asked_vectored s at r handler =
+    after_placing s at r
+    (λ u. Continues (entered u at vectored_return handler ((at + POINTERS_AT) % 2 ^ 64) 0) [])
+
+-- the one at the record's place in the list, if there is one
+abbrev pub asks_at : Functions → State → ℕ → DispatchRecord → Option ℕ → Turn
+asks_at t s at r (Some handler) = asked_vectored s at r handler
+asks_at t s at r None = searches_from t s at r
+
+abbrev pub asks_on : Functions → State → ℕ → DispatchRecord → Turn
+asks_on t s at r = asks_at t s at r (slice_get s.vectored r.row)
+
 -- ---- raising
 
 -- for a refused access: whether it was a write, and the address
@@ -188,8 +214,7 @@ place_of saved = place_below (register saved Rsp)
 -- a new exception, of which the state is saved
 abbrev pub raising : Functions → State → Code → ℕ → Option (Bool × ℕ) → Cpu → Turn
 raising t s code flags access saved =
-    after_placing s (place_of saved) (new_record Search code flags access saved)
-    (λ u. searches_on t u (place_of saved) (new_record Search code flags access saved))
+    asks_on t s (place_of saved) (new_record Vectored code flags access saved)
 
 -- bit 0 of the flags makes it noncontinuable
 abbrev pub raised : Functions → State → Code → ℕ → Option (Bool × ℕ) → Cpu → Turn
@@ -219,6 +244,7 @@ noncontinuable = NONCONTINUABLE_EXCEPTION
 abbrev pub again : DispatchRecord → DispatchRecord
 again r =
     begun (record r {
+      kind = Vectored;
       code = noncontinuable;
       flags = EXCEPTION_NONCONTINUABLE;
       count = 0;
@@ -227,17 +253,14 @@ again r =
       target = 0;
     })
 
--- the search for that exception's handler
-abbrev pub searched_again : Functions → State → ℕ → DispatchRecord → Turn
-searched_again t s at r = after_placing s at (again r) (λ u. searches_on t u at (again r))
-
 -- it is raised in place of the one that was to be continued
 abbrev pub raised_again : Functions → State → ℕ → DispatchRecord → Turn
-raised_again t s at r = with_event (events.Raise noncontinuable true None) (searched_again t s at r)
+raised_again t s at r =
+    with_event (events.Raise noncontinuable true None) (asks_on t s at (again r))
 
 -- the saved state as it is in the record
 abbrev pub restored : State → DispatchRecord → State
-restored s r = record { cpu = r.saved; memory = s.memory }
+restored s r = record s { cpu = r.saved }
 
 -- an exception is continued unless it is noncontinuable
 abbrev pub continued : Functions → State → ℕ → DispatchRecord → Bool → Turn
@@ -288,7 +311,7 @@ by_answer t s at r v false = by_sign t s at r (nat_le (half W32) v)
 abbrev pub answered : Functions → State → ℕ → DispatchRecord → ℕ → Turn
 answered t s at r v = by_answer t s at r v (v == 0)
 
--- ---- the host's two return addresses
+-- ---- the host's three return addresses
 
 -- the low 32 bits of RAX
 abbrev pub eax : State → ℕ
@@ -307,10 +330,26 @@ filter_returned t s at (Some r) = if_searching t s at r (is_search r.kind)
 
 -- only an unwinding's record waits for a `__finally` block
 abbrev pub if_unwinding : Functions → State → ℕ → DispatchRecord → Bool → Turn
-if_unwinding t s at r true = stopped (stop_cause reasons.BadRecord at)
-if_unwinding t s at r false = unwinds_on t s at r
+if_unwinding t s at r true = unwinds_on t s at r
+if_unwinding t s at r false = stopped (stop_cause reasons.BadRecord at)
 
 -- a `__finally` block has returned; its record is the one at RSP, if one is there
 abbrev pub finally_returned : Functions → State → ℕ → Option DispatchRecord → Turn
 finally_returned t s at None = stopped (stop_cause reasons.BadRecord at)
-finally_returned t s at (Some r) = if_unwinding t s at r (is_search r.kind)
+finally_returned t s at (Some r) = if_unwinding t s at r (is_unwinding r.kind)
+
+-- a vectored handler's answer below 0 continues; after another the next one is asked, in the list
+-- as it stands then
+abbrev pub by_vectored_answer : Functions → State → ℕ → DispatchRecord → Bool → Turn
+by_vectored_answer t s at r true = continued t s at r (r.flags % 2 == 0)
+by_vectored_answer t s at r false = asks_on t s at (record r { row = r.row + 1 })
+
+-- only the record of a vectored handler waits for its answer
+abbrev pub if_vectored : Functions → State → ℕ → DispatchRecord → Bool → Turn
+if_vectored t s at r true = by_vectored_answer t s at r (nat_le (half W32) (eax s))
+if_vectored t s at r false = stopped (stop_cause reasons.BadRecord at)
+
+-- a vectored handler has returned; its record is the one at RSP, if one is there
+abbrev pub vectored_returned : Functions → State → ℕ → Option DispatchRecord → Turn
+vectored_returned t s at None = stopped (stop_cause reasons.BadRecord at)
+vectored_returned t s at (Some r) = if_vectored t s at r (is_vectored r.kind)

@@ -1,5 +1,5 @@
 -- One turn of the host: an instruction, a service, or the dispatch between two funclets.
-use Rattle.std.specs.Prelude.{ℕ, ◌+◌, ◌%◌, ◌^◌, Bool, true, false, ◌==◌, List, [], ◌∷◌, map, is_some, Option, Some, None, Result, Ok, Err}
+use Rattle.std.specs.Prelude.{ℕ, ◌+◌, ◌%◌, ◌^◌, Bool, true, false, not, ◌==◌, List, [], ◌∷◌, map, is_some, Option, Some, None, Result, Ok, Err}
 use Rattle.std.specs.List.{filter_map}
 use Rattle.seh_num.specs.declared.width.Width.TheVariants.{W32, W64}
 use Rattle.seh_num.specs.declared.event.Event.{Event}
@@ -27,7 +27,8 @@ use Rattle.seh_walk.specs.Controls.{Controls, controls, number_at}
 use Rattle.host_model.specs.declared.funclet.Funclet.{Funclet}
 use Rattle.host_model.specs.Turns.{Turn, Continues, Ends, stopped, shown_in}
 use Rattle.host_model.specs.Funclets.{arrived}
-use Rattle.host_model.specs.Dispatch.{raised, unwound_locally, filter_returned, finally_returned}
+use Rattle.host_model.specs.Dispatch.{raised, unwound_locally, filter_returned, finally_returned, vectored_returned}
+use Rattle.vectored_list.specs.Lists.{is_listed, can_be_added, added, removed}
 
 -- ---- services
 
@@ -58,12 +59,33 @@ answer_number false = 0
 -- whether the pages were allowed, in RAX, and memory with their new rights
 abbrev pub protecting : State → State → Turn
 protecting s u =
-    Continues (record {
+    Continues (record u {
       cpu = with_register W64 u.cpu Rax
           (answer_number (is_some (rights_asked (register s.cpu Rcx)
           (signed W32 (register s.cpu Rdx)))));
       memory = protected u.memory (register s.cpu Rcx) (signed W32 (register s.cpu Rdx));
     }) []
+
+-- whether the list of vectored handlers has changed, in RAX, and the list
+abbrev pub listed : State → Bool → List ℕ → Turn
+listed u answer vectored =
+    Continues (record u {
+      cpu = with_register W64 u.cpu Rax (answer_number answer);
+      vectored = vectored;
+    }) []
+
+-- the handler in RDX comes into it, in front of the others where ECX isn't 0
+abbrev pub adding : State → State → Turn
+adding s u =
+    let handler = register s.cpu Rdx in
+    listed u (can_be_added handler u.vectored)
+    (added (not (low W32 (register s.cpu Rcx) == 0)) handler u.vectored)
+
+-- the handler in RCX is taken out
+abbrev pub removing : State → State → Turn
+removing s u =
+    let handler = register s.cpu Rcx in
+    listed u (is_listed handler u.vectored) (removed handler u.vectored)
 
 -- what a printed walk shows, and what stops it, if anything does
 pub record Printed : Type 0 where
@@ -111,6 +133,10 @@ served t s (Some services.FilterReturn) =
     filter_returned t s (register s.cpu Rsp) (fetched s.memory (register s.cpu Rsp))
 served t s (Some services.FinallyReturn) =
     finally_returned t s (register s.cpu Rsp) (fetched s.memory (register s.cpu Rsp))
+served t s (Some services.AddVectored) = returning s (adding s)
+served t s (Some services.RemoveVectored) = returning s (removing s)
+served t s (Some services.VectoredReturn) =
+    vectored_returned t s (register s.cpu Rsp) (fetched s.memory (register s.cpu Rsp))
 served t s (Some services.Walk) = returning s (walking t s)
 served t s (Some services.CSpecificHandler) = illegal s
 served t s None = illegal s

@@ -22,7 +22,7 @@ use Rattle.host_layout.specs.declared.service.Service.{Service}
 use Rattle.host_layout.specs.Services.{address_of}
 use Rattle.host_layout.specs.declared.limit.TheConstants.{MOST_IMAGE, BASE_ALIGNMENT, LEAST_BASE, ADDRESSES_END}
 use Rattle.host_layout.specs.declared.range.TheConstants.{FIRST_STACK}
-use Rattle.x64_machine.specs.Effect.{State}
+use Rattle.x64_machine.specs.Effect.{State, state}
 use Rattle.host_model.specs.declared.refusal.LoadErr.{LoadErr}
 use Rattle.host_model.specs.declared.refusal.LoadErr.TheVariants as refusals
 
@@ -112,7 +112,7 @@ first_cpu entry arg = record {
 
 -- the state that a run starts from
 unfoldable pub start : Image → ℤ → State
-start image arg = record { cpu = first_cpu (image.base + image.entry) arg; memory = mapped image }
+start image arg = state (first_cpu (image.base + image.entry) arg) (mapped image)
 
 -- ---- what isn't loaded
 

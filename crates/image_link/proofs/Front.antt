@@ -4,7 +4,7 @@ use Rattle.std.proofs.Common.{◌≡◌, ℕ, suc, ◌+◌, ◌*◌, ◌<◌, �
 use Rattle.std.specs.Prelude.{if◌then◌else◌}
 use Rattle.host_layout.specs.declared.limit.TheConstants.{MOST_IMAGE}
 use Rattle.host_layout.specs.Imported.{number_of}
-use Rattle.host_layout.specs.declared.imported.ImportedService.TheVariants.{RaiseException, CSpecificHandler, LocalUnwind, Protect, Put, Walk}
+use Rattle.host_layout.specs.declared.imported.ImportedService.TheVariants.{AddVectored, RaiseException, RemoveVectored, CSpecificHandler, LocalUnwind, Protect, Put, Walk}
 use Rattle.template_code.specs.Probing.{check_stack}
 use Rattle.pe_write.specs.ImportTables.{place_of}
 use Rattle.image_link.specs.Words.{ImportedService, LinearProgram, size, sizes, modrm, hint_name_size, import_names_size, tables_size, IsNear, thunk_at, service_thunk, front_code, front_size, calls_walk, services_if, services_of, IsImportedIf, IsImported, AreFew}
@@ -63,7 +63,9 @@ thunk_near ss text v few lt = let place = place_small ss v in omega arith
 -- ---- the tables
 
 name_small : (s : ImportedService) → hint_name_size s ≤ 64
+name_small AddVectored = omega arith
 name_small RaiseException = omega arith
+name_small RemoveVectored = omega arith
 name_small CSpecificHandler = omega arith
 name_small LocalUnwind = omega arith
 name_small Protect = omega arith
@@ -100,12 +102,16 @@ among true LocalUnwind e = omega arith
 among true Protect e = omega arith
 among true Put e = omega arith
 among true Walk e = omega arith
+among true AddVectored e = absurd e
+among true RemoveVectored e = absurd e
 among false RaiseException e = omega arith
 among false CSpecificHandler e = omega arith
 among false LocalUnwind e = omega arith
 among false Protect e = omega arith
 among false Put e = omega arith
 among false Walk e = absurd (false≢true e)
+among false AddVectored e = absurd e
+among false RemoveVectored e = absurd e
 
 -- and each that it imports is among them
 pub services_there : (p : LinearProgram) (v : ImportedService) → IsImported p v

@@ -4,7 +4,7 @@ use Rattle.std.specs.Prelude.{if◌then◌else◌}
 use Rattle.std.specs.List.{AllByRecursion}
 use Rattle.std.proofs.lemmas.Bool.{cases_eq, eq-eqb, ne_eqb}
 use Rattle.std.proofs.lemmas.Grind.{flat_map-append}
-use Rattle.host_layout.specs.declared.imported.ImportedService.TheVariants.{RaiseException, CSpecificHandler, LocalUnwind, Protect, Put, Walk}
+use Rattle.host_layout.specs.declared.imported.ImportedService.TheVariants.{AddVectored, RaiseException, RemoveVectored, CSpecificHandler, LocalUnwind, Protect, Put, Walk}
 use Rattle.host_layout.specs.Imported.{name_of, number_of, service_in_slot}
 use Rattle.pe_image.specs.Imports.{Import}
 use Rattle.pe_write.specs.ImportTables.{place_of, imported}
@@ -17,7 +17,9 @@ use Rattle.image_link.proofs.Front.{thunk_size}
 -- ---- places
 
 placed : (s : ImportedService) → service_in_slot (number_of s) ≡ Some s
+placed AddVectored = refl
 placed RaiseException = refl
+placed RemoveVectored = refl
 placed CSpecificHandler = refl
 placed LocalUnwind = refl
 placed Protect = refl

@@ -4,7 +4,7 @@ use Rattle.std.specs.Prelude.{◌≡◌, ℕ, ◌+◌, ◌<◌, Bool, true, fals
 use Rattle.std.specs.List.{AllByRecursion}
 use Rattle.host_layout.specs.declared.imported.ImportedService.{ImportedService}
 use Rattle.host_layout.specs.declared.imported.ImportedService.TheVariants as imports
-use Rattle.host_layout.specs.Imported.{services, all_services}
+use Rattle.host_layout.specs.Imported.{services}
 use Rattle.c_operations.specs.declared.built_in.BuiltIn.TheVariants.{Walk}
 use Rattle.linear_code.specs.declared.instruction.Instruction.{Instruction}
 use Rattle.linear_code.specs.declared.instruction.Instruction.TheVariants as instructions
@@ -39,7 +39,7 @@ calls_walk p = functions_walk p.functions || funclets_walk p.funclets
 -- ---- what is imported
 
 abbrev pub services_if : Bool → List ImportedService
-services_if true = all_services
+services_if true = services ++ (imports.Walk ∷ [])
 services_if false = services
 
 -- the services that a program imports, in the order of their slots and thunks: `walk` where it
@@ -48,6 +48,8 @@ unfoldable pub services_of : LinearProgram → List ImportedService
 services_of p = services_if (calls_walk p)
 
 abbrev pub IsImportedIf : Bool → ImportedService → Type 0
+IsImportedIf walks imports.AddVectored = ⊥
+IsImportedIf walks imports.RemoveVectored = ⊥
 IsImportedIf walks imports.Walk = walks ≡ true
 IsImportedIf walks s = Unit {0}
 

@@ -4,7 +4,7 @@ use Rattle.std.specs.Prelude.{◌&&◌}
 use Rattle.std.specs.List.{flat_map, AllByRecursion}
 use Rattle.std.proofs.lemmas.Bool.{ltb-true, and_parts}
 use Rattle.host_layout.specs.declared.imported.ImportedService.{ImportedService}
-use Rattle.host_layout.specs.declared.imported.ImportedService.TheVariants.{RaiseException, CSpecificHandler, LocalUnwind, Protect, Put, Walk}
+use Rattle.host_layout.specs.declared.imported.ImportedService.TheVariants.{AddVectored, RaiseException, RemoveVectored, CSpecificHandler, LocalUnwind, Protect, Put, Walk}
 use Rattle.host_layout.specs.declared.name.TheConstants.{LIBRARY}
 use Rattle.pe_image.specs.Numbers.{u32, u64, zeros}
 use Rattle.pe_image.specs.declared.layout.TheConstants.{DESCRIPTOR_SIZE, HINT_SIZE, SEHNAME_NAME}
@@ -35,7 +35,9 @@ by_test (b ∷ bytes) h =
 
 name_octets : (s : ImportedService) → AreOctets (name_of s)
 unfolding all_below
+name_octets AddVectored = by_test (name_of AddVectored) refl
 name_octets RaiseException = by_test (name_of RaiseException) refl
+name_octets RemoveVectored = by_test (name_of RemoveVectored) refl
 name_octets CSpecificHandler = by_test (name_of CSpecificHandler) refl
 name_octets LocalUnwind = by_test (name_of LocalUnwind) refl
 name_octets Protect = by_test (name_of Protect) refl

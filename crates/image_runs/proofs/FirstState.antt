@@ -60,6 +60,7 @@ first_states_start program c bytes arg = record {
   cpu = ap (λ (entry : ℕ). first_cpu entry arg) (entry_is program c);
   memory = images_start program c bytes;
   returns = returns_to_zero program c;
+  no_handlers = refl;
 }
 
 pub mains_begin : MainsBegin

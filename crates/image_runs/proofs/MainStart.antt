@@ -95,6 +95,7 @@ module _ (t : Functions) (fs : List Funclet) (program : LinearProgram) (p : Imag
     count = ap (λ (c : Cpu). length c.registers) h.cpu;
     small = subst (λ (c : Cpu). AllSmall c.registers) (sym h.cpu)
         (first_small (q.function program.main) arg);
+    no_handlers = h.no_handlers;
   }
 
   called : IsCalled t fs program p q s source program.main main first_stack (given arg)
@@ -111,7 +112,7 @@ module _ (t : Functions) (fs : List Funclet) (program : LinearProgram) (p : Imag
     few = omega (arith, few);
     fits = made.whole.parameters program.main main is_main;
     registers = subst (λ (c : Cpu). InRegisters
-        (seen_by_templates (record { cpu = c; memory = s.memory })) (given arg)) (sym h.cpu)
+        (seen_by_templates (record s { cpu = c })) (given arg)) (sym h.cpu)
         (record { first = refl; second = refl; third = refl; fourth = refl });
     small = given_small arg;
     all_small = well_formed.small;

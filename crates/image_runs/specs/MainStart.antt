@@ -9,6 +9,7 @@ use Rattle.host_model.specs.Loading.{first_cpu}
 use Rattle.source_meaning.specs.Source.{first_memory}
 use Rattle.linear_code.specs.Program.{LinearProgram, LinearFunction}
 use Rattle.match_stack.specs.ImagePlan.{ImagePlan}
+use Rattle.match_stack.specs.DispatchStates.{HasNoHandlers}
 use Rattle.match_runs.specs.Comes.{Comes}
 use Rattle.image_runs.specs.MatchLaws.{most_before_main}
 use Rattle.lowering_invariants.specs.SmallNumbers.{AreSmall}
@@ -24,11 +25,12 @@ first_stack = FIRST_STACK
 module _ (t : Functions) (fs : List Funclet) (program : LinearProgram) (p : ImagePlan)
     (q : Sites) where
   -- RIP is at `main`, RCX is the argument of the run, and the return address is 0; memory agrees
-  -- with what the program begins with
+  -- with what the program begins with; the host has no vectored handlers
   pub record IsFirst (arg : ℤ) (s : State) : Type 0 where
     pub cpu : s.cpu ≡ first_cpu (q.function program.main) arg
     pub memory : IsMachineMemory t fs program p q s.memory (first_memory program.globals)
     pub returns : word s.memory first_stack ≡ Ok 0
+    pub no_handlers : HasNoHandlers s
 
   -- a few turns that show nothing, and eight more for each 1 that `main` weighs above 1, come to
   -- its first instruction: its arguments are its first locals, and numbers that the stack held are

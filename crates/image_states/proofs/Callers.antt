@@ -78,6 +78,7 @@ module _ (program : LinearProgram) (c : HasWholeImage program) (name : BodyName)
     live = omega arith;
     not_filter = λ z. absurd (omega arith);
     not_finally = λ z. absurd (omega arith);
+    not_vectored = λ z. absurd (omega arith);
   }
 
   -- ---- without a frame

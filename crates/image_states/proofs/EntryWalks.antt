@@ -5,7 +5,7 @@
 use Rattle.std.proofs.Common.{◌≡◌, ◌≢◌, ℕ, ◌+◌, ◌-◌, ◌^◌, ◌<◌, Bool, true, false, ◌&&◌, ◌||◌, eqb, List, [], ◌∷◌, length, Option, Some, None, Ok, refl, sym, ap, subst, ◌∙◌, arith, inl, inr}
 use Rattle.std.specs.Prelude.{nat_le, nat_lt}
 use Rattle.std.proofs.lemmas.Bool.{cases_eq, false≢true, ne_eqb, eqb-false, not-true, lt-ltb}
-use Rattle.image_states.specs.Words.{Memory, Instr, Context, Entry, rsp, Functions, distance, entry_of, of_entry, tail_at, left, framed, filter_return, finally_return, operations, by_distance, past_prologue, run_or, CallerFrame, found, rising, risen, caller_in, Answer, visited, if_over, if_filter, if_finally, HasCaller, FindsReturn, popped}
+use Rattle.image_states.specs.Words.{Memory, Instr, Context, Entry, rsp, Functions, distance, entry_of, of_entry, tail_at, left, framed, filter_return, finally_return, vectored_return, operations, by_distance, past_prologue, run_or, CallerFrame, found, rising, risen, caller_in, Answer, visited, if_over, if_filter, if_finally, if_vectored, HasCaller, FindsReturn, popped}
 use Rattle.seh_num.specs.Answers.{◌>>=◌}
 use Rattle.eh_tables.specs.declared.code.UnwindCode.{UnwindCode}
 use Rattle.eh_tables.specs.declared.code.UnwindOperation.{UnwindOperation}
@@ -36,6 +36,7 @@ pub record IsOwnAddress (rip : ℕ) : Type 0 where
   pub live : 0 < rip
   pub not_filter : rip ≢ filter_return
   pub not_finally : rip ≢ finally_return
+  pub not_vectored : rip ≢ vectored_return
 
 pub visits : (t : Functions) (m : Memory) (c k : Context) (asked : Option Info)
     → IsOwnAddress c.rip
@@ -52,6 +53,7 @@ visits t m c k asked own called =
           (λ z. (let q : c.rip ≡ 0 = z in absurd (omega arith))))
           ∙ ap (if_filter t m w) (ne_eqb c.rip filter_return own.not_filter)
           ∙ ap (if_finally t m w) (ne_eqb c.rip finally_return own.not_finally)
+          ∙ ap (if_vectored t m w) (ne_eqb c.rip vectored_return own.not_vectored)
           ∙ ap framed called;
       context = refl;
     }

@@ -1,7 +1,7 @@
 -- In a linked program's code, and at the host's services, a walk finds callers.
 use Rattle.std.proofs.Common.{◌≡◌, ◌≢◌, ℕ, ◌+◌, ◌-◌, ◌^◌, ◌<◌, true, false, List, ◌∷◌, ◌++◌, length, Option, Some, None, refl, sym, ap, subst, ◌∙◌, arith}
 use Rattle.std.specs.Prelude.{slice_get}
-use Rattle.image_states.specs.Words.{Memory, Rax, Instr, modrm, Table, Entry, BuiltIn, Put, Protect, RaiseException, Walk, Functions, distance, entry_of, filter_return, finally_return, Slot, LinearBody, LinearProgram, BodyName, body_of, FrameLayout, size, sizes, fetch, check_stack, routines, cold_total, argument_code, Placed, part_with, end_of, site_of, image_base, begin_of, making_size, FindsReturn, FindsOwed, owed_of, owed_by, functions_of, funclets_of, is_leaf, or_none, owed_after, routine_of, address_of, plan_of, sites_of, HasWholeImage, IsNear, holding, thunks_at, thunk_of, FindsCallers, FindsCallersOutside, services_of, routines_begin, cold_begin, probe_begin}
+use Rattle.image_states.specs.Words.{Memory, Rax, Instr, modrm, Table, Entry, BuiltIn, Put, Protect, RaiseException, Walk, Functions, distance, entry_of, Slot, LinearBody, LinearProgram, BodyName, body_of, FrameLayout, size, sizes, fetch, check_stack, routines, cold_total, argument_code, Placed, part_with, end_of, site_of, image_base, begin_of, making_size, FindsReturn, FindsOwed, owed_of, owed_by, functions_of, funclets_of, is_leaf, or_none, owed_after, routine_of, address_of, plan_of, sites_of, HasWholeImage, IsNear, holding, thunks_at, thunk_of, FindsCallers, FindsCallersOutside, services_of, routines_begin, cold_begin, probe_begin}
 use Rattle.image_tables.specs.RoutinePlaces.{parts_of}
 use Rattle.eh_tables.specs.Tables as reading
 use Rattle.linear_code.specs.declared.instruction.Instruction.TheVariants as instructions
@@ -15,7 +15,7 @@ use Rattle.image_tables.proofs.Labels.{within_get}
 use Rattle.image_states.proofs.Addresses.{place, own_cold, body_first, hot_below, label_rises}
 use Rattle.image_states.proofs.Entering.{arguments_same}
 use Rattle.match_bodies.specs.ProgramImages.{loaded_at}
-use Rattle.image_states.proofs.EntryWalks.{none_found}
+use Rattle.image_states.proofs.EntryWalks.{IsOwnAddress, none_found}
 use Rattle.eh_tables.specs.Infos.{Info}
 use Rattle.match_bodies.specs.Callers.{frame_info}
 use Rattle.image_states.proofs.Framed.{framed_of, leaf_of, one_teller}
@@ -35,13 +35,9 @@ module _ (program : LinearProgram) (c : HasWholeImage program) (m : Memory) wher
       ∙ ap (λ (n : ℕ). holding n (tables.entries program)) at
       ∙ none
 
-  outside_at : (a rva : ℕ) → 0 < a → a ≢ filter_return → a ≢ finally_return
-      → distance image_base a ≡ rva → holding rva (tables.entries program) ≡ None
-      → FindsReturn table m a
-  outside_at a rva live not_filter not_finally at none =
-      none_found table m a
-      (record { live = live; not_filter = not_filter; not_finally = not_finally })
-      (unheld a rva at none)
+  outside_at : (a rva : ℕ) → IsOwnAddress a → distance image_base a ≡ rva
+      → holding rva (tables.entries program) ≡ None → FindsReturn table m a
+  outside_at a rva own at none = none_found table m a own (unheld a rva at none)
 
   first_small : IsNear (cold_begin program + cold_total (routines program))
   first_small = let end = end_inside program c.fits in let few = c.small in omega arith
@@ -50,18 +46,20 @@ module _ (program : LinearProgram) (c : HasWholeImage program) (m : Memory) wher
   pub front_at : (rva : ℕ) → rva < routines_begin program → FindsReturn table m (image_base + rva)
   front_at rva lt =
       let s = first_small in
-      outside_at (image_base + rva) rva (omega arith) (λ z. absurd (omega arith))
-      (λ z. absurd (omega arith)) (away rva (omega arith))
-      (thunks_are_held_by_none program rva c.fits lt)
+      outside_at (image_base + rva) rva (record {
+        live = omega arith;
+        not_filter = λ z. absurd (omega arith);
+        not_finally = λ z. absurd (omega arith);
+        not_vectored = λ z. absurd (omega arith);
+      }) (away rva (omega arith)) (thunks_are_held_by_none program rva c.fits lt)
 
   -- in the host's page
-  pub host_at : (a : ℕ) → 0 < a → a < 0x100000000 → a ≢ filter_return → a ≢ finally_return
-      → FindsReturn table m a
-  host_at a live low not_filter not_finally =
+  pub host_at : (a : ℕ) → IsOwnAddress a → a < 0x100000000 → FindsReturn table m a
+  host_at a own low =
       let s = first_small in
       let rva = a + (2 ^ 64 - image_base) in
       let far : distance image_base a ≡ rva = omega arith in
-      outside_at a rva live not_filter not_finally far
+      outside_at a rva own far
       (beyond_is_held_by_none program rva c.fits (omega arith))
 
 -- ---- all of it
@@ -94,8 +92,12 @@ module _ (program : LinearProgram) (c : HasWholeImage program) where
         let e : image_base + (at + d) ≡ image_base + at + d = omega arith in
         subst (λ a. FindsReturn (functions_of program) m a) e
         (front_at program c m (at + d) (omega arith)));
-    services = λ m a live low not_filter not_finally. host_at program c m a live low not_filter
-        not_finally;
+    services = λ m a live low not_filter not_finally not_vectored. host_at program c m a (record {
+      live = live;
+      not_filter = not_filter;
+      not_finally = not_finally;
+      not_vectored = not_vectored;
+    }) low;
   }
 
   module _ (name : BodyName) (b : LinearBody) (is : body_of program name ≡ Some b) where

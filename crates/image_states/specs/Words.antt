@@ -54,7 +54,7 @@ pub use Rattle.virtual_unwind.specs.Tail.{left, prepend_instr}
 unfoldable pub use Rattle.virtual_unwind.specs.Tail.{tail_at, tail}
 pub use Rattle.virtual_unwind.specs.Undone.{word, operations, Answer, popped}
 pub use Rattle.frame_rules.specs.Bytes.{IsExecutableAt, spell}
-pub use Rattle.seh_walk.specs.Walk.{framed, filter_return, finally_return, if_over, if_filter, if_finally}
+pub use Rattle.seh_walk.specs.Walk.{framed, filter_return, finally_return, vectored_return, if_over, if_filter, if_finally, if_vectored}
 unfoldable pub use Rattle.seh_walk.specs.Walk.{visited}
 pub use Rattle.host_model.specs.Funclets.{inserted, by_kind, arrivals, with_row, of_rows, of_entries, if_same, if_below, if_here}
 pub use Rattle.host_model.specs.Loading.{mode_in, stored_byte, with_slots, section_of, byte_in, stack_mode, covers, or_else, with_address, reason_unless, first_of, of_tables, table_refusal, has_place, place_refusal, first_unknown, import_refusal, is_code, has_entry, entry_refusal, load_refusal}

@@ -11,7 +11,7 @@ use Rattle.virtual_unwind.specs.CallerOf.{distance, entry_of}
 use Rattle.virtual_unwind.specs.declared.tail.Role.{Role}
 use Rattle.virtual_unwind.specs.Contexts.{rsp}
 use Rattle.virtual_unwind.specs.Undone.{word}
-use Rattle.seh_walk.specs.Walk.{filter_return, finally_return}
+use Rattle.seh_walk.specs.Walk.{filter_return, finally_return, vectored_return}
 use Rattle.host_model.specs.Machine.{functions_in}
 use Rattle.match_stack.specs.Stack.{IsChain, FrameIsAt, LeafIsAt, IsAsTold}
 use Rattle.image_tables.proofs.Lemmas.{routine_small, never_empty, items_are_at, sizes_append, template_sizes, entry_sizes}
@@ -328,6 +328,8 @@ frame_at p m index x f c label rva back others fits regions e framed first here 
           (λ z. (let q : c.rip ≡ filter_return = z in absurd (omega arith)));
       not_finally = ne_eqb c.rip finally_return
           (λ z. (let q : c.rip ≡ finally_return = z in absurd (omega arith)));
+      not_vectored = ne_eqb c.rip vectored_return
+          (λ z. (let q : c.rip ≡ vectored_return = z in absurd (omega arith)));
       found = ap (entry_of (functions_in (image_of (linked p)))) here ∙ entry.found;
       past_prologue = le-ltb (distance image_base c.rip - own.range.begin) own.info.prologue_size
           (omega arith);
@@ -416,6 +418,8 @@ leaf_at p m index x c rva back fits regions e none past inside here kept room' r
           (λ z. (let q : c.rip ≡ filter_return = z in absurd (omega arith)));
       not_finally = ne_eqb c.rip finally_return
           (λ z. (let q : c.rip ≡ finally_return = z in absurd (omega arith)));
+      not_vectored = ne_eqb c.rip vectored_return
+          (λ z. (let q : c.rip ≡ vectored_return = z in absurd (omega arith)));
       none = ap (entry_of (functions_in (image_of (linked p)))) here
           ∙ none_in p index x rva fits regions e none past inside (omega arith);
       kept = kept;

@@ -79,7 +79,7 @@ told_by m c e f same slots wide size deep h =
 -- and so is a body's, where the nonvolatile registers are the same
 pub frame_with : (s : State) (cpu : Cpu) (leaf : Bool) (f : StackFrame)
     → kept_of cpu.registers ≡ kept_of s.cpu.registers → HasFrame s leaf f
-    → HasFrame (record { cpu = cpu; memory = s.memory }) leaf f
+    → HasFrame (record s { cpu = cpu }) leaf f
 frame_with s cpu true f e h = record {
   returns = subst (λ (ks : List ℕ). word s.memory (slice_index ks 0) ≡ Ok f.return_address) (sym e)
       h.returns;

@@ -47,11 +47,8 @@ arrived_small c n small i = by (i == 0) (i == 1) (i == 2)
 -- a state is made of its registers
 pub is_machine : (s : State) → length s.cpu.registers ≡ 16
     → s ≡ machine (seen_by_templates s) s.cpu.rip s.cpu.flags
-is_machine s e = ap (λ rs. let u : State = record {
-  cpu =
-      record { registers = rs; rip = s.cpu.rip; flags = s.cpu.flags };
-  memory = s.memory;
-} in u)
+is_machine s e = ap (λ rs. let u : State =
+    record s { cpu = record { registers = rs; rip = s.cpu.rip; flags = s.cpu.flags } } in u)
     (registers_are s.cpu.registers e)
 
 module _ (setting : Setting) where

@@ -1,17 +1,20 @@
 -- What a chain of steps keeps.
 use Rattle.std.proofs.Common.{◌≡◌, ℕ, zero, suc, ◌^◌, ◌<◌, false, List, [], ◌∷◌, length, refl, ap, subst, ◌∙◌, arith, inl, inr}
 use Rattle.match_bodies.specs.Words.{Protection, is_writable, may_write, State, Steps, Reaches, RunsInside, ReachesInside, Enters, IsWellFormed, AllSmall, AreSmall}
+use Rattle.match_bodies.proofs.Lemmas.{step_keeps_vectored}
 
--- protections, and bytes that may not be written; and registers are as many, and small
+-- protections, bytes that may not be written, and the host's list of handlers; and registers are as
+-- many, and small
 pub record Keeps (s u : State) : Type 0 where
   pub protection : u.memory.protection ≡ s.memory.protection
   pub fixed : (a : ℕ) → may_write s.memory a ≡ false → u.memory.byte a ≡ s.memory.byte a
   pub count : length u.cpu.registers ≡ length s.cpu.registers
   pub small : AreSmall s.cpu.registers → AreSmall u.cpu.registers
+  pub handlers : u.vectored ≡ s.vectored
 
 pub keeps_nothing : (s u : State) → s ≡ u → Keeps s u
 keeps_nothing s u e = subst (Keeps s) e (record
-    { protection = refl; fixed = λ a f. refl; count = refl; small = λ h. h })
+    { protection = refl; fixed = λ a f. refl; count = refl; small = λ h. h; handlers = refl })
 
 pub keeps_then : (s t u : State) → Keeps s t → Keeps t u → Keeps s u
 keeps_then s t u a b = record {
@@ -20,6 +23,7 @@ keeps_then s t u a b = record {
       ∙ a.fixed x f;
   count = b.count ∙ a.count;
   small = λ h. b.small (a.small h);
+  handlers = b.handlers ∙ a.handlers;
 }
 
 pub step_keeps : (s u : State) → Steps s u → Keeps s u
@@ -28,6 +32,7 @@ step_keeps s u r = record {
   fixed = r.fixed;
   count = r.count;
   small = r.small;
+  handlers = step_keeps_vectored s u r.steps;
 }
 
 pub reaches_keeps : (n : ℕ) (s u : State) → Reaches n s u → Keeps s u
@@ -66,4 +71,5 @@ stays_well_formed s u k lt h = record {
   rip_small = lt;
   count = k.count ∙ h.count;
   small = are_all u.cpu.registers (k.small (all_are s.cpu.registers h.small));
+  no_handlers = k.handlers ∙ h.no_handlers;
 }

@@ -49,26 +49,24 @@ opening_passes : (f offset n a : ℕ) (s u : State) (i : Instr) → gives_back f
 opening_passes f offset n a s u
     (instrs.Arithmetic arithmetic.Add W64 (places.Register Rsp) (operands.Immediate v)) e ef =
     let x = added W64 (registers s 4 % 2 ^ 64) (v % 2 ^ 64) in
-    let t : State = record {
+    let t : State = record s {
       cpu = record {
         registers = set s.cpu.registers 4 (x.0 % 2 ^ 64);
         rip = a;
         flags = x.1;
       };
-      memory = s.memory;
     } in
     passes s u a t (same_state t u (effect (with_rip s a)
     (instrs.Arithmetic arithmetic.Add W64 (places.Register Rsp) (operands.Immediate v))) refl ef)
     refl refl
 opening_passes f offset n a s u (instrs.LoadAddress W64 Rsp m) e ef =
     let c : Cpu = record { registers = s.cpu.registers; rip = a; flags = s.cpu.flags } in
-    let t : State = record {
+    let t : State = record s {
       cpu = record {
         registers = set s.cpu.registers 4 (address_of c m % 2 ^ 64);
         rip = a;
         flags = s.cpu.flags;
       };
-      memory = s.memory;
     } in
     passes s u a t (same_state t u (effect (with_rip s a) (instrs.LoadAddress W64 Rsp m)) refl ef)
     refl refl
@@ -82,13 +80,12 @@ opening_is_no_call f offset n i e = refl
 pop_passes : (s u : State) (a v : ℕ) (q : Reg) → load s.memory (registers s 4) W64 ≡ Ok v
     → effect (with_rip s a) (instrs.Pop q) ≡ Ok u → Passes s u a
 pop_passes s u a v q got ef =
-    let lower : State = record {
+    let lower : State = record s {
       cpu = record {
         registers = set s.cpu.registers 4 ((registers s 4 + 8) % 2 ^ 64 % 2 ^ 64);
         rip = a;
         flags = s.cpu.flags;
       };
-      memory = s.memory;
     } in
     let G : Answer ℕ → Answer State = λ r. ◌>>=◌ {A = ℕ × State} (r >>= λ v. Ok (v, lower))
     (λ x. Ok (record x.1 { cpu = with_register W64 x.1.cpu q x.0 })) in

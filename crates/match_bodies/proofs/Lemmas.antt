@@ -2,6 +2,7 @@
 pub use Rattle.x64_encode.proofs.Lengths.{longest}
 pub use Rattle.template_code.proofs.Lengths.{compute_length, keep_length}
 pub use Rattle.template_code.proofs.Sizes.{call_size, sizes_spelled, sizes_append, body_sizes, template_sizes, arrives, short, jump_if_zero_size, jump_size, call_code_size, passing_call_size}
+pub use Rattle.x64_machine.proofs.Handlers.{step_keeps_vectored}
 pub use Rattle.x64_templates.proofs.Chains.{all_turns, rest_of}
 pub use Rattle.x64_templates.proofs.Computes.{code_split, compute_run, Begun, operands_run, Worked, work_run}
 pub use Rattle.x64_templates.proofs.Encoded.{near, Fine}

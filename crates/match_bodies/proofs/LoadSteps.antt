@@ -34,13 +34,12 @@ load_passes : (s u : State) (a : ℕ) (q : Reg) (m : MemRef)
     → Passes s u a
 load_passes s u a q m ef =
     let c : Cpu = record { registers = s.cpu.registers; rip = a; flags = s.cpu.flags } in
-    let after : ℕ → State = λ v. record {
+    let after : ℕ → State = λ v. record s {
       cpu = record {
         registers = set s.cpu.registers (number q) (v % 2 ^ 64);
         rip = a;
         flags = s.cpu.flags;
       };
-      memory = s.memory;
     } in
     let b = bound (load s.memory (address_of c m) W64) (λ v. Ok (after v)) u ef in
     passes s u a (after b.value) (same_state (after b.value) u (Ok (after b.value)) refl b.then)

@@ -2,7 +2,7 @@
 use Rattle.std.proofs.Common.{◌≡◌, ℕ, ◌+◌, ◌*◌, ◌≤◌, true, false, Option, Some, List, [], ◌∷◌, ◌++◌, length, refl, sym, ap, subst, ◌∙◌, arith, inl, inr}
 use Rattle.std.specs.Prelude.{slice_get}
 use Rattle.match_bodies.specs.Words.{STACK_START, STACK_END, Memory, Context, context_of, get, rsp, Functions, Funclet, Layout, LinearProgram, BodyName, FunctionBody, FuncletBody, Frame, Item, Waits, Searches, Unwinds, StackFrame, StackItem, Framed, Leaf, Searching, Unwinding, FrameIsAt, LeafIsAt, IsStack, after_frame, after_leaf, ImagePlan, Activation, locals_of, activations_below, HoldsWords, temporaries_end, HasActivation, HoldsLocals, IsActivation, ActivationHasBase, home_end, HasPointers, IsAbove, below_end, BodyWaits, Linked, IsLinkedStack, with_values, FrameWords, LeavesRegisters, KeepsStackBut, OwnerHasFrame, record_room, FrameWaits, LeafWaits, ActivationsAreStored}
-use Rattle.seh_walk.specs.Walk.{filter_return, finally_return}
+use Rattle.seh_walk.specs.Walk.{filter_return, finally_return, is_search, is_unwinding}
 use Rattle.match_bodies.proofs.Lemmas.{set_head, rises, places_fit, in_stack, ReadsSame, higher, words_kept, frame_kept, leaf_kept, own_kept, frame_above, frame_is_at, leaf_is_at, record_is_at, list_kept, reads_other}
 use Rattle.match_bodies.proofs.ActivationPlaces.{are_there, locals_count, got_before, got_last}
 use Rattle.match_bodies.proofs.FramePlaces.{in_places, as_many}
@@ -432,8 +432,8 @@ module _ (m m' : Memory) (t : Functions) (fs : List Funclet) (program : LinearPr
         (kept_from (rsp c) (rsp (context_of d.saved)) (omega arith) keeps) (omega arith) in
         record {
           stack = (
-            record_is_at m m' from t fs program p c d filter_return true (context_of d.saved)
-                r (omega arith) s.0,
+            record_is_at m m' from t fs program p c d filter_return is_search
+                (context_of d.saved) r (omega arith) s.0,
             outer.stack,
           );
           linked = (
@@ -461,7 +461,7 @@ module _ (m m' : Memory) (t : Functions) (fs : List Funclet) (program : LinearPr
         (kept_from (rsp c) (rsp d.walk) (omega arith) keeps) (omega arith) in
         record {
           stack = (
-            record_is_at m m' from t fs program p c d finally_return false d.walk r
+            record_is_at m m' from t fs program p c d finally_return is_unwinding d.walk r
                 (omega arith) s.0,
             outer.stack,
           );

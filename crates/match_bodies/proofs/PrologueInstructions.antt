@@ -68,15 +68,13 @@ stored_beside m at v x le high = untouched m.byte 8 at v x (λ i lt e. absurd (o
 
 push_stores : (s : State) (a at : ℕ) (q : Reg) → registers s 4 ≡ at + 8 → at + 8 < 2 ^ 64
     → effect (with_rip s a) (instrs.Push q)
-    ≡ store (record {
+    ≡ store (record s {
       cpu = record { registers = set s.cpu.registers 4 at; rip = a; flags = s.cpu.flags };
-      memory = s.memory;
     }) at W64 (registers s (number q))
 push_stores s a at q top lt =
     let F : ℕ → ℕ → Answer State = λ x y. store
-    (record {
+    (record s {
       cpu = record { registers = set s.cpu.registers 4 y; rip = a; flags = s.cpu.flags };
-      memory = s.memory;
     }) x W64 (registers s (number q)) in
     let raw : (registers s 4 + (2 ^ 64 - 8)) % 2 ^ 64 ≡ at = omega arith in
     let low : at % 2 ^ 64 ≡ at = omega arith in
@@ -114,9 +112,8 @@ module _ (f offset back : ℕ) (old : ℕ → ℕ) (fits : (r : ℕ) → old r <
       let apart = and_parts (not (eqb r 4)) (not (is_saved r ops)) once.1 in
       let val = h.others r once.0 (eqb-false r 4 (not-true (eqb r 4) apart.0))
       (not-true (is_saved r ops) apart.1) in
-      let st = was_stored (record {
+      let st = was_stored (record s {
         cpu = record { registers = set s.cpu.registers 4 at; rip = a; flags = s.cpu.flags };
-        memory = s.memory;
       }) u at (registers s r) (sym (push_stores s a at q top (omega arith)) ∙ ef) in
       let after = with_bytes s.memory (with_number s.memory.byte 8 at (old r)) in
       let memory : u.memory ≡ after = ap (λ (x : State). x.memory) st.is
@@ -179,14 +176,13 @@ module _ (f offset back : ℕ) (old : ℕ → ℕ) (fits : (r : ℕ) → old r <
   -- by what another number is taken off
   falls_by : (s u : State) (a k v : ℕ) (ops : List UnwindOperation) → length s.cpu.registers ≡ 16
       → k ≤ registers s 4 → v ≡ k → are_pushes ops ≡ true → Holds ops s
-      → u ≡ (record {
+      → u ≡ (record s {
         cpu = record {
           registers = set s.cpu.registers 4
               ((subtracted W64 (registers s 4 % 2 ^ 64) (v % 2 ^ 64)).0 % 2 ^ 64);
           rip = a;
           flags = (subtracted W64 (registers s 4 % 2 ^ 64) (v % 2 ^ 64)).1;
         };
-        memory = s.memory;
       }) → Did s u a (Allocate k) ops
   falls_by s u a k v ops n room same p h is =
       let d = stack_depth s.memory old back (registers s 4) (registers s 4) ops h.stack in
@@ -208,14 +204,13 @@ module _ (f offset back : ℕ) (old : ℕ → ℕ) (fits : (r : ℕ) → old r <
       → Did s u a (Allocate k) ops
   allocated s u a k ops n room p h ef =
       falls_by s u a k k ops n room refl p h
-      (same_state (record {
+      (same_state (record s {
         cpu = record {
           registers = set s.cpu.registers 4
               ((subtracted W64 (registers s 4 % 2 ^ 64) (k % 2 ^ 64)).0 % 2 ^ 64);
           rip = a;
           flags = (subtracted W64 (registers s 4 % 2 ^ 64) (k % 2 ^ 64)).1;
         };
-        memory = s.memory;
       }) u (effect (with_rip s a)
       (instrs.Arithmetic arithmetic.Sub W64 (places.Register Rsp) (operands.Immediate k)))
       (subtract_effect s a k) ef)
@@ -229,14 +224,13 @@ module _ (f offset back : ℕ) (old : ℕ → ℕ) (fits : (r : ℕ) → old r <
       → Did s u a (Allocate k) ops
   allocated_by_rax s u a k ops n room rax p h ef =
       falls_by s u a k (registers s 0) ops n room rax p h
-      (same_state (record {
+      (same_state (record s {
         cpu = record {
           registers = set s.cpu.registers 4
               ((subtracted W64 (registers s 4 % 2 ^ 64) (registers s 0 % 2 ^ 64)).0 % 2 ^ 64);
           rip = a;
           flags = (subtracted W64 (registers s 4 % 2 ^ 64) (registers s 0 % 2 ^ 64)).1;
         };
-        memory = s.memory;
       }) u (effect (with_rip s a)
       (instrs.Arithmetic arithmetic.Sub W64 (places.Register Rsp) (operands.Register Rax))) refl ef)
 
@@ -254,13 +248,12 @@ module _ (f offset back : ℕ) (old : ℕ → ℕ) (fits : (r : ℕ) → old r <
       let at = stack_address c offset m place lt in
       let v = address_of c m % 2 ^ 64 in
       let value : v ≡ registers s 4 + offset = omega arith in
-      let e = same_state (record {
+      let e = same_state (record s {
         cpu = record {
           registers = set s.cpu.registers (number to) v;
           rip = a;
           flags = s.cpu.flags;
         };
-        memory = s.memory;
       }) u (effect (with_rip s a) (instrs.LoadAddress W64 to m)) refl ef in
       let memory : u.memory ≡ s.memory = ap (λ (x : State). x.memory) e in
       let now : (q : ℕ) → registers u q ≡ get_or (set s.cpu.registers (number to) v) q 0 = λ q. ap

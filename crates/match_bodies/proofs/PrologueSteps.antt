@@ -82,9 +82,8 @@ module _ (t : Functions) (fs : List Funclet) (f offset top from back : ℕ) (oth
       → Steps s u → Below ops s → Finds s ops
       → FindsOwed t u.memory (s.cpu.rip + size i) (of_codes f offset ops) → Idled s u i ops
   idles s u i more ops idle enc code st b before after =
-      let l = idle_leaves (record {
+      let l = idle_leaves (record s {
         cpu = record { registers = s.cpu.registers; rip = s.cpu.rip + size i; flags = s.cpu.flags };
-        memory = s.memory;
       }) u i idle (effect_here s u i more enc code st.steps) in
       let b' = beneath_stays t s u (of_codes f offset ops) top from back others is st l.stack
       l.others (λ x w. ap (λ (m : Memory). m.byte x) l.memory) b in

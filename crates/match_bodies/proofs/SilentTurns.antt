@@ -104,6 +104,7 @@ module _ (t : Functions) (fs : List Funclet) (program : LinearProgram) (p : Imag
         let s : State = record {
           cpu = record { registers = []; rip = at; flags = no_flags };
           memory = m;
+          vectored = [];
         } in
         let r = reads s i (chosen i) (spells i (near size (omega arith))) (longest i) parts.0
         (record { low = l; high = omega arith }) in

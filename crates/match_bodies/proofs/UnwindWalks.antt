@@ -132,3 +132,8 @@ module _ (t : Functions) (m : Memory) where
         → unwind n t m frame target (state c row) ≡ Land to → IsStack t m to inner
         → drop_below (rsp to) (callers c is) ≡ callers to inner
     landing_callers to inner e there = rest_of to inner (comes_to (Land to) e) there
+
+    -- it lands no lower than it began
+    pub landing_above : (to : Context) → unwind n t m frame target (state c row) ≡ Land to
+        → rsp c ≤ rsp to
+    landing_above to e = (comes_to (Land to) e).above

@@ -27,6 +27,7 @@ seen_by_templates s =
       locals = local_registers s.cpu.registers;
       rest = other_registers s.cpu.registers;
       memory = s.memory;
+      vectored = s.vectored;
     }
 
 -- the numbers in the registers in which parameters arrive

@@ -51,7 +51,7 @@ use Rattle.match_stack.specs.Stack.{StackFrame, FrameIsAt, LeafIsAt, IsAsTold, t
 use Rattle.match_stack.specs.ImagePlan.{ImagePlan, InCode, Gives}
 use Rattle.match_stack.specs.ControlAddresses.{NumbersFunctions}
 use Rattle.match_stack.specs.StackRecords.{IsData}
-use Rattle.seh_walk.specs.Walk.{filter_return, finally_return}
+use Rattle.seh_walk.specs.Walk.{filter_return, finally_return, vectored_return}
 use Rattle.seh_walk.specs.Controls.{number_at}
 use Rattle.frame_rules.specs.Bytes.{spell}
 use Rattle.frame_rules.specs.Plan as rules
@@ -108,6 +108,7 @@ view_of c =
       locals = local_registers c.registers;
       rest = other_registers c.registers;
       memory = no_memory;
+      vectored = [];
     }
 
 module _ (t : Functions) (fs : List Funclet) (program : LinearProgram) (p : ImagePlan)
@@ -339,7 +340,7 @@ module _ (t : Functions) (fs : List Funclet) (program : LinearProgram) (p : Imag
     pub check_stack : (m : Memory) (d : ℕ) → d < sizes check_stack
         → FindsReturn t m (q.check_stack + d)
     pub services : (m : Memory) (a : ℕ) → 0 < a → a < LEAST_BASE → a ≢ filter_return
-        → a ≢ finally_return → FindsReturn t m a
+        → a ≢ finally_return → a ≢ vectored_return → FindsReturn t m a
 
   -- ---- all of it
 

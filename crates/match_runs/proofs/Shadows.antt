@@ -2,7 +2,7 @@
 use Rattle.std.proofs.Common.{◌≡◌, ℕ, zero, suc, ◌+◌, ◌<◌, ◌≤◌, Bool, true, false, Option, Some, None, Ok, Err, List, [], ◌∷◌, refl, sym, ap, subst, ◌∙◌, arith}
 use Rattle.std.specs.Prelude.{nat_eq, map}
 use Rattle.std.proofs.lemmas.Bool.{lt-ltb, le-ltb}
-use Rattle.match_runs.specs.Words.{Code, Event, State, register, step, Answer, Context, Functions, distance, CallerFrame, arrivals, Funclet, KeepsShadow, WalkGives, shadow_after, caller_at, if_below, drop_below, is_call, entered, started, served, by_step, callers_of, GivesCallers, AllKeep, Rsp}
+use Rattle.match_runs.specs.Words.{Code, Event, State, register, step, Answer, Context, Functions, distance, CallerFrame, arrivals, Funclet, KeepsShadow, WalkGives, shadow_after, caller_at, if_below, drop_below, is_call, entered, if_lower, started, served, by_step, callers_of, GivesCallers, AllKeep, Rsp}
 use Rattle.host_layout.specs.Services.{service_at}
 use Rattle.flat_memory.specs.Memory.{Memory, executable}
 use Rattle.x64_instr.specs.declared.instruction.Instr.{Instr}
@@ -135,10 +135,15 @@ module _ (t : Functions) (fs : List Funclet) (s u : State) where
 
   -- ---- the host
 
+  -- where RSP doesn't fall no routine is started
+  pub none_started : (cs : List Context) → register s.cpu Rsp ≤ register u.cpu Rsp
+      → started s u [] cs ≡ cs
+  none_started cs le = ap (if_lower u cs) (le-ltb (register u.cpu Rsp) (register s.cpu Rsp) le)
+
   -- a service of the host, or one of its return addresses
   pub host_keeps : (a : ℕ) (es : List Event) (cs ds : List Context) → step s ≡ Err (stops.Host a)
       → arrivals u.cpu (distance t.base u.cpu.rip) 1 fs ≡ es → WalkGives t s cs → WalkGives t u ds
-      → drop_below (register u.cpu Rsp) (started u es (served (service_at a) cs)) ≡ ds
+      → drop_below (register u.cpu Rsp) (started s u es (served (service_at a) cs)) ≡ ds
       → KeepsShadow t fs s u
   unfolding shadow_after
   host_keeps a es cs ds e arrives before after same =
@@ -146,19 +151,20 @@ module _ (t : Functions) (fs : List Funclet) (s u : State) where
       (ap (λ (x : Answer State). drop_below (register u.cpu Rsp)
       (by_step s u (arrivals u.cpu (distance t.base u.cpu.rip) 1 fs) cs x)) e
       ∙ ap (λ (xs : List Event). drop_below (register u.cpu Rsp)
-      (started u xs (served (service_at a) cs))) arrives ∙ same)
+      (started s u xs (served (service_at a) cs))) arrives ∙ same)
 
   -- an instruction that faults
   pub fault_keeps : (code : Code) (access : Option (Bool × ℕ)) (es : List Event)
       (cs ds : List Context) → step s ≡ Err (stops.Fault code access)
       → arrivals u.cpu (distance t.base u.cpu.rip) 1 fs ≡ es → WalkGives t s cs → WalkGives t u ds
-      → drop_below (register u.cpu Rsp) (started u es cs) ≡ ds → KeepsShadow t fs s u
+      → drop_below (register u.cpu Rsp) (started s u es cs) ≡ ds → KeepsShadow t fs s u
   unfolding shadow_after
   fault_keeps code access es cs ds e arrives before after same =
       keeps_by cs ds before after
       (ap (λ (x : Answer State). drop_below (register u.cpu Rsp)
       (by_step s u (arrivals u.cpu (distance t.base u.cpu.rip) 1 fs) cs x)) e
-      ∙ ap (λ (xs : List Event). drop_below (register u.cpu Rsp) (started u xs cs)) arrives ∙ same)
+      ∙ ap (λ (xs : List Event). drop_below (register u.cpu Rsp) (started s u xs cs)) arrives
+      ∙ same)
 
 -- ---- chains of instructions
 

@@ -63,12 +63,18 @@ abbrev pub entered : State → List Context → Bool → List Context
 entered u cs true = caller_at u ∷ cs
 entered u cs false = cs
 
--- so does the dispatcher, with a funclet that it starts: a filter, on all that is live; a
--- `__finally` block, in an unwinding that has left what was below its frame, which is in RDX
-abbrev pub started : State → List Event → List Context → List Context
-started u (events.Filter k ∷ es) cs = caller_at u ∷ cs
-started u (events.Finally k flag ∷ es) cs = caller_at u ∷ drop_below (register u.cpu Rdx) cs
-started u es cs = cs
+-- so does the dispatcher, with a routine that it starts, where it lowers the stack pointer: a
+-- vectored handler, which has no event
+abbrev pub if_lower : State → List Context → Bool → List Context
+if_lower u cs true = caller_at u ∷ cs
+if_lower u cs false = cs
+
+-- a filter, on all that is live; a `__finally` block, in an unwinding that has left what was below
+-- its frame, which is in RDX
+abbrev pub started : State → State → List Event → List Context → List Context
+started s u (events.Filter k ∷ es) cs = caller_at u ∷ cs
+started s u (events.Finally k flag ∷ es) cs = caller_at u ∷ drop_below (register u.cpu Rdx) cs
+started s u es cs = if_lower u cs (nat_lt (register u.cpu Rsp) (register s.cpu Rsp))
 
 -- RaiseException and `_local_unwind` have been called too: their own call is over, where they
 -- dispatch
@@ -82,8 +88,8 @@ served o cs = cs
 abbrev pub by_step : State → State → List Event → List Context → Answer State → List Context
 by_step s u es cs (Ok v) =
     entered u cs (is_call (leading (executable s.memory LONGEST_INSTRUCTION s.cpu.rip)))
-by_step s u es cs (Err (stops.Host a)) = started u es (served (service_at a) cs)
-by_step s u es cs (Err e) = started u es cs
+by_step s u es cs (Err (stops.Host a)) = started s u es (served (service_at a) cs)
+by_step s u es cs (Err e) = started s u es cs
 
 -- after a turn from a state to another, which shows the event of the funclet that begins there
 unfoldable pub shadow_after : Functions → List Funclet → State → State → List Context → List Context

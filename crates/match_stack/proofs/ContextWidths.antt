@@ -1,7 +1,7 @@
 -- Contexts whose registers are numbers of 64 bits, along a list.
 use Rattle.std.proofs.Common.{◌≡◌, ℕ, zero, suc, ◌+◌, ◌^◌, ◌<◌, List, [], ◌∷◌, length, refl, arith}
 use Rattle.std.specs.Prelude.{slice_index, slice_set}
-use Rattle.match_stack.specs.Words.{Memory, Cpu, Context, context_of, rsp, Functions, DispatchRecord, RecordFits, AllSmall, StackFrame, FrameIsAt, LeafIsAt, after_frame, after_leaf, IsWide}
+use Rattle.match_stack.specs.Words.{Memory, Cpu, Context, context_of, rsp, Functions, DispatchRecord, RecordFits, AllSmall, State, IsWellFormed, StackFrame, FrameIsAt, LeafIsAt, after_frame, after_leaf, IsWide}
 
 small_set : (kept : List ℕ) (v : ℕ) → IsWide kept → v < 2 ^ 64 → IsWide (slice_set kept 0 v)
 small_set [] v s lt = absurd (let e = s.count in omega arith)
@@ -39,6 +39,16 @@ wide_of c n h = record { count = refl; each = at }
     at (suc (suc (suc (suc (suc (suc (suc zero))))))) l = h 14 (omega arith)
     at (suc (suc (suc (suc (suc (suc (suc (suc zero)))))))) l = h 15 (omega arith)
     at (suc (suc (suc (suc (suc (suc (suc (suc (suc j))))))))) l = absurd (omega arith)
+
+-- a state stays well formed, whatever is stored in memory
+pub well_formed_with : (s : State) (m : Memory) → IsWellFormed s
+    → IsWellFormed (record s { memory = m })
+well_formed_with s m w = record {
+  rip_small = w.rip_small;
+  count = w.count;
+  small = w.small;
+  no_handlers = w.no_handlers;
+}
 
 pub wide_saved : (r : DispatchRecord) → RecordFits r → IsWide (context_of r.saved).kept
 wide_saved r f = wide_of r.saved f.registers f.registers_small

@@ -1,13 +1,13 @@
 -- Where a search or an unwinding begins, or continues.
 use Rattle.std.proofs.Common.{◌≡◌, inl, ℕ, zero, suc, ◌+◌, ◌-◌, ◌%◌, ◌^◌, ◌<◌, ◌≤◌, Bool, true, Option, Some, None, List, ◌∷◌, length, refl, ap, subst, ◌∙◌, arith}
-use Rattle.std.specs.Prelude.{not, ◌==◌, slice_index, replicate}
-use Rattle.match_stack.specs.Words.{Code, Event, Memory, Cpu, Context, context_of, State, rsp, Functions, DispatchRecord, placed, misplaced, RecordFits, AllSmall, RECORD_SIZE, is_search, Funclet, with_event, if_placed, unwinds_on, Exception, noncontinuable, LinearProgram, Frame, Item, Waits, handlers, StackItem, Framed, Leaf, ImagePlan, Activation, HasSpace, below_end, record_room, Onward, Linked, On, RecordHasRoom, IsWellFormed, place_below, place_of, parameters, count, new_record, if_finally, accepting, accepted, again, to_target, jumping, searches_on, raise_event, placed_in, AsksHost, IsException, RaiseSearches, LocalUnwindUnwinds, AcceptanceUnwinds, AnswersContinue, FinallyReturnsUnwind}
+use Rattle.std.specs.Prelude.{not, ◌==◌, slice_get, slice_index, replicate}
+use Rattle.match_stack.specs.Words.{Code, Event, Memory, Cpu, Context, context_of, State, rsp, Functions, DispatchRecord, placed, misplaced, RecordFits, AllSmall, RECORD_SIZE, is_search, Funclet, with_event, if_placed, unwinds_on, Exception, noncontinuable, LinearProgram, Frame, Item, Waits, handlers, StackItem, Framed, Leaf, ImagePlan, Activation, HasSpace, below_end, record_room, Onward, Linked, On, RecordHasRoom, IsWellFormed, place_below, place_of, parameters, count, new_record, if_finally, accepting, accepted, again, anew, to_target, jumping, asks_at, searches_on, raise_event, placed_in, AsksHost, IsException, RaiseSearches, LocalUnwindUnwinds, AcceptanceUnwinds, AnswersContinue, FinallyReturnsUnwind}
 use Rattle.seh_num.specs.declared.event.Event.TheVariants as events
 use Rattle.seh_records.specs.declared.dispatch.Kind.{Kind}
-use Rattle.seh_records.specs.declared.dispatch.Kind.TheVariants.{Search, ExceptionUnwind, LocalUnwind}
+use Rattle.seh_records.specs.declared.dispatch.Kind.TheVariants.{Search, ExceptionUnwind, LocalUnwind, Vectored}
 use Rattle.match_stack.proofs.ListKeeping.{misplaced_same}
 use Rattle.match_stack.proofs.DispatchItems.{record_leaves_the_list}
-use Rattle.match_stack.proofs.ContextWidths.{wide_of}
+use Rattle.match_stack.proofs.ContextWidths.{wide_of, well_formed_with}
 use Rattle.match_stack.proofs.SearchHandlers.{at_first_row}
 
 -- ---- records
@@ -52,10 +52,10 @@ kind_is_search : (k : Kind) → is_search k ≡ true → k ≡ Search
 kind_is_search Search e = refl
 kind_is_search ExceptionUnwind e = absurd cc
 kind_is_search LocalUnwind e = absurd cc
+kind_is_search Vectored e = absurd cc
 
 fits_new : (s : State) (kind : Kind) (code : Code) (flags : ℕ) (access : Option (Bool × ℕ))
-    (saved : Cpu) → IsWellFormed (record { cpu = saved; memory = s.memory }) → code.0 < 2 ^ 32 →
-    flags < 2
+    (saved : Cpu) → IsWellFormed (record s { cpu = saved }) → code.0 < 2 ^ 32 → flags < 2
     → AllSmall (parameters access) → RecordFits (new_record kind code flags access saved)
 fits_new s kind code flags access saved well_formed a b c = record {
   frame = none_small;
@@ -115,8 +115,8 @@ fits_accepting r frame address f a b = record {
   kept_small = (wide_of r.saved f.registers f.registers_small).each;
 }
 
-fits_again : (r : DispatchRecord) → RecordFits r → RecordFits (again r)
-fits_again r f = record {
+fits_anew : (r : DispatchRecord) → RecordFits r → RecordFits (anew r)
+fits_anew r f = record {
   frame = none_small;
   row = none_small;
   target_frame = none_small;
@@ -211,17 +211,16 @@ raise_searches t fs program p s code flags access saved is acts exception c a e 
     is (Waits c.frame ∷ c.below) acts r a fits in
     record {
       turns =
-          ap (λ (o : Option ℕ). with_event (events.Raise code (flags == 1) access)
+          ap (λ (v : List ℕ). with_event (events.Raise code (flags == 1) access)
+          (asks_at t s at (new_record Vectored code flags access saved) (slice_get v 0)))
+          a.well_formed.no_handlers
+          ∙ ap (λ (o : Option ℕ). with_event (events.Raise code (flags == 1) access)
           (if_placed s at r (λ u. searches_on t u at r) o)) a.room
           ∙ ap (λ (v : Event). with_event v (searches_on t (placed_in s at r) at r))
           (event_is code flags access exception e);
       searching = record {
         gives = a.gives;
-        well_formed = record {
-          rip_small = a.well_formed.rip_small;
-          count = a.well_formed.count;
-          small = a.well_formed.small;
-        };
+        well_formed = well_formed_with s (placed s.memory at r) a.well_formed;
         on = record_leaves_the_list t fs program p s.memory at r (context_of saved) is
             (Waits c.frame ∷ c.below) acts a.on room;
         kind = refl;
@@ -254,11 +253,7 @@ local_unwind_unwinds t fs program p s frame address saved is acts depth label f 
       turns = ap (λ (o : Option ℕ). if_placed s at r (λ u. unwinds_on t u at r) o) a.room;
       unwinding = record {
         gives = a.gives;
-        well_formed = record {
-          rip_small = a.well_formed.rip_small;
-          count = a.well_formed.count;
-          small = a.well_formed.small;
-        };
+        well_formed = well_formed_with s (placed s.memory at r) a.well_formed;
         on = record_leaves_the_list t fs program p s.memory at r (context_of saved) is
             (Waits f ∷ below) acts a.on room;
         kind = refl;
@@ -287,11 +282,7 @@ acceptance_unwinds t fs program p s at r frame address is acts exception found h
       turns = ap (λ (o : Option ℕ). if_placed s at new (λ u. unwinds_on t u at new) o) a.room.room;
       unwinding = record {
         gives = a.gives;
-        well_formed = record {
-          rip_small = a.well_formed.rip_small;
-          count = a.well_formed.count;
-          small = a.well_formed.small;
-        };
+        well_formed = well_formed_with s (placed s.memory at new) a.well_formed;
         on = record_leaves_the_list t fs program p s.memory at new (context_of r.saved) is
             (Waits c.frame ∷ c.below) acts a.on room;
         kind = refl;
@@ -326,10 +317,10 @@ answers_continue t fs program p s r is acts exception resumption asked rest c h 
       small = is_there.small;
       room = waits.own.room;
     } in
-    let new : DispatchRecord = again r in
+    let new : DispatchRecord = anew r in
     let new_room : RecordHasRoom s.memory at new
     above = record {
-      fits = fits_again r waits.own.fits;
+      fits = fits_anew r waits.own.fits;
       below = is_there.above;
       small = is_there.small;
       room = waits.own.room;
@@ -354,18 +345,17 @@ answers_continue t fs program p s r is acts exception resumption asked rest c h 
       address_small = subst (λ a. a < 2 ^ 64) waits.before.target
           (let a : (t.base + waits.before.row.jump_target) % 2 ^ 64 < 2 ^ 64 = omega arith in a);
       aimed = waits.aimed;
-      raises = ap (λ (o : Option ℕ). with_event (raise_event noncontinuable)
+      raises =
+          ap (λ (v : List ℕ). with_event (raise_event noncontinuable)
+          (asks_at t s at (again r) (slice_get v 0))) h.well_formed.no_handlers
+          ∙ ap (λ (o : Option ℕ). with_event (raise_event noncontinuable)
           (if_placed s at new (λ u. searches_on t u at new) o)) waits.own.room;
-      anew = record {
+      searches_anew = record {
         gives = h.gives;
-        well_formed = record {
-          rip_small = h.well_formed.rip_small;
-          count = h.well_formed.count;
-          small = h.well_formed.small;
-        };
+        well_formed = well_formed_with s (placed s.memory at new) h.well_formed;
         on = record_leaves_the_list t fs program p s.memory at new (context_of r.saved) is
             (Waits c.frame ∷ c.below) acts outer new_room;
-        kind = kind;
+        kind = refl;
         room = placed_room s.memory at new above new_room;
         carries = record {
           code = refl;

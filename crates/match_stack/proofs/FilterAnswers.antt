@@ -112,6 +112,7 @@ module _ (t : Functions) (fs : List Funclet) (program : LinearProgram) (p : Imag
       rip_small = h.on.is_there.linked.0.own.fits.rip;
       count = h.on.is_there.linked.0.own.fits.registers;
       small = h.on.is_there.linked.0.own.fits.registers_small;
+      no_handlers = h.well_formed.no_handlers;
     };
     resumes = h.on.is_there.linked.0.resumes;
   }

@@ -5,6 +5,7 @@ use Rattle.std.proofs.Math.ListN.{length-set}
 use Rattle.std.proofs.lemmas.List.{get_or-set_same, get_or-set_other}
 use Rattle.std.proofs.lemmas.Bool.{eqb-true, eqb-false}
 use Rattle.match_stack.specs.Words.{Memory, Rcx, Rsp, Context, context_of, State, register, rsp, word, Functions, DispatchRecord, placed, return_address_at, RecordFits, AllSmall, Funclet, entered, in_hand, LinearProgram, BodyName, Item, StackItem, Framed, Leaf, Searching, Unwinding, IsStack, after_frame, after_leaf, context_below, ImagePlan, Activation, Reaches, IsData, On, RecordHasRoom, pushed, IsWellFormed, Rdx, IsFunclet, CanBeKept}
+use Rattle.match_stack.proofs.ContextWidths.{well_formed_with}
 use Rattle.match_stack.proofs.ItemVisits.{set_head}
 use Rattle.match_stack.proofs.ListKeeping.{reaches_above}
 use Rattle.match_stack.proofs.RecordMemory.{IsPlace, place_of, bytes, pushed_is, keeps_above, word_pushed}
@@ -55,6 +56,7 @@ module _ (s : State) (at back handler first frame : ℕ) (well_formed : IsWellFo
           (set_small one 2 frame (set_small s.cpu.registers 1 first well_formed.small first_small)
           frame_small)
           (omega arith);
+      no_handlers = well_formed.no_handlers;
     }
 
     pub entered_stack : register after.cpu Rsp ≡ return_address_at at
@@ -114,7 +116,7 @@ few_items t m c (Unwinding r ∷ is) s lt = let a = s.0.above in let b = s.0.sma
 
 module _ (t : Functions) (fs : List Funclet) (program : LinearProgram) (p : ImagePlan) where
   abbrev pub with_record : State → ℕ → DispatchRecord → State
-  with_record s at r = record { cpu = s.cpu; memory = placed s.memory at r }
+  with_record s at r = record s { memory = placed s.memory at r }
 
   -- a funclet begins, with its record and its return address pushed
   unfoldable pub arrives : (s : State) (at : ℕ) (r : DispatchRecord)
@@ -131,11 +133,8 @@ module _ (t : Functions) (fs : List Funclet) (program : LinearProgram) (p : Imag
       frame_small
       back_small first_small funclet reach on =
       let old : State = with_record s at r in
-      let well_formed_old : IsWellFormed old = record {
-        rip_small = well_formed.rip_small;
-        count = well_formed.count;
-        small = well_formed.small;
-      } in
+      let well_formed_old : IsWellFormed old = well_formed_with s (placed s.memory at r)
+      well_formed in
       let new : State = entered old at back (p.funclet k) first frame in
       let stack_is = entered_stack old at back (p.funclet k) first frame well_formed_old
       funclet.small

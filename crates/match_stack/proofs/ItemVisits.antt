@@ -2,12 +2,12 @@
 use Rattle.std.proofs.Common.{◌≡◌, ℕ, ◌+◌, ◌-◌, ◌%◌, ◌^◌, ◌<◌, ◌≤◌, Bool, true, false, Option, Some, None, Ok, Err, List, [], ◌∷◌, length, refl, ap, ◌∙◌, arith}
 use Rattle.std.specs.Prelude.{nat_lt, nat_eq, not, slice_index, slice_set}
 use Rattle.std.proofs.lemmas.Bool.{lt-ltb}
-use Rattle.match_stack.specs.Words.{Memory, Instr, Context, context_of, Info, Entry, rsp, word, Functions, distance, fetched, RECORD_SIZE, WalkState, walk_in, filter_return, finally_return, StackFrame, FrameIsAt, LeafIsAt, after_frame, after_leaf, caller_frame, caller_of_leaf, state, rsp_raised, Answer, popped, operations, CallerFrame, found, in_body, by_distance, past_prologue, of_entry, rising, risen, caller_in, visited, if_over, if_filter, framed, past_filter, past_finally, if_search, above, if_above, saved_in, FrameIsVisited, LeafIsVisited, SearchIsPassed, UnwindingIsPassed, StackIsOver, IsAsTold, IsChain, IsFragment, telling, teller, told, at_entry, get, base_if}
+use Rattle.match_stack.specs.Words.{Memory, Instr, Context, context_of, Info, Entry, rsp, word, Functions, distance, fetched, RECORD_SIZE, WalkState, walk_in, filter_return, finally_return, StackFrame, FrameIsAt, LeafIsAt, after_frame, after_leaf, caller_frame, caller_of_leaf, state, rsp_raised, Answer, popped, operations, CallerFrame, found, in_body, by_distance, past_prologue, of_entry, rising, risen, caller_in, visited, if_over, if_filter, framed, past_filter, past_finally, if_kind, above, if_above, saved_in, FrameIsVisited, LeafIsVisited, SearchIsPassed, UnwindingIsPassed, StackIsOver, IsAsTold, IsChain, IsFragment, telling, teller, told, at_entry, get, base_if}
 use Rattle.seh_num.specs.Answers.{◌>>=◌}
 use Rattle.eh_tables.specs.declared.code.UnwindCode.{UnwindCode}
 use Rattle.virtual_unwind.specs.CallerOf.{unwound, at_start, has_frame}
 use Rattle.virtual_unwind.specs.Undone.{Undo, undone, returned}
-use Rattle.seh_walk.specs.Walk.{if_finally}
+use Rattle.seh_walk.specs.Walk.{if_finally, if_vectored}
 use Rattle.match_stack.proofs.Lemmas.{undoing}
 use Rattle.match_stack.proofs.FrameWords.{left_is}
 
@@ -93,7 +93,8 @@ unfolding visited
 frame_is_visited t m c row f h =
     let w : WalkState = state c row in
     ap (if_over t m w) h.live ∙ ap (if_filter t m w) h.not_filter
-    ∙ ap (if_finally t m w) h.not_finally ∙ ap framed (frame_called t m c f h)
+    ∙ ap (if_finally t m w) h.not_finally
+    ∙ ap (if_vectored t m w) h.not_vectored ∙ ap framed (frame_called t m c f h)
 
 -- the return address popped
 leaf_popped : (m : Memory) (rip : ℕ) (kept : List ℕ) (back : ℕ) → 0 < length kept
@@ -123,7 +124,8 @@ unfolding visited
 leaf_is_visited t m c row back h =
     let w : WalkState = state c row in
     ap (if_over t m w) h.live ∙ ap (if_filter t m w) h.not_filter
-    ∙ ap (if_finally t m w) h.not_finally ∙ ap framed (leaf_called t m c back h)
+    ∙ ap (if_finally t m w) h.not_finally
+    ∙ ap (if_vectored t m w) h.not_vectored ∙ ap framed (leaf_called t m c back h)
 
 -- a return address of the host isn't the end
 at_filter : (t : Functions) (m : Memory) (w : WalkState) → w.context.rip ≡ filter_return
@@ -148,7 +150,7 @@ search_is_passed t m c row r h =
     let order : rsp c + RECORD_SIZE ≤ rsp (context_of r.saved) = h.above in
     let rises : nat_lt (rsp c) (rsp (context_of r.saved)) ≡ true = lt-ltb _ _ (omega arith) in
     at_filter t m (state c row) h.at_host ∙ ap (past_filter (rsp c)) h.fetches
-    ∙ ap (if_search (rsp c) (above (rsp c) (saved_in r))) h.kind
+    ∙ ap (if_kind (rsp c) (above (rsp c) (saved_in r))) h.kind
     ∙ ap (if_above (rsp c) (saved_in r)) rises
 
 pub unwinding_is_passed : UnwindingIsPassed
@@ -156,5 +158,5 @@ unwinding_is_passed t m c row r h =
     let order : rsp c + RECORD_SIZE ≤ rsp r.walk = h.above in
     let rises : nat_lt (rsp c) (rsp r.walk) ≡ true = lt-ltb _ _ (omega arith) in
     at_finally t m (state c row) h.at_host ∙ ap (past_finally (rsp c)) h.fetches
-    ∙ ap (λ b. if_search (rsp c) (above (rsp c) (walk_in r)) (not b)) h.kind
+    ∙ ap (if_kind (rsp c) (above (rsp c) (walk_in r))) h.kind
     ∙ ap (if_above (rsp c) (walk_in r)) rises

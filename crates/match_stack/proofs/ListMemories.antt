@@ -1,7 +1,7 @@
 -- The list is in each memory that reads the same in the stack, from its stack pointer up, and has
 -- the same code.
-use Rattle.std.proofs.Common.{◌≡◌, ℕ, ◌+◌, ◌≤◌, Bool, true, false, Ok, List, [], ◌∷◌, ◌∙◌, arith, Option, Some, None}
-use Rattle.match_stack.specs.Words.{STACK_END, Memory, Context, context_of, rsp, word, tail_at, Functions, DispatchRecord, misplaced, fetched, RECORD_SIZE, filter_return, finally_return, Funclet, Layout, LinearProgram, BodyName, FunctionBody, FuncletBody, Frame, Item, Waits, Searches, Unwinds, StackFrame, StackItem, Framed, Leaf, Searching, Unwinding, FrameIsAt, LeafIsAt, RecordIsAt, IsStack, after_frame, after_leaf, ImagePlan, Activation, activations_below, HoldsWords, temporaries_end, HasActivation, FrameWaits, LeafWaits, Linked, IsLinkedStack, home_end, HasPointers, BodyWaits, IsOwnRecord, IsWord, get, IsInPlace, HoldsPlaces}
+use Rattle.std.proofs.Common.{◌≡◌, ℕ, ◌+◌, ◌≤◌, Bool, Ok, List, [], ◌∷◌, ◌∙◌, arith, Option, Some, None}
+use Rattle.match_stack.specs.Words.{STACK_END, Memory, Context, context_of, rsp, word, tail_at, Functions, DispatchRecord, misplaced, fetched, RECORD_SIZE, Kind, is_search, is_unwinding, filter_return, finally_return, Funclet, Layout, LinearProgram, BodyName, FunctionBody, FuncletBody, Frame, Item, Waits, Searches, Unwinds, StackFrame, StackItem, Framed, Leaf, Searching, Unwinding, FrameIsAt, LeafIsAt, RecordIsAt, IsStack, after_frame, after_leaf, ImagePlan, Activation, activations_below, HoldsWords, temporaries_end, HasActivation, FrameWaits, LeafWaits, Linked, IsLinkedStack, home_end, HasPointers, BodyWaits, IsOwnRecord, IsWord, get, IsInPlace, HoldsPlaces}
 use Rattle.match_stack.proofs.ItemVisits.{set_head}
 use Rattle.match_stack.proofs.FrameWords.{told_above}
 use Rattle.match_stack.proofs.ListEnds.{words_fit, places_fit, end_within, in_stack}
@@ -161,6 +161,7 @@ module _ (m m' : Memory) (top : ℕ) where
       live = s.live;
       not_filter = s.not_filter;
       not_finally = s.not_finally;
+      not_vectored = s.not_vectored;
       found = s.found;
       past_prologue = s.past_prologue;
       not_epilogue = r.tails f.entry.info.frame_register c.rip ∙ s.not_epilogue;
@@ -182,15 +183,16 @@ module _ (m m' : Memory) (top : ℕ) where
       live = s.live;
       not_filter = s.not_filter;
       not_finally = s.not_finally;
+      not_vectored = s.not_vectored;
       none = s.none;
       kept = s.kept;
       room = s.room;
       returns = r.words (rsp c) back (omega arith) fits s.returns;
     }
 
-    pub record_is_at : (c : Context) (d : DispatchRecord) (at : ℕ) (kind : Bool) (next : Context)
-        → ReadsSame m m' (rsp c) top → rsp c + RECORD_SIZE ≤ top → RecordIsAt m c d at kind next
-        → RecordIsAt m' c d at kind next
+    pub record_is_at : (c : Context) (d : DispatchRecord) (at : ℕ) (kind : Kind → Bool)
+        (next : Context) → ReadsSame m m' (rsp c) top → rsp c + RECORD_SIZE ≤ top
+        → RecordIsAt m c d at kind next → RecordIsAt m' c d at kind next
     record_is_at c d at kind next r fits s = record {
       at_host = s.at_host;
       fetches = r.records (rsp c) (omega arith) fits ∙ s.fetches;
@@ -251,7 +253,7 @@ module _ (m m' : Memory) (t : Functions) (fs : List Funclet) (program : LinearPr
       (higher m m' STACK_END (rsp c) (rsp (context_of d.saved)) (omega arith) r) s.1 h.1 in
       record {
         stack = (
-          record_is_at m m' STACK_END t fs program p c d filter_return true
+          record_is_at m m' STACK_END t fs program p c d filter_return is_search
               (context_of d.saved) r (omega arith) s.0,
           outer.stack,
         );
@@ -276,7 +278,7 @@ module _ (m m' : Memory) (t : Functions) (fs : List Funclet) (program : LinearPr
       (higher m m' STACK_END (rsp c) (rsp d.walk) (omega arith) r) s.1 h.1 in
       record {
         stack = (
-          record_is_at m m' STACK_END t fs program p c d finally_return false d.walk r
+          record_is_at m m' STACK_END t fs program p c d finally_return is_unwinding d.walk r
               (omega arith) s.0,
           outer.stack,
         );

@@ -1,7 +1,7 @@
 -- A record that is placed below a stack is one item more.
 use Rattle.std.proofs.Common.{◌≡◌, ◌⊎◌, ℕ, ◌+◌, ◌%◌, ◌^◌, ◌<◌, ◌≤◌, Bool, true, false, List, refl, sym, ap, ◌∙◌, arith, inl, inr}
 use Rattle.std.proofs.lemmas.Bool.{cases_lt}
-use Rattle.match_stack.specs.Words.{Memory, first_refused, may_read, Context, context_of, rsp, Functions, DispatchRecord, placed, RECORD_SIZE, is_search, filter_return, finally_return, StackItem, IsStack, IsBetween, RecordIsAt, context_below, Owned, CanBePlaced, RecordIsOneMore}
+use Rattle.match_stack.specs.Words.{Memory, first_refused, may_read, Context, context_of, rsp, Functions, DispatchRecord, placed, RECORD_SIZE, Kind, is_search, is_unwinding, filter_return, finally_return, StackItem, IsStack, IsBetween, RecordIsAt, context_below, Owned, CanBePlaced, RecordIsOneMore}
 use Rattle.match_stack.proofs.Lemmas.{none_within, placed_is_fetched, placing_leaves_others}
 use Rattle.match_stack.proofs.ExceptionPointers.{placed_points}
 use Rattle.match_stack.proofs.StackKeeping.{kept_by_other_stores, nothing_below_is_owned}
@@ -27,10 +27,10 @@ module _ (t : Functions) (m : Memory) (is : List StackItem) (r : DispatchRecord)
   top_of above p (inr q) = let a = p.below in let b = p.small in absurd (omega arith)
 
   -- the record is there, and what was above it still is
-  is_there : (address : ℕ) (b : Bool) (above : Context) → is_search r.kind ≡ b
-      → CanBePlaced m at r above → RecordIsAt (placed m at r) (context_below address at others) r
-      address b above
-  is_there address b above kind p =
+  is_there : (address : ℕ) (is_of_kind : Kind → Bool) (above : Context)
+      → is_of_kind r.kind ≡ true → CanBePlaced m at r above
+      → RecordIsAt (placed m at r) (context_below address at others) r address is_of_kind above
+  is_there address is_of_kind above kind p =
       let top = top_of above p (cases_lt (at + RECORD_SIZE) (2 ^ 64)) in
       record {
         at_host = refl;
@@ -64,11 +64,11 @@ module _ (t : Functions) (m : Memory) (is : List StackItem) (r : DispatchRecord)
 pub record_is_one_more : RecordIsOneMore
 record_is_one_more t m is r at others = record {
   search = λ k p s. (
-    is_there t m is r at others filter_return true (context_of r.saved) k p,
+    is_there t m is r at others filter_return is_search (context_of r.saved) k p,
     rest_is_at t m is r at others (context_of r.saved) p s,
   );
   unwinding = λ k p s. (
-    is_there t m is r at others finally_return false r.walk k p,
+    is_there t m is r at others finally_return is_unwinding r.walk k p,
     rest_is_at t m is r at others r.walk p s,
   );
 }

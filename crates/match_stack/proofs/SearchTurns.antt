@@ -1,11 +1,11 @@
 -- A turn that searches does what linear code's search does.
 use Rattle.std.proofs.Common.{◌≡◌, ◌⊎◌, inl, inr, ℕ, ◌+◌, ◌%◌, ◌^◌, ◌<◌, ◌≤◌, true, Option, Some, None, List, [], ◌∷◌, refl, sym, ap, ◌∙◌, arith}
-use Rattle.match_stack.specs.Words.{Code, Rcx, Rsp, Cpu, context_of, State, register, rsp, Functions, DispatchRecord, return_address_at, RecordFits, is_search, filter_return, walk_in, steps, SearchResult, search, Funclet, Turn, Continues, arrived, in_hand, if_placed, entered, Exception, LinearProgram, Handler, Resumption, Item, Waits, Searches, Configuration, StackItem, Searching, ImagePlan, Activation, RecordHasRoom, FindsHandler, SearchedAs, IsWellFormed, Ends, after_search, consult, Asks, Accepts, IsSearching, SearchTurns, ResumesFrom}
+use Rattle.match_stack.specs.Words.{Code, Rcx, Rsp, Cpu, context_of, State, register, rsp, Functions, DispatchRecord, placed, return_address_at, RecordFits, is_search, filter_return, walk_in, steps, SearchResult, search, Funclet, Turn, Continues, arrived, in_hand, if_placed, entered, Exception, LinearProgram, Handler, Resumption, Item, Waits, Searches, Configuration, StackItem, Searching, ImagePlan, Activation, RecordHasRoom, FindsHandler, SearchedAs, IsWellFormed, Ends, after_search, consult, Asks, Accepts, IsSearching, SearchTurns, ResumesFrom}
 use Rattle.seh_num.specs.declared.end.RunEnd.TheVariants as ends
 use Rattle.match_stack.proofs.ListEnds.{in_stack}
 use Rattle.match_stack.proofs.RecordMemory.{IsPlace, place_of, pushed_record_leaves_others}
 use Rattle.match_stack.proofs.DispatchItems.{search_is_one_more}
-use Rattle.match_stack.proofs.ContextWidths.{wide_saved}
+use Rattle.match_stack.proofs.ContextWidths.{well_formed_with, wide_saved}
 use Rattle.match_stack.proofs.SearchHandlers.{search_continues}
 use Rattle.match_stack.specs.SearchOutcomes.{FilterBegins, TakesOver, NobodyTakesOver}
 use Rattle.match_stack.proofs.FuncletEntry.{with_record, fits_in_hand, few_items, entered_stack, entered_first, arrives}
@@ -28,11 +28,8 @@ module _ (t : Functions) (fs : List Funclet) (program : LinearProgram) (p : Imag
       (p.funclet k) ((at + 80) % 2 ^ 64) frame).cpu in register cpu Rcx ≡ register cpu Rsp + 88
   pointers_above hand room frame k handler_small frame_small =
       let old : State = with_record t fs program p s at hand in
-      let well_formed : IsWellFormed old = record {
-        rip_small = h.well_formed.rip_small;
-        count = h.well_formed.count;
-        small = h.well_formed.small;
-      } in
+      let well_formed : IsWellFormed old = well_formed_with s (placed s.memory at hand)
+      h.well_formed in
       let b = room.below in
       let small = room.small in
       let place : IsPlace at = place_of s.memory at (omega arith) room.room in

@@ -1,13 +1,13 @@
 -- A turn that unwinds does what linear code's unwinding does.
 use Rattle.std.proofs.Common.{◌≡◌, ◌⊎◌, inl, inr, ℕ, zero, suc, ◌+◌, ◌^◌, ◌<◌, ◌≤◌, Option, Some, None, List, [], ◌∷◌, ◌++◌, length, refl, sym, ap, subst, ◌∙◌, arith}
 use Rattle.std.specs.Prelude.{not, ◌==◌, slice_index}
-use Rattle.match_stack.specs.Words.{W32, Code, Event, low, Context, State, rsp, Functions, distance, DispatchRecord, RecordFits, AllSmall, finally_return, walk_in, steps, UnwindResult, unwind, Funclet, Turn, Continues, arrivals, arrived, in_hand, if_placed, entered, unwinds_on, LinearProgram, Waits, Unwinds, Seen, Next, StackItem, Unwinding, ImagePlan, HasSpace, below_end, record_room, RecordHasRoom, IsWide, store_of, Course, RunsBlock, UnwoundAs, IsWellFormed, landed, at_landing, by_purpose, after_unwind, HasPurpose, Lands, IsUnwinding, UnwindTurns}
+use Rattle.match_stack.specs.Words.{W32, Code, Event, low, Context, State, rsp, Functions, distance, DispatchRecord, placed, RecordFits, AllSmall, finally_return, walk_in, steps, UnwindResult, unwind, Funclet, Turn, Continues, arrivals, arrived, in_hand, if_placed, entered, unwinds_on, LinearProgram, Waits, Unwinds, Seen, Next, StackItem, Unwinding, ImagePlan, HasSpace, below_end, record_room, RecordHasRoom, IsWide, store_of, Course, RunsBlock, UnwoundAs, IsWellFormed, landed, at_landing, by_purpose, after_unwind, HasPurpose, Lands, IsUnwinding, UnwindTurns}
 use Rattle.seh_num.specs.declared.event.Event.TheVariants as events
 use Rattle.linear_machine.specs.Unwinding as linear
 use Rattle.match_stack.proofs.ListEnds.{in_stack}
 use Rattle.match_stack.proofs.RecordMemory.{pushed_record_leaves_others}
 use Rattle.match_stack.proofs.DispatchItems.{unwinding_is_one_more}
-use Rattle.match_stack.proofs.ContextWidths.{wide_walk}
+use Rattle.match_stack.proofs.ContextWidths.{well_formed_with, wide_walk}
 use Rattle.match_stack.proofs.UnwindBlocks.{unwinding_is_the_lists}
 use Rattle.match_stack.specs.UnwindOutcomes.{landing_value, landing_events, Unwound, BlockBegins, LandsThere}
 use Rattle.match_stack.proofs.FuncletEntry.{with_record, fits_in_hand, few_items, entered_first, entered_frame, arrives}
@@ -62,12 +62,7 @@ module _ (t : Functions) (fs : List Funclet) (program : LinearProgram) (p : Imag
       let new : State = entered (with_record t fs program p s at hand) at finally_return
       (p.funclet a.block) 1 (rsp a.to) in
       let first = entered_first (with_record t fs program p s at hand) at finally_return
-      (p.funclet a.block) 1 (rsp a.to) (record {
-        rip_small = h.well_formed.rip_small;
-        count = h.well_formed.count;
-        small =
-            h.well_formed.small;
-      })
+      (p.funclet a.block) 1 (rsp a.to) (well_formed_with s (placed s.memory at hand) h.well_formed)
       a.funclet.small (omega arith) frame_small in
       record {
         block = a.block;
@@ -120,12 +115,8 @@ module _ (t : Functions) (fs : List Funclet) (program : LinearProgram) (p : Imag
         list = refl;
         same_walk = refl;
         frame = entered_frame (with_record t fs program p s at hand) at finally_return
-            (p.funclet a.block) 1 (rsp a.to) (record {
-              rip_small = h.well_formed.rip_small;
-              count = h.well_formed.count;
-              small =
-                  h.well_formed.small;
-            })
+            (p.funclet a.block) 1 (rsp a.to) (well_formed_with s (placed s.memory at hand)
+            h.well_formed)
             a.funclet.small (omega arith) frame_small;
       }
     where
@@ -154,6 +145,7 @@ module _ (t : Functions) (fs : List Funclet) (program : LinearProgram) (p : Imag
     rip_small = h.room.fits.target;
     count = refl;
     small = each;
+    no_handlers = h.well_formed.no_handlers;
   }
     where
       kept_small : (k : ℕ) → k < 9 → slice_index to.kept k < 2 ^ 64

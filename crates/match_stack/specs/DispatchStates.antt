@@ -1,5 +1,5 @@
 -- States between two turns of the dispatcher.
-use Rattle.std.specs.Prelude.{◌≡◌, ℕ, ◌+◌, ◌^◌, ◌<◌, List, length, Ok}
+use Rattle.std.specs.Prelude.{◌≡◌, ℕ, ◌+◌, ◌^◌, ◌<◌, List, [], length, Ok}
 use Rattle.x64_instr.specs.declared.register.Reg.TheVariants.{Rcx, Rdx, Rsp}
 use Rattle.x64_machine.specs.Effect.{State, register}
 use Rattle.virtual_unwind.specs.Undone.{word}
@@ -14,11 +14,16 @@ use Rattle.match_stack.specs.ImagePlan.{ImagePlan, IsFunclet}
 use Rattle.match_stack.specs.ItemMatches.{Activation, Reaches}
 use Rattle.match_stack.specs.StackRecords.{On}
 
--- RIP and the registers are numbers of 64 bits
+-- the host has no vectored handlers: no compiled program adds one
+abbrev pub HasNoHandlers : State → Type 0
+HasNoHandlers s = s.vectored ≡ []
+
+-- RIP and the registers are numbers of 64 bits, and a raise asks no vectored handler
 pub record IsWellFormed (s : State) : Type 0 where
   pub rip_small : s.cpu.rip < 2 ^ 64
   pub count : length s.cpu.registers ≡ 16
   pub small : AllSmall s.cpu.registers
+  pub no_handlers : HasNoHandlers s
 
 -- at the first byte of a funclet: RCX is its first argument, RDX leads to its activation, and below
 -- its return address is the list

@@ -16,7 +16,7 @@ use Rattle.seh_records.specs.Record.{placed, misplaced}
 use Rattle.seh_records.specs.Laws.{AllSmall}
 use Rattle.host_model.specs.declared.funclet.Funclet.{Funclet}
 use Rattle.host_model.specs.Turns.{with_event}
-use Rattle.host_model.specs.Dispatch.{place_of, parameters, new_record, raised, accepting, accepted, again, raised_again, to_target, unwound_locally, asked_row, jumping, searches_on, unwinds_on}
+use Rattle.host_model.specs.Dispatch.{place_of, parameters, new_record, raised, accepting, accepted, again, searching, raised_again, to_target, unwound_locally, asked_row, jumping, searches_on, unwinds_on}
 use Rattle.source_meaning.specs.State.{Exception}
 use Rattle.source_meaning.specs.Raises.{noncontinuable, raise_event}
 use Rattle.linear_code.specs.declared.program.Region.{Region}
@@ -34,7 +34,7 @@ use Rattle.match_stack.specs.TurnLaws.{IsSearching, IsUnwinding}
 
 -- the same registers, and a record placed
 abbrev pub placed_in : State → ℕ → DispatchRecord → State
-placed_in s at r = record { cpu = s.cpu; memory = placed s.memory at r }
+placed_in s at r = record s { memory = placed s.memory at r }
 
 -- what is to be unwound of a body on top of what waits, or of a list with regions left
 abbrev pub from_body : Target → Frame → List Item → List Activation → Memory → List Event → Unwound
@@ -55,7 +55,7 @@ pub record AsksHost (t : Functions) (fs : List Funclet) (program : LinearProgram
     (acts : List Activation) : Type 0 where
   pub gives : Gives t fs program p
   pub well_formed : IsWellFormed s
-  pub well_formed_saved : IsWellFormed (record { cpu = saved; memory = s.memory })
+  pub well_formed_saved : IsWellFormed (record s { cpu = saved })
   pub on : On t fs program p s.memory (context_of saved) is items acts
   pub low : RECORD_SIZE + 15 ≤ register saved Rsp
   pub room : misplaced s.memory (place_of saved) ≡ None
@@ -154,6 +154,10 @@ AcceptanceUnwinds =
     → AcceptsAs t fs program p s at r frame address is
     (from_body (target_of h exception.code c.frame.held) c.frame c.below acts source c.events)
 
+-- the record of a search for NONCONTINUABLE_EXCEPTION, in place of another exception's
+abbrev pub anew : DispatchRecord → DispatchRecord
+anew r = searching (again r)
+
 -- 0 asks the handlers that are left; above 0 the asked one takes over; below 0 a noncontinuable
 -- exception is raised anew, from the innermost frame on
 pub record AnswersAs (t : Functions) (fs : List Funclet) (program : LinearProgram) (p : ImagePlan)
@@ -170,10 +174,10 @@ pub record AnswersAs (t : Functions) (fs : List Funclet) (program : LinearProgra
       (Waits c.frame ∷ c.below)
   pub raises : raised_again t s (rsp (context_of s.cpu)) r
       ≡ with_event (raise_event noncontinuable)
-      (searches_on t (placed_in s (rsp (context_of s.cpu)) (again r)) (rsp (context_of s.cpu))
-      (again r))
-  pub anew : IsSearching t fs program p (placed_in s (rsp (context_of s.cpu)) (again r))
-      (rsp (context_of s.cpu)) (again r) is acts noncontinuable
+      (searches_on t (placed_in s (rsp (context_of s.cpu)) (anew r)) (rsp (context_of s.cpu))
+      (anew r))
+  pub searches_anew : IsSearching t fs program p (placed_in s (rsp (context_of s.cpu)) (anew r))
+      (rsp (context_of s.cpu)) (anew r) is acts noncontinuable
       (handlers program (Waits c.frame ∷ c.below) None) c
 
 abbrev pub AnswersContinue : Type 0

@@ -1,5 +1,5 @@
 -- What holds of every list and record.
-use Rattle.std.specs.Prelude.{◌≡◌, ℕ, ◌^◌, ◌<◌, ◌≤◌, true, false, List, [], ◌∷◌, Ok}
+use Rattle.std.specs.Prelude.{◌≡◌, ℕ, ◌^◌, ◌<◌, ◌≤◌, true, List, [], ◌∷◌, Ok}
 use Rattle.host_layout.specs.declared.range.TheConstants.{STACK_END}
 use Rattle.flat_memory.specs.Memory.{Memory}
 use Rattle.x64_machine.specs.declared.context.Context.{Context}
@@ -9,7 +9,7 @@ use Rattle.virtual_unwind.specs.Undone.{word}
 use Rattle.virtual_unwind.specs.CallerOf.{Functions}
 use Rattle.seh_records.specs.declared.dispatch.DispatchRecord.{DispatchRecord}
 use Rattle.seh_records.specs.Record.{placed, return_address_at}
-use Rattle.seh_walk.specs.Walk.{is_search, filter_return, finally_return}
+use Rattle.seh_walk.specs.Walk.{is_search, is_unwinding, filter_return, finally_return}
 use Rattle.host_model.specs.declared.funclet.Funclet.{Funclet}
 use Rattle.source_meaning.specs.State.{Exception}
 use Rattle.linear_code.specs.declared.program.Region.{Region}
@@ -53,7 +53,7 @@ UnwindingIsOneMore =
     (at : ℕ)
     (r : DispatchRecord) (is : List StackItem) (items : List Item) (acts : List Activation)
     (rest : List Region) (target : Target) (others : List ℕ)
-    → On t fs program p m r.walk is items acts → is_search r.kind ≡ false
+    → On t fs program p m r.walk is items acts → is_unwinding r.kind ≡ true
     → RecordHasRoom m at r (rsp r.walk)
     → UnwindingWaits t fs program p m
     (context_below finally_return at []) r rest target is items acts

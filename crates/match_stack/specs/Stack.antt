@@ -17,7 +17,8 @@ use Rattle.frame_rules.specs.Frame as rules
 use Rattle.seh_records.specs.declared.dispatch.DispatchRecord.{DispatchRecord}
 use Rattle.seh_records.specs.Record.{fetched}
 use Rattle.seh_records.specs.declared.layout.TheConstants.{RECORD_SIZE, POINTERS_AT}
-use Rattle.seh_walk.specs.Walk.{filter_return, finally_return, is_search}
+use Rattle.seh_records.specs.declared.dispatch.Kind.{Kind}
+use Rattle.seh_walk.specs.Walk.{filter_return, finally_return, vectored_return, is_search, is_unwinding}
 
 -- a frame of a body: the entry of the function table that RIP is in; how far above RSP its slots
 -- end, and its return address is; that address; and what its caller has in RBX, RBP, RSI, RDI and
@@ -120,6 +121,7 @@ pub record FrameIsAt (t : Functions) (m : Memory) (c : Context) (f : StackFrame)
   pub live : (c.rip == 0) ≡ false
   pub not_filter : (c.rip == filter_return) ≡ false
   pub not_finally : (c.rip == finally_return) ≡ false
+  pub not_vectored : (c.rip == vectored_return) ≡ false
   pub found : entry_of t c.rip ≡ Some f.entry
   pub past_prologue : nat_lt (distance t.base c.rip - f.entry.range.begin)
       f.entry.info.prologue_size ≡ false
@@ -136,6 +138,7 @@ pub record LeafIsAt (t : Functions) (m : Memory) (c : Context) (back : ℕ) : Ty
   pub live : (c.rip == 0) ≡ false
   pub not_filter : (c.rip == filter_return) ≡ false
   pub not_finally : (c.rip == finally_return) ≡ false
+  pub not_vectored : (c.rip == vectored_return) ≡ false
   pub none : entry_of t c.rip ≡ None
   pub kept : length c.kept ≡ 9
   pub room : rsp c + 8 < 2 ^ 64
@@ -144,19 +147,19 @@ pub record LeafIsAt (t : Functions) (m : Memory) (c : Context) (back : ℕ) : Ty
 -- a record at the return address of the host that its funclet has; its EXCEPTION_POINTERS begin
 -- with the address of its EXCEPTION_RECORD
 pub record RecordIsAt (m : Memory) (c : Context) (r : DispatchRecord) (address : ℕ)
-    (searches : Bool) (next : Context) : Type 0 where
+    (is_of_kind : Kind → Bool) (next : Context) : Type 0 where
   pub at_host : c.rip ≡ address
   pub fetches : fetched m (rsp c) ≡ Some r
   pub pointers : word m (rsp c + POINTERS_AT) ≡ Ok (rsp c + 96)
-  pub kind : is_search r.kind ≡ searches
+  pub kind : is_of_kind r.kind ≡ true
   pub above : rsp c + RECORD_SIZE ≤ rsp next
   pub small : rsp next < 2 ^ 64
 
 abbrev pub ItemIsAt : Functions → Memory → Context → StackItem → Type 0
 ItemIsAt t m c (Framed f) = FrameIsAt t m c f
 ItemIsAt t m c (Leaf back) = LeafIsAt t m c back
-ItemIsAt t m c (Searching r) = RecordIsAt m c r filter_return true (context_of r.saved)
-ItemIsAt t m c (Unwinding r) = RecordIsAt m c r finally_return false r.walk
+ItemIsAt t m c (Searching r) = RecordIsAt m c r filter_return is_search (context_of r.saved)
+ItemIsAt t m c (Unwinding r) = RecordIsAt m c r finally_return is_unwinding r.walk
 
 -- the list is there from a context on, up to the first frame, which returns to 0
 abbrev pub IsStack : Functions → Memory → Context → List StackItem → Type 0

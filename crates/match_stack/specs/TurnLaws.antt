@@ -1,12 +1,12 @@
 -- What holds of every turn that searches or unwinds.
-use Rattle.std.specs.Prelude.{◌≡◌, ◌⊎◌, ℕ, ◌+◌, ◌≤◌, false, List, ◌∷◌, length}
+use Rattle.std.specs.Prelude.{◌≡◌, ◌⊎◌, ℕ, ◌+◌, ◌≤◌, true, List, ◌∷◌, length}
 use Rattle.x64_machine.specs.Contexts.{context_of}
 use Rattle.x64_machine.specs.Effect.{State}
 use Rattle.virtual_unwind.specs.Contexts.{rsp}
 use Rattle.virtual_unwind.specs.CallerOf.{Functions}
 use Rattle.seh_records.specs.declared.dispatch.Kind.TheVariants.{Search}
 use Rattle.seh_records.specs.declared.dispatch.DispatchRecord.{DispatchRecord}
-use Rattle.seh_walk.specs.Walk.{is_search}
+use Rattle.seh_walk.specs.Walk.{is_unwinding}
 use Rattle.host_model.specs.declared.funclet.Funclet.{Funclet}
 use Rattle.host_model.specs.Funclets.{arrived}
 use Rattle.host_model.specs.Dispatch.{searches_on, unwinds_on}
@@ -58,7 +58,7 @@ pub record IsUnwinding (t : Functions) (fs : List Funclet) (program : LinearProg
   pub gives : Gives t fs program p
   pub well_formed : IsWellFormed s
   pub on : On t fs program p s.memory r.walk is w.items w.acts
-  pub kind : is_search r.kind ≡ false
+  pub kind : is_unwinding r.kind ≡ true
   pub purpose : HasPurpose t fs program p w.target.code r
   pub room : RecordHasRoom s.memory at r (rsp r.walk)
   pub at_row : IsAtRow t fs program p r.row w.items w.left

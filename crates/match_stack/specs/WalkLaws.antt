@@ -10,7 +10,7 @@ use Rattle.seh_records.specs.Record.{placed}
 use Rattle.seh_records.specs.Laws.{RecordFits, AreBytes}
 use Rattle.seh_records.specs.declared.layout.TheConstants.{RECORD_SIZE}
 use Rattle.seh_walk.specs.Walk as walk
-use Rattle.seh_walk.specs.Walk.{visited, saved_in, walk_in, is_search, filter_return, finally_return}
+use Rattle.seh_walk.specs.Walk.{visited, saved_in, walk_in, is_search, is_unwinding, filter_return, finally_return}
 use Rattle.seh_search.specs.Search.{search}
 use Rattle.seh_unwind.specs.Unwind.{unwind}
 use Rattle.match_stack.specs.Stack.{StackFrame, StackItem, Framed, Leaf, Searching, Unwinding, ItemIsAt, IsStack, Owned, Agree, IsBetween, after_frame, after_leaf, caller_frame, caller_of_leaf, context_at}
@@ -98,7 +98,7 @@ pub record RecordsAreItems (t : Functions) (m : Memory) (is : List StackItem) (r
       → IsStack t m (context_of r.saved) is
       → IsStack t (placed m at r) (context_below filter_return at others) (Searching r ∷ is)
   pub unwinding :
-      is_search r.kind ≡ false → CanBePlaced m at r r.walk → IsStack t m r.walk is
+      is_unwinding r.kind ≡ true → CanBePlaced m at r r.walk → IsStack t m r.walk is
       → IsStack t (placed m at r) (context_below finally_return at others) (Unwinding r ∷ is)
 
 abbrev pub RecordIsOneMore : Type 0

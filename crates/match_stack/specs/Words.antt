@@ -40,9 +40,10 @@ unfoldable pub use Rattle.seh_records.specs.Record.{placed, misplaced, words, fe
 pub use Rattle.seh_records.specs.Words.{block_byte, byte_of}
 unfoldable pub use Rattle.seh_records.specs.Words.{with_block}
 pub use Rattle.seh_records.specs.declared.dispatch.DispatchRecord.{DispatchRecord}
+pub use Rattle.seh_records.specs.declared.dispatch.Kind.{Kind}
 pub use Rattle.seh_records.specs.declared.layout.TheConstants.{RECORD_SIZE, PLACED_SIZE}
 pub use Rattle.seh_walk.specs.Asked.{AskedRecord, holding, rows_from, is_end, unwound, until, until_if, first_with_jump_target, first_finally, is_searched, is_unwound, asked_by, searched}
-pub use Rattle.seh_walk.specs.Walk.{filter_return, finally_return, is_search, walk_in, steps, if_over, if_filter, framed, past_filter, past_finally, if_search, above, if_above, saved_in, continue_walk}
+pub use Rattle.seh_walk.specs.Walk.{filter_return, finally_return, is_search, is_unwinding, walk_in, steps, if_over, if_filter, framed, past_filter, past_finally, if_kind, above, if_above, saved_in, continue_walk}
 unfoldable pub use Rattle.seh_walk.specs.Walk.{visited}
 pub use Rattle.seh_walk.specs.declared.walk.WalkState.{WalkState}
 pub use Rattle.seh_search.specs.Search.{by_handler, chosen}
@@ -51,13 +52,13 @@ pub use Rattle.seh_search.specs.declared.search_result.SearchResult.{SearchResul
 pub use Rattle.seh_unwind.specs.Unwind.{if_past, by_row, if_target}
 unfoldable pub use Rattle.seh_unwind.specs.Unwind.{unwind}
 pub use Rattle.seh_unwind.specs.declared.unwind_result.UnwindResult.{UnwindResult}
-pub use Rattle.host_model.specs.Dispatch.{if_placed, unwinds_on, row_before, entered, in_hand, place_of, parameters, count, new_record, if_finally, accepting, accepted, again, to_target, jumping, searches_on, eax, filter_returned, if_searching, by_answer, by_sign, continued, rows_of, after_search, landed, at_landing, by_purpose, after_unwind}
+pub use Rattle.host_model.specs.Dispatch.{if_placed, unwinds_on, row_before, entered, in_hand, place_of, parameters, count, new_record, if_finally, accepting, accepted, again, asks_at, to_target, jumping, searches_on, eax, filter_returned, if_searching, by_answer, by_sign, continued, rows_of, after_search, landed, at_landing, by_purpose, after_unwind}
 pub use Rattle.host_model.specs.Funclets.{arrived, arrivals}
 pub use Rattle.host_model.specs.Turns.{with_event, Turn, Continues, Ends}
 pub use Rattle.host_model.specs.declared.funclet.Funclet.{Funclet}
 pub use Rattle.match_stack.specs.ControlAddresses.{control_addresses, number_of, NumbersFunctions, ControlsAreOfTheList, ControlAddressesAreOfFunctions}
 pub use Rattle.match_stack.specs.DispatchStates.{IsWellFormed}
-pub use Rattle.match_stack.specs.DispatchSteps.{placed_in, AsksHost, IsException, RaiseSearches, LocalUnwindUnwinds, AcceptanceUnwinds, AnswersContinue, FinallyReturnsUnwind, SearchIsAnswered, AnswersAs}
+pub use Rattle.match_stack.specs.DispatchSteps.{placed_in, anew, AsksHost, IsException, RaiseSearches, LocalUnwindUnwinds, AcceptanceUnwinds, AnswersContinue, FinallyReturnsUnwind, SearchIsAnswered, AnswersAs}
 pub use Rattle.match_stack.specs.FrameHandlers.{NoHandler, FirstHandler, NoBlock, Arrives, FirstBlock}
 pub use Rattle.match_stack.specs.HostSearch.{IsWide, FindsHandler, SearchedAs, CanBeKept, Asks, Accepts}
 pub use Rattle.match_stack.specs.HostUnwind.{store_of, Course, RunsBlock, UnwoundAs, on_top, Lands}

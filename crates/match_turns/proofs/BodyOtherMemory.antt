@@ -22,7 +22,7 @@ module _ (setting : Setting) (s : State) (c : Configuration)
   open setting use {functions as t, funclets as fs, program, plan as p}
 
   abbrev pub elsewhere : State
-  elsewhere = record { cpu = s.cpu; memory = m }
+  elsewhere = record s { memory = m }
 
   abbrev pub source_elsewhere : Configuration
   source_elsewhere = record c { store = record c.store { memory = source } }
@@ -89,6 +89,7 @@ module _ (setting : Setting) (s : State) (c : Configuration)
           rip_small = b.well_formed.rip_small;
           count = b.well_formed.count;
           small = b.well_formed.small;
+          no_handlers = b.well_formed.no_handlers;
         };
         memory = memory;
         body = record {

@@ -187,14 +187,18 @@ module _ (setting : Setting) (roomy : HaveRoom setting.program) where
         (template_here setting roomy s c b counted (instructions.Return from) at)
 
     abbrev pub after : State
-    after = record {
+    after = record s {
       cpu = record {
         registers = run.after.cpu.registers;
         rip = back;
         flags = run.after.cpu.flags;
       };
-      memory = s.memory;
     }
+
+    -- the host's list of handlers is as it was
+    same_handlers : run.after.vectored ≡ s.vectored
+    same_handlers =
+        (reaches_keeps n (machine view s.cpu.rip s.cpu.flags) run.after run.comes).handlers
 
     after_is : run.after ≡ after
     after_is = λ j. record {
@@ -204,6 +208,7 @@ module _ (setting : Setting) (roomy : HaveRoom setting.program) where
         flags = run.after.cpu.flags;
       };
       memory = run.memory j;
+      vectored = same_handlers j;
     }
 
     pub reaches : Reaches n s after

@@ -55,7 +55,7 @@ module _ (t : Functions) (fs : List Funclet) (program : LinearProgram) (p : Imag
       abbrev end : ℕ
       end = last_temporary y c.frame.body (p.leaf c.frame.body)
 
-      abbrev pub in_body : InBody t fs program p q (record { cpu = saved; memory = s.memory })
+      abbrev pub in_body : InBody t fs program p q (record s { cpu = saved })
           (with_last ts c)
       in_body = record {
         acts = b.body.acts;

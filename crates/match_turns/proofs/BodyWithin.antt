@@ -19,7 +19,7 @@ pub in_body_at : (t : Functions) (fs : List Funclet) (program : LinearProgram) (
     → RegistersHold (now_of true cpu) (p.register c.frame.body) 0
     (leaf_values (p.leaf c.frame.body) c.frame.body b.acts)
     → InCode p c.frame.body c.frame.next cpu.rip → cpu.rip < 2 ^ 64
-    → InBody t fs program p q (record { cpu = cpu; memory = s.memory }) c
+    → InBody t fs program p q (record s { cpu = cpu }) c
 in_body_at t fs program p q s c cpu b registers hold inside small =
     let m = s.memory in
     let sp : register cpu Rsp ≡ register s.cpu Rsp = ap (λ (ks : List ℕ). slice_index ks 0)

@@ -221,13 +221,14 @@ module _ (setting : Setting) (made : IsWellMade setting.program setting.plan) wh
     registers_saved : kept_of saved.registers ≡ kept_of s.cpu.registers
     registers_saved = ap (λ x. x ∷ others_of s.cpu.registers) sp_saved
 
-    pub well_formed_saved : IsWellFormed (record { cpu = saved; memory = state.memory })
+    pub well_formed_saved : IsWellFormed (record state { cpu = saved })
     well_formed_saved =
         let raised = (register state.cpu Rsp + 8) % 2 ^ 64 % 2 ^ 64 in
         record {
           rip_small = back_small;
           count = length-set state.cpu.registers 4 raised ∙ well_formed.count;
           small = set_small state.cpu.registers 4 raised well_formed.small (omega arith);
+          no_handlers = well_formed.no_handlers;
         }
 
     -- ---- memory, and the list
@@ -240,7 +241,7 @@ module _ (setting : Setting) (made : IsWellMade setting.program setting.plan) wh
         (pushing.pushed_data given sp back low_enough high_enough b.memory.data_alone
         b.memory.stack)
 
-    abbrev at_return : InBody setting (record { cpu = saved; memory = s.memory }) (waiting c first)
+    abbrev at_return : InBody setting (record s { cpu = saved }) (waiting c first)
     at_return =
         in_body t fs program p q s c b saved c.frame.next (take first c.frame.temporaries)
         registers_saved
@@ -250,11 +251,11 @@ module _ (setting : Setting) (made : IsWellMade setting.program setting.plan) wh
         (caller_framed setting made c.frame.body body c.frame.next
         (instructions.CallBuiltIn f first) b.body.slots.body here refl)
 
-    pub asks : Asks setting state.cpu saved s.memory
+    pub asks : Asks setting state (record s { cpu = saved })
         (pushing.bytes given sp back low_enough high_enough b.memory.data_alone b.memory.stack)
         (waiting c first) b.body.acts
     asks =
-        asks_host setting state.cpu saved s.memory
+        asks_host setting state (record s { cpu = saved })
         (pushing.bytes given sp back low_enough high_enough b.memory.data_alone b.memory.stack)
         (waiting c first) c.frame.next c.store.memory
         at_return resumed b.memory.code

@@ -17,13 +17,16 @@ module _ (setting : Setting) (roomy : HaveRoom setting.program) where
   service_found : (f : BuiltIn) (m : Memory) → FindsReturn t m (address_of (service_of f))
   service_found Put m = image.callers_outside.services m (address_of (service_of Put)) (omega arith)
       (omega arith) (λ e. absurd (omega arith)) (λ e. absurd (omega arith))
+      (λ e. absurd (omega arith))
   service_found Protect m = image.callers_outside.services m (address_of (service_of Protect))
       (omega arith) (omega arith) (λ e. absurd (omega arith)) (λ e. absurd (omega arith))
+      (λ e. absurd (omega arith))
   service_found RaiseException m = image.callers_outside.services m
       (address_of (service_of RaiseException)) (omega arith) (omega arith)
-      (λ e. absurd (omega arith)) (λ e. absurd (omega arith))
+      (λ e. absurd (omega arith)) (λ e. absurd (omega arith)) (λ e. absurd (omega arith))
   service_found Walk m = image.callers_outside.services m (address_of (service_of Walk))
       (omega arith) (omega arith) (λ e. absurd (omega arith)) (λ e. absurd (omega arith))
+      (λ e. absurd (omega arith))
 
   -- the program calls it
   abbrev pub calls_it : (s : State) (c : Configuration) (b : RepresentsAt setting s c)

@@ -109,13 +109,12 @@ module _ (setting : Setting) (roomy : HaveRoom setting.program) where
       (framed : p.leaf w.body ≡ false) where
     -- the same state, but that the instruction of the call begins
     abbrev pub earlier : State
-    earlier = record {
+    earlier = record u {
       cpu = record {
         registers = u.cpu.registers;
         rip = p.address w.body w.next;
         flags = u.cpu.flags;
       };
-      memory = u.memory;
     }
 
     abbrev pub caller : Configuration
@@ -133,6 +132,7 @@ module _ (setting : Setting) (roomy : HaveRoom setting.program) where
             rip_small = small_address;
             count = well_formed.count;
             small = well_formed.small;
+            no_handlers = well_formed.no_handlers;
           };
           memory = memory;
           body = waits_in_body t fs program p q image earlier above is w items acts w.next
@@ -141,6 +141,7 @@ module _ (setting : Setting) (roomy : HaveRoom setting.program) where
                 rip_small = small_address;
                 count = well_formed.count;
                 small = well_formed.small;
+                no_handlers = well_formed.no_handlers;
               }) (λ at end h. h)
               (framed_hold (now_of true u.cpu) (p.register w.body) (p.leaf w.body) acts w.body
               framed);
@@ -307,6 +308,7 @@ module _ (setting : Setting) (roomy : HaveRoom setting.program) where
             fixed = k.fixed;
             count = k.count;
             small = k.small;
+            handlers = k.handlers;
           } in
           let d : BodyState = record {
             slots = with_slot

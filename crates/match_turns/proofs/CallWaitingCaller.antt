@@ -61,9 +61,8 @@ module _ {setting : Setting} (at_call : AtCall setting) where
 
   -- the caller's state once the callee has returned, but for its memory
   abbrev pub later : State
-  later = record {
+  later = record s {
     cpu = record { registers = s.cpu.registers; rip = back; flags = s.cpu.flags };
-    memory = s.memory;
   }
 
   abbrev called_at : ℕ

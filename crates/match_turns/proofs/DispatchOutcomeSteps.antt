@@ -2,7 +2,7 @@
 use Rattle.std.proofs.Common.{◌≡◌, ℕ, ◌+◌, ◌≤◌, Bool, true, false, List, [], ◌∷◌, ◌++◌, length, refl, ap, ◌∙◌, arith, inl, inr, append_assoc}
 use Rattle.std.specs.Prelude.{nat_lt}
 use Rattle.std.proofs.lemmas.List.{append-nil}
-use Rattle.match_turns.specs.Words.{Event, Context, State, Functions, Funclet, Turn, Continues, with_event, Ends, arrived, turn, Deep, Instruction, LinearProgram, Configuration, Seen, Finished, Next, pick, act, ImagePlan, KeepsShadow, IsLive, Comes, LeadsTo, IsMatched, Sites, turns_left, KnownNext, entry_turns, KeepsWith, with_events, EndsRun}
+use Rattle.match_turns.specs.Words.{Event, LiveCallers, State, Functions, Funclet, Turn, Continues, with_event, Ends, arrived, turn, Deep, Instruction, LinearProgram, Configuration, Seen, Finished, Next, pick, act, ImagePlan, KeepsShadow, IsLive, Comes, LeadsTo, IsMatched, Sites, turns_left, KnownNext, entry_turns, KeepsWith, with_events, EndsRun}
 use Rattle.match_turns.specs.DispatchOutcome.{ContinuesAs}
 use Rattle.seh_num.specs.declared.end.RunEnd.TheVariants as ends
 use Rattle.match_turns.proofs.Lemmas.{comes_one, silently_before, silently_after, matched_as}
@@ -51,10 +51,10 @@ module _ (t : Functions) (fs : List Funclet) (program : LinearProgram) (p : Imag
 
     -- an outcome by other names, with as many turns left or more
     pub outcome_by : (x y : Turn) (seen other : Next → Seen) (es : List Event) (left more : ℕ)
-        (shadow : List Context) → y ≡ x → ((next : Next) → other next ≡ seen next) → left ≤ more
-        → Outcome t fs program p q x seen es left shadow
-        → Outcome t fs program p q y other es more shadow
-    outcome_by x y seen other es left more shadow e same le (inl g) = let few = g.few in
+        (live : LiveCallers) → y ≡ x → ((next : Next) → other next ≡ seen next) → left ≤ more
+        → Outcome t fs program p q x seen es left live
+        → Outcome t fs program p q y other es more live
+    outcome_by x y seen other es left more live e same le (inl g) = let few = g.few in
         inl (record {
           state = g.state;
           events = g.events;
@@ -67,7 +67,7 @@ module _ (t : Functions) (fs : List Funclet) (program : LinearProgram) (p : Imag
           walk = g.walk;
           leads = g.leads;
         })
-    outcome_by x y seen other es left more shadow e same le (inr (inl g)) = inr (inl (record {
+    outcome_by x y seen other es left more live e same le (inr (inl g)) = inr (inl (record {
       state = g.state;
       event = g.event;
       turns = e ∙ g.turns;
@@ -82,7 +82,7 @@ module _ (t : Functions) (fs : List Funclet) (program : LinearProgram) (p : Imag
       walk = g.walk;
       leads = g.leads;
     }))
-    outcome_by x y seen other es left more shadow e same le (inr (inr g)) = inr
+    outcome_by x y seen other es left more live e same le (inr (inr g)) = inr
         (inr (record {
           code = g.code;
           turns = e ∙ g.turns;
@@ -90,20 +90,20 @@ module _ (t : Functions) (fs : List Funclet) (program : LinearProgram) (p : Imag
         }))
 
     pub outcome_same : (x y : Turn) (seen other : Next → Seen) (es : List Event) (left : ℕ)
-        (shadow : List Context) → y ≡ x → ((next : Next) → other next ≡ seen next)
-        → Outcome t fs program p q x seen es left shadow
-        → Outcome t fs program p q y other es left shadow
-    outcome_same x y seen other es left shadow e same o = outcome_by x y seen other es left left
-        shadow e same (omega arith) o
+        (live : LiveCallers) → y ≡ x → ((next : Next) → other next ≡ seen next)
+        → Outcome t fs program p q x seen es left live
+        → Outcome t fs program p q y other es left live
+    outcome_same x y seen other es left live e same o = outcome_by x y seen other es left left
+        live e same (omega arith) o
 
     -- silent turns, and one turn of the host, which shows some events before those of its outcome
     module _ (turns_per_step k left : ℕ) (s u : State) (c : Configuration) (i : Instruction)
         (before : List Event) (x : Turn)
-        (silent : Comes t fs k s [] u) (live : IsLive u) (turns : turn t fs u ≡ with_events before
+        (silent : Comes t fs k s [] u) (going : IsLive u) (turns : turn t fs u ≡ with_events before
         x)
         (enough : k + 1 + entry_turns + left ≤ turns_per_step + turns_left c)
-        (known : KnownNext program c i) (shadow : List Context)
-        (keeps : KeepsWith t fs program p q u shadow) where
+        (known : KnownNext program c i) (live : LiveCallers)
+        (keeps : KeepsWith t fs program p q u live) where
       abbrev Matched : Type 0
       Matched = IsMatched t fs program turns_per_step turns_left (Represents t fs program p q) s c i
 
@@ -113,9 +113,9 @@ module _ (t : Functions) (fs : List Funclet) (program : LinearProgram) (p : Imag
       reaches : (state : State) (events : List Event) → x ≡ Continues state events
           → KeepsShadow t fs u state → Comes t fs (k + 1) s (before ++ events) state
       reaches state events e kept = silently_before t fs k 1 s u state (before ++ events) silent
-          (comes_one t fs u state (before ++ events) live (turns ∙ ap (with_events before) e) kept)
+          (comes_one t fs u state (before ++ events) going (turns ∙ ap (with_events before) e) kept)
 
-      matched_on : ContinuesAs t fs program p q x step (c.events ++ before) left shadow → Matched
+      matched_on : ContinuesAs t fs program p q x step (c.events ++ before) left live → Matched
       matched_on g =
           let few = g.few in
           let l = g.leads (known g.configuration g.acts) in
@@ -134,7 +134,7 @@ module _ (t : Functions) (fs : List Funclet) (program : LinearProgram) (p : Imag
             is_there = l.is_there;
           })
 
-      matched_in : EntersFunclet t fs program p q x step (c.events ++ before) left shadow → Matched
+      matched_in : EntersFunclet t fs program p q x step (c.events ++ before) left live → Matched
       unfolding pick
       matched_in g = by (nat_lt 1000 (length g.store.activations + g.held + g.more)) refl
         where
@@ -183,7 +183,7 @@ module _ (t : Functions) (fs : List Funclet) (program : LinearProgram) (p : Imag
         state = u;
         events = [];
         comes = silent;
-        live = live;
+        live = going;
         last = before;
         code = g.code;
         ends = turns ∙ ap (with_events before) g.turns
@@ -191,7 +191,7 @@ module _ (t : Functions) (fs : List Funclet) (program : LinearProgram) (p : Imag
         acts = g.acts;
       })))
 
-      pub matched_by_turn : Outcome t fs program p q x step (c.events ++ before) left shadow →
+      pub matched_by_turn : Outcome t fs program p q x step (c.events ++ before) left live →
           Matched
       matched_by_turn (inl g) = matched_on g
       matched_by_turn (inr (inl g)) = matched_in g

@@ -1,10 +1,10 @@
 -- At the host's return addresses: a filter has answered, a `__finally` block has ended.
 use Rattle.std.proofs.Common.{◌≡◌, ℕ, zero, ◌+◌, ◌*◌, ◌≤◌, Bool, List, [], ◌∷◌, ◌++◌, Option, Some, None, refl, sym, ap, subst, ◌∙◌, arith, inl, inr, append_assoc, length-append}
 use Rattle.std.proofs.lemmas.List.{append-nil}
-use Rattle.match_turns.specs.Words.{W32, Event, signed, Rsp, Context, context_of, State, register, rsp, distance, DispatchRecord, placed, Turn, Continues, with_event, arrivals, arrived, accepted, searches_on, unwinds_on, finally_returned, eax, again, restored, if_unwinding, Exception, noncontinuable, raise_event, Region, Handler, Target, Resumption, AfterCall, SameOperation, Waits, Unwinds, Item, Frame, Store, Seen, Next, Configuration, handlers, search, accept, resumed, unwind, end_finally, exec, StackItem, Unwinding, Activation, locals_of, On, RecordHasRoom, store_of, IsWellFormed, Unwound, placed_in, SearchIsAnswered, AnswersAs, filter_turn, linear_answer, with_answer, answered, AsksTheNext, AskedTakesOver, ContinuesException, IsRaisedAnew, HasRule, WalkGives, callers, held_below, turns_left, FlagsFit, NoneLanded, Setting, IsMachineMemory, Continuations, Outcome, Shows, ResumesFrom}
+use Rattle.match_turns.specs.Words.{W32, Event, signed, Rsp, LiveCallers, context_of, State, register, rsp, distance, DispatchRecord, placed, Turn, Continues, with_event, arrivals, arrived, accepted, searches_on, unwinds_on, finally_returned, eax, anew, restored, if_unwinding, Exception, noncontinuable, raise_event, Region, Handler, Target, Resumption, AfterCall, SameOperation, Waits, Unwinds, Item, Frame, Store, Seen, Next, Configuration, handlers, search, accept, resumed, unwind, end_finally, exec, StackItem, Unwinding, Activation, locals_of, On, RecordHasRoom, store_of, IsWellFormed, Unwound, placed_in, SearchIsAnswered, AnswersAs, filter_turn, linear_answer, with_answer, answered, AsksTheNext, AskedTakesOver, ContinuesException, IsRaisedAnew, HasRule, WalkGives, drop_below, live_from, held_below, turns_left, FlagsFit, NoneLanded, Setting, IsMachineMemory, Continuations, Outcome, Shows, ResumesFrom}
 use Rattle.seh_records.specs.Record.{fetched}
 use Rattle.seh_num.specs.declared.event.Event.TheVariants as events
-use Rattle.match_turns.proofs.Lemmas.{in_stack, answers_continue, finally_returns_unwind, none_below, on_stack, stack_rises}
+use Rattle.match_turns.proofs.Lemmas.{in_stack, answers_continue, finally_returns_unwind, none_below, none_started, on_stack, stack_rises}
 use Rattle.match_stack.proofs.FilterAnswers.{filter_returns}
 use Rattle.match_turns.proofs.DispatchMemory.{memory_untouched, placing}
 use Rattle.match_turns.proofs.DispatchOutcomeSteps.{arrived_with, with_one, with_two, with_none, outcome_same, outcome_by}
@@ -34,12 +34,12 @@ module _ (setting : Setting) (fits : FlagsFit setting.program) where
     abbrev at : ℕ
     at = rsp (context_of s.cpu)
 
-    abbrev pub shadow : List Context
-    shadow = callers (context_of r.saved) is
+    abbrev pub live : LiveCallers
+    live = live_from (context_of r.saved) is
 
     abbrev Answers : Type 0
     Answers = Shows setting (arrived t fs (filter_turn t s)) (event ∷ []) seen c.events
-        (turns_left c + 3) shadow
+        (turns_left c + 3) live
 
     onward : AnswersAs t fs program p s r is acts exception asked rest c'
     onward = answers_continue t fs program p s r is acts exception resumption asked rest c'
@@ -49,7 +49,7 @@ module _ (setting : Setting) (fits : FlagsFit setting.program) where
     resumes = answers.on.is_there.linked.0.resumes
 
     shows : (x : Turn) → filter_turn t s ≡ with_answer s x
-        → Outcome setting (arrived t fs x) seen (c.events ++ event ∷ []) (turns_left c + 3) shadow
+        → Outcome setting (arrived t fs x) seen (c.events ++ event ∷ []) (turns_left c + 3) live
         → Answers
     shows x e outcome = record {
       further = arrived t fs x;
@@ -65,7 +65,7 @@ module _ (setting : Setting) (fits : FlagsFit setting.program) where
         shows x a.turns
         (outcome_by t fs program p q (arrived t fs x) (arrived t fs x)
         (λ next. search program next rest exception resumption c') seen
-        (c.events ++ event ∷ []) (turns_left c) (turns_left c + 3) shadow refl a.goes (omega arith)
+        (c.events ++ event ∷ []) (turns_left c) (turns_left c + 3) live refl a.goes (omega arith)
         (searched setting fits s at r is acts exception rest c' onward.next memory store resumption
         resumes (subst HasRule (a.goes (exec program zero)) rule)))
 
@@ -76,7 +76,7 @@ module _ (setting : Setting) (fits : FlagsFit setting.program) where
         shows x a.turns
         (outcome_by t fs program p q (arrived t fs x) (arrived t fs x)
         (λ next. accept program asked exception next c') seen
-        (c.events ++ event ∷ []) (turns_left c) (turns_left c + 3) shadow refl a.goes (omega arith)
+        (c.events ++ event ∷ []) (turns_left c) (turns_left c + 3) live refl a.goes (omega arith)
         (taken_over setting fits s at r is acts exception rest c' onward.next memory store asked
         r.frame a.address a.frame_small a.address_small a.aimed
         (subst HasRule (a.goes (exec program zero)) rule)))
@@ -96,9 +96,11 @@ module _ (setting : Setting) (fits : FlagsFit setting.program) where
           acts = a.goes;
           shown = shown_same resumption;
           silent = continued_silently a;
-          walk = (let stack = a.on.is_there.stack in
+          walk = λ v le. (let stack = a.on.is_there.stack in
               subst (WalkGives t (restored s r))
-              (sym (none_below (rsp (context_of r.saved)) shadow
+              (sym (ap (drop_below (rsp (context_of r.saved)))
+              (none_started t fs v (restored s r) live.callers le)
+              ∙ none_below (rsp (context_of r.saved)) live.callers
               (stack_rises t s.memory (context_of r.saved) is stack)))
               (on_stack t s.memory (context_of r.saved) 0 is stack));
           leads = λ known. l.1 known free;
@@ -123,7 +125,7 @@ module _ (setting : Setting) (fits : FlagsFit setting.program) where
     raised_anew : IsRaisedAnew t program s r exception resumption asked rest c
         → HasRule (seen (exec program zero))
         → Shows setting (arrived t fs (filter_turn t s)) (event ∷ raise_event noncontinuable ∷ [])
-        seen c.events (turns_left c + 3) shadow
+        seen c.events (turns_left c + 3) live
     raised_anew a rule =
         let e = raise_event noncontinuable in
         let c2 : Configuration = record {
@@ -134,43 +136,43 @@ module _ (setting : Setting) (fits : FlagsFit setting.program) where
         } in
         let g = answers_continue t fs program p s r is acts exception resumption asked rest c2
         (record { gives = answers.gives; well_formed = answers.well_formed; on = answers.on }) in
-        let anew = again r in
-        let x = searches_on t (placed_in s at anew) at anew in
+        let r' = anew r in
+        let x = searches_on t (placed_in s at r') at r' in
         let y = arrived t fs x in
         let above = rsp (context_of r.saved) in
         let top = in_stack t fs program p s.memory (context_of r.saved) is (Waits c.frame ∷ c.below)
         acts g.next.on.is_there.stack g.next.on.is_there.linked in
-        let room : RecordHasRoom s.memory at anew
+        let room : RecordHasRoom s.memory at r'
         above = record {
-          fits = g.anew.room.fits;
+          fits = g.searches_anew.room.fits;
           below = g.next.room.below;
           small = g.next.room.small;
           room = g.next.room.room;
         } in
-        let untouched = placing s.memory at anew above answers.on.data_alone room top in
-        let memory' = memory_untouched t fs program p q s.memory (placed s.memory at anew)
-        c.store.memory untouched memory g.anew.on.data_alone in
+        let untouched = placing s.memory at r' above answers.on.data_alone room top in
+        let memory' = memory_untouched t fs program p q s.memory (placed s.memory at r')
+        c.store.memory untouched memory g.searches_anew.on.data_alone in
         let assoc = append_assoc c.events (event ∷ []) (e ∷ []) in
         record {
           further = y;
           turns = ap (arrived t fs) (a.turns ∙ ap (with_answer s) g.raises)
               ∙ arrived_with t fs event (with_event e x)
               ∙ ap (with_event event) (arrived_with t fs e x) ∙ with_two event e y;
-          outcome = subst (λ (es : List Event). Outcome setting y seen es (turns_left c + 3) shadow)
+          outcome = subst (λ (es : List Event). Outcome setting y seen es (turns_left c + 3) live)
               assoc (outcome_by t fs program p q y y
               (λ next. search program next (handlers program (Waits c.frame ∷ c.below) None)
               noncontinuable resumption c2) seen ((c.events ++ event ∷ []) ++ e ∷ [])
-              (turns_left c) (turns_left c + 3) shadow refl a.goes (omega arith)
-              (searched setting fits (placed_in s at anew) at anew is acts noncontinuable
-              (handlers program (Waits c.frame ∷ c.below) None) c2 g.anew memory' store resumption
-              resumes (subst HasRule (a.goes (exec program zero)) rule)));
+              (turns_left c) (turns_left c + 3) live refl a.goes (omega arith)
+              (searched setting fits (placed_in s at r') at r' is acts noncontinuable
+              (handlers program (Waits c.frame ∷ c.below) None) c2 g.searches_anew memory' store
+              resumption resumes (subst HasRule (a.goes (exec program zero)) rule)));
         }
 
     -- whatever it answers
     pub record AnswerShows : Type 0 where
       pub before : List Event
       pub shown : Shows setting (arrived t fs (filter_turn t s)) before seen c.events
-          (turns_left c + 3) shadow
+          (turns_left c + 3) live
 
     pub filter_answered : HasRule (seen (exec program zero)) → AnswerShows
     filter_answered rule = elim (filter_returns t fs program p s r is acts exception resumption
@@ -202,7 +204,7 @@ module _ (setting : Setting) (fits : FlagsFit setting.program) where
       → Shows setting (arrived t fs (finally_returned t s (register s.cpu Rsp)
       (fetched s.memory (register s.cpu Rsp)))) []
       (λ next. end_finally program next c.below c.events c.store) c.events (turns_left c)
-      (callers r.walk is)
+      (live_from r.walk is)
   finally_ended s r is acts rest target f below c well_formed on memory store under unlanded rule =
       let at = register s.cpu Rsp in
       let w : Unwound = record {
@@ -231,7 +233,7 @@ module _ (setting : Setting) (fits : FlagsFit setting.program) where
       let done = outcome_same t fs program p q x y
       (λ next. unwind program next w.target w.items w.left w.shown (store_of w.source w.acts))
       (λ next. end_finally program next c.below c.events c.store) c.events (turns_left c)
-      (callers r.walk is) turns same
+      (live_from r.walk is) turns same
       (unwound setting fits w (turns_left c) few (λ e. subst NoneLanded under unlanded) s at r is u
       memory (subst HasRule (same (exec program zero)) rule)) in
       record {
@@ -239,5 +241,5 @@ module _ (setting : Setting) (fits : FlagsFit setting.program) where
         turns = with_none y;
         outcome = subst (λ (es : List Event). Outcome setting y
             (λ next. end_finally program next c.below c.events c.store) es (turns_left c)
-            (callers r.walk is)) (sym (append-nil c.events)) done;
+            (live_from r.walk is)) (sym (append-nil c.events)) done;
       }

@@ -2,7 +2,7 @@
 -- block above an unwinding.
 use Rattle.std.proofs.Common.{◌≡◌, ℕ, zero, ◌+◌, ◌≤◌, List, [], ◌∷◌, ap, subst, arith}
 use Rattle.std.specs.Prelude.{◌==◌}
-use Rattle.match_turns.specs.Words.{Rsp, context_of, State, register, DispatchRecord, filter_return, finally_return, arrived, finally_returned, Exception, Instruction, Region, Frame, Handler, Target, Resumption, Item, Waits, Searches, Unwinds, Configuration, Next, act, end_finally, exec, StackItem, Searching, Unwinding, Activation, locals_of, On, IsWellFormed, SearchIsAnswered, filter_turn, linear_answer, IsLive, Comes, HasRule, IsMatched, callers, held_below, turns_left, KnownNext, FlagsFit, NoneLanded, waiting_below, Setting, IsMachineMemory, Continuations, Represents}
+use Rattle.match_turns.specs.Words.{Rsp, context_of, State, register, DispatchRecord, filter_return, finally_return, arrived, finally_returned, Exception, Instruction, Region, Frame, Handler, Target, Resumption, Item, Waits, Searches, Unwinds, Configuration, Next, act, end_finally, exec, StackItem, Searching, Unwinding, Activation, locals_of, On, IsWellFormed, SearchIsAnswered, filter_turn, linear_answer, IsLive, Comes, HasRule, IsMatched, live_from, held_below, turns_left, KnownNext, FlagsFit, NoneLanded, waiting_below, Setting, IsMachineMemory, Continuations, Represents}
 use Rattle.seh_records.specs.Record.{fetched}
 use Rattle.match_turns.proofs.Lemmas.{on_stack}
 use Rattle.match_turns.proofs.DispatchReturn.{filter_answered, finally_ended}
@@ -30,7 +30,7 @@ module _ (setting : Setting) (fits : FlagsFit setting.program) where
   filter_step continues k s u c i r is acts exception resumption asked rest w below silent few at
       under unlanded answers memory store goes rule known =
       let d = waiting_below c w below in
-      let live : IsLive u = ap (λ a. a == 0) at in
+      let going : IsLive u = ap (λ a. a == 0) at in
       let a = filter_answered setting fits continues u r is acts exception resumption
       asked rest d answers memory store (subst NoneLanded under unlanded).0
       (subst HasRule (goes (exec program zero)) rule) in
@@ -38,8 +38,9 @@ module _ (setting : Setting) (fits : FlagsFit setting.program) where
       matched_when_shown t fs program p q 16 k (turns_left d + 3) s u c i
       (arrived t fs (filter_turn t u)) a.before
       (λ next. linear_answer program u exception resumption asked rest d next)
-      (callers (context_of r.saved) is) silent live (filter_turns t fs u at)
-      (filter_return_keeps t fs program p q u (callers (context_of r.saved) is) at
+      (live_from (context_of r.saved) is) silent going (filter_turns t fs u at)
+      (filter_return_keeps t fs program p q u (live_from (context_of r.saved) is) at
+      (let h = answers.on.is_there.stack.0.above in omega arith)
       (on_stack t u.memory (context_of u.cpu) 0 (Searching r ∷ is) answers.on.is_there.stack))
       a.shown goes (omega arith) known
 
@@ -59,14 +60,15 @@ module _ (setting : Setting) (fits : FlagsFit setting.program) where
   finally_step k s u c i r is acts rest target f below silent few at under unlanded well_formed on
       memory store
       goes rule known =
-      let live : IsLive u = ap (λ a. a == 0) at in
+      let going : IsLive u = ap (λ a. a == 0) at in
       let a = finally_ended setting fits u r is acts rest target f below c well_formed on
       memory store under unlanded (subst HasRule (goes (exec program zero)) rule) in
       matched_when_shown t fs program p q 16 k (turns_left c) s u c i
       (arrived t fs (finally_returned t u (register u.cpu Rsp)
       (fetched u.memory (register u.cpu Rsp)))) []
-      (λ next. end_finally program next c.below c.events c.store) (callers r.walk is) silent live
+      (λ next. end_finally program next c.below c.events c.store) (live_from r.walk is) silent going
       (finally_turns t fs u at)
-      (finally_return_keeps t fs program p q u (callers r.walk is) at
+      (finally_return_keeps t fs program p q u (live_from r.walk is) at
+      (let h = on.is_there.stack.0.above in omega arith)
       (on_stack t u.memory (context_of u.cpu) 0 (Unwinding r ∷ is) on.is_there.stack)) a goes
       (omega arith) known

@@ -1,7 +1,7 @@
 -- A body asks the dispatcher: a raise and a local unwind.
 use Rattle.std.proofs.Common.{◌≡◌, ℕ, zero, ◌^◌, ◌<◌, ◌≤◌, Bool, List, [], ◌∷◌, ◌++◌, length, Option, None, sym, ap, subst, ◌∙◌, arith}
 use Rattle.std.proofs.lemmas.List.{append-nil}
-use Rattle.match_turns.specs.Words.{Code, Event, Cpu, context_of, State, rsp, placed, arrived, raised, unwound_locally, searches_on, unwinds_on, place_of, new_record, to_target, Exception, raise_event, Target, Resumption, Waits, Store, Next, Configuration, handlers, raise, unwind, local_unwind, exec, StackItem, Activation, locals_of, Aimed, RecordHasRoom, store_of, placed_in, from_body, AsksHost, IsException, HasRule, callers, turns_left, FlagsFit, NoneLanded, Setting, IsMachineMemory, Outcome, Shows, ResumesFrom}
+use Rattle.match_turns.specs.Words.{Code, Event, Cpu, context_of, State, rsp, placed, arrived, raised, unwound_locally, searches_on, unwinds_on, place_of, new_record, to_target, Exception, raise_event, Target, Resumption, Waits, Store, Next, Configuration, handlers, raise, unwind, local_unwind, exec, StackItem, Activation, locals_of, Aimed, RecordHasRoom, store_of, placed_in, from_body, AsksHost, IsException, HasRule, live_from, turns_left, FlagsFit, NoneLanded, Setting, IsMachineMemory, Outcome, Shows, ResumesFrom}
 use Rattle.seh_records.specs.declared.dispatch.Kind.TheVariants.{Search}
 use Rattle.match_turns.proofs.Lemmas.{in_stack, raise_searches, local_unwind_unwinds}
 use Rattle.match_turns.proofs.DispatchMemory.{memory_untouched, placing}
@@ -37,7 +37,7 @@ module _ (setting : Setting) (fits : FlagsFit setting.program) where
         → HasRule (raise program (exec program zero) exception resumption c)
         → Shows setting (arrived t fs (raised t s code flags access saved))
         (raise_event exception ∷ []) (λ next. raise program next exception resumption c) c.events
-        (turns_left c) (callers (context_of saved) is)
+        (turns_left c) (live_from (context_of saved) is)
     raised_as code flags access exception resumption is_exception resumes rule =
         let e = raise_event exception in
         let c' = having_shown e c in
@@ -75,7 +75,7 @@ module _ (setting : Setting) (fits : FlagsFit setting.program) where
         → NoneLanded (Waits c.frame ∷ c.below)
         → Shows setting (arrived t fs (unwound_locally t s frame address saved)) []
         (λ next. local_unwind program next label c) c.events (turns_left c)
-        (callers (context_of saved) is)
+        (live_from (context_of saved) is)
     unwound_to frame address label frame_small address_small aimed rule unlanded =
         let r = to_target saved frame address in
         let at = place_of saved in
@@ -110,7 +110,7 @@ module _ (setting : Setting) (fits : FlagsFit setting.program) where
         (arrived t fs (unwound_locally t s frame address saved))
         (λ next. unwind program next w.target w.items w.left w.shown (store_of w.source w.acts))
         (λ next. local_unwind program next label c) c.events (turns_left c)
-        (callers (context_of saved) is)
+        (live_from (context_of saved) is)
         (ap (arrived t fs) a.turns) same
         (unwound setting fits w (turns_left c) (omega arith) (λ e. unlanded) (placed_in s at r) at r
         is u memory' (subst HasRule (same (exec program zero)) rule)) in
@@ -120,5 +120,5 @@ module _ (setting : Setting) (fits : FlagsFit setting.program) where
           outcome = subst (λ (es : List Event). Outcome setting
               (arrived t fs (unwound_locally t s frame address saved))
               (λ next. local_unwind program next label c) es (turns_left c)
-              (callers (context_of saved) is)) (sym (append-nil c.events)) done;
+              (live_from (context_of saved) is)) (sym (append-nil c.events)) done;
         }

@@ -2,12 +2,12 @@
 -- where it lands, and at its services.
 use Rattle.std.proofs.Common.{◌≡◌, ◌≢◌, ℕ, ◌+◌, ◌%◌, ◌^◌, ◌<◌, true, false, Option, Some, None, Ok, List, [], ◌∷◌, length, refl, sym, ap, subst, ◌∙◌, arith}
 use Rattle.std.specs.Prelude.{Result, slice_get, slice_set}
-use Rattle.match_turns.specs.Words.{W64, RefusedAccess, Memory, loaded, Rdx, Rsp, Rbx, Rbp, Rsi, Rdi, R12, R13, R14, R15, Cpu, Context, kept_of, context_of, State, register, rsp, readable, DispatchRecord, filter_return, finally_return, steps, Turn, at_landing, back, Exception, LinearFunclet, BodyName, FuncletBody, funclet_body, Handler, Resumption, Item, Configuration, StackItem, Framed, IsStack, after_frame, context_below, state, parent_body, IsFunclet, Activation, Arrives, FilterBegins, Unwound, BlockBegins, LandsThere, IsUnwinding, drop_below, GivesCallers, WalkGives, caller_at, callers, caller_above, FindsReturn, owed_of, Setting, IsMachineMemory, WalkContinues}
+use Rattle.match_turns.specs.Words.{W64, RefusedAccess, Memory, loaded, Rdx, Rsp, Rbx, Rbp, Rsi, Rdi, R12, R13, R14, R15, Cpu, Context, kept_of, context_of, State, register, rsp, readable, DispatchRecord, filter_return, finally_return, vectored_return, steps, Turn, at_landing, back, Exception, LinearFunclet, BodyName, FuncletBody, funclet_body, Handler, Resumption, Item, Configuration, StackItem, Framed, IsStack, after_frame, context_below, state, parent_body, IsFunclet, Activation, Arrives, FilterBegins, Unwound, BlockBegins, LandsThere, IsUnwinding, drop_below, GivesCallers, WalkGives, caller_at, callers, caller_above, FindsReturn, owed_of, Setting, IsMachineMemory, live_from, WalkContinues}
 use Rattle.virtual_unwind.specs.Undone.{word}
 use Rattle.seh_num.specs.declared.event.Event.TheVariants as events
-use Rattle.match_turns.proofs.Lemmas.{finds_return, frame_is_owed, owed_with, nine_numbers, few_items, none_below, on_stack, gives_caller, begin_finds, word_is}
+use Rattle.match_turns.proofs.Lemmas.{finds_return, frame_is_owed, owed_with, nine_numbers, few_items, none_below, none_started, on_stack, gives_caller, begin_finds, word_is}
 use Rattle.match_bodies.proofs.BodyResumption.{same_teller}
-use Rattle.match_bodies.proofs.UnwindWalks.{block_callers, landing_callers}
+use Rattle.match_bodies.proofs.UnwindWalks.{block_callers, landing_callers, landing_above}
 
 -- the nonvolatile registers, with another stack pointer
 kept_with : (rs : List ℕ) (v : ℕ) → length rs ≡ 16
@@ -76,9 +76,9 @@ module _ (setting : Setting) where
       (exception : Exception) (resumption : Resumption) (is : List StackItem)
       (acts : List Activation) (c : Configuration)
       → (f : FilterBegins t fs program p s at r turn found exception resumption is acts c)
-      → WalkContinues setting (callers (context_of r.saved) is) f.state
+      → WalkContinues setting (live_from (context_of r.saved) is) f.state
       (events.Filter (f.filter + 1) ∷ [])
-  filter_walk s at r turn found exception resumption is acts c f =
+  filter_walk s at r turn found exception resumption is acts c f = λ v le.
       let cs = callers (context_of r.saved) is in
       let a = f.arrives in
       let same = λ (others : List ℕ). ap (callers (context_below a.back a.at others)) f.list
@@ -95,8 +95,9 @@ module _ (setting : Setting) where
 
     -- a `__finally` block, on those from its frame up
     pub block_walk : (b : BlockBegins t fs program p s r turn w)
-        → WalkContinues setting (callers r.walk is) b.state (events.Finally (b.block + 1) true ∷ [])
-    block_walk b =
+        → WalkContinues setting (live_from r.walk is) b.state
+        (events.Finally (b.block + 1) true ∷ [])
+    block_walk b = λ v le.
         let a = b.arrives in
         let cs = callers b.to b.inner in
         let same = λ (others : List ℕ). ap (callers (context_below a.back a.at others)) b.list
@@ -116,8 +117,8 @@ module _ (setting : Setting) where
 
     pub landing_walk : (l : LandsThere t fs program p s r turn w) (rax : ℕ)
         → IsMachineMemory setting s.memory w.source
-        → WalkContinues setting (callers r.walk is) (at_landing s l.to rax r.target) []
-    landing_walk l rax memory =
+        → WalkContinues setting (live_from r.walk is) (at_landing s l.to rax r.target) []
+    landing_walk l rax memory = λ v le.
         let f = l.framed in
         let is_there = l.on.is_there.stack.0 in
         let waits = l.on.is_there.linked.0 in
@@ -139,19 +140,23 @@ module _ (setting : Setting) where
         let landed : WalkGives t (at_landing s l.to rax r.target) (after_frame l.to f ∷ cs) = subst
         (λ (ks : List ℕ). GivesCallers t s.memory (state (record { rip = r.target; kept = ks }) 0)
         (after_frame l.to f ∷ cs)) (sym (nine_numbers l.to.kept is_there.kept)) here in
+        let rises = landing_above t s.memory r.target_frame r.target r.walk r.row is steps
+        u.on.is_there.stack short l.to l.answer in
         subst (WalkGives t (at_landing s l.to rax r.target))
-        (sym (landing_callers t s.memory r.target_frame r.target r.walk r.row is steps
+        (sym (ap (drop_below (rsp l.to))
+        (none_started t fs v (at_landing s l.to rax r.target) (callers r.walk is) (omega arith))
+        ∙ landing_callers t s.memory r.target_frame r.target r.walk r.row is steps
         u.on.is_there.stack short l.to (Framed f ∷ l.is) l.answer l.on.is_there.stack)) landed
 
   -- ---- at a service of the host
 
   -- the walk gives the service's own call, and what it gives from the state after its return
   pub service_walk : (s : State) (a ret : ℕ) (is : List StackItem) → s.cpu.rip ≡ a → 0 < a
-      → a < 0x100000000 → a ≢ filter_return → a ≢ finally_return
+      → a < 0x100000000 → a ≢ filter_return → a ≢ finally_return → a ≢ vectored_return
       → loaded s.memory (register s.cpu Rsp) W64 ≡ Ok ret → length s.cpu.registers ≡ 16
       → register s.cpu Rsp + 8 < 2 ^ 64 → IsStack t s.memory (context_of (back s ret).cpu) is
       → (c : Context) × WalkGives t s (c ∷ callers (context_of (back s ret).cpu) is)
-  service_walk s a ret is here low high other another w count small stack =
+  service_walk s a ret is here low high other another third w count small stack =
       let sp = register s.cpu Rsp in
       let flat : sp + 0 ≡ sp = omega arith in
       let up : (sp + 8) % 2 ^ 64 % 2 ^ 64 ≡ sp + 0 + 8 = omega arith in
@@ -168,7 +173,7 @@ module _ (setting : Setting) where
       let returns : word s.memory (sp + 0) ≡ Ok ret = ap (word s.memory) flat
       ∙ ap (λ (x : Result ℕ RefusedAccess). readable sp x) w in
       let found = finds_return t s.memory a
-      (image.callers_outside.services s.memory a low high other another) (context_of s.cpu)
+      (image.callers_outside.services s.memory a low high other another third) (context_of s.cpu)
       ret here refl (omega arith) returns in (
         c,
         gives_caller t s.memory (context_of s.cpu) c cs found

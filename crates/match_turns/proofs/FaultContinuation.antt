@@ -11,7 +11,7 @@ module _ (setting : Setting) (made : IsWellMade setting.program setting.plan)
     (s : State) (saved : Cpu) (is : List StackItem) (acts : List Activation) (c : Configuration)
     (on : On setting.functions setting.funclets setting.program setting.plan s.memory
     (context_of saved) is (Waits c.frame ∷ c.below) acts)
-    (well_formed : IsWellFormed (record { cpu = saved; memory = s.memory }))
+    (well_formed : IsWellFormed (record s { cpu = saved }))
     (resumes : ResumesFrom setting.plan SameOperation c.frame acts saved)
     (memory : IsMachineMemory setting s.memory c.store.memory)
     (store : c.store.activations ≡ locals_of acts) where
@@ -50,7 +50,7 @@ module _ (setting : Setting) (made : IsWellMade setting.program setting.plan)
       record { low = omega arith; high = omega arith }
 
   abbrev u : State
-  u = record { cpu = saved; memory = s.memory }
+  u = record s { cpu = saved }
 
   in_body : InBody setting u c
   in_body =

@@ -3,7 +3,7 @@
 use Rattle.std.proofs.Common.{◌≡◌, ℕ, zero, suc, ◌^◌, ◌<◌, Bool, true, false, List, [], ◌∷◌, ◌++◌, Option, Some, None, Err, refl, ap, subst, ◌∙◌, arith}
 use Rattle.std.specs.Prelude.{slice_index, replicate}
 use Rattle.std.proofs.lemmas.Bool.{ne_eqb}
-use Rattle.match_turns.specs.Words.{Code, Instr, context_of, State, step, rsp, arrived, write_number, parameters, raised, Raises, Exception, raise_event, is_hidden, Operation, Slot, Temporary, Instruction, Layout, SameOperation, Configuration, Next, raise, act, exec, operands_code, finish_code, KeepsAbove, IsException, IsLive, HasRule, IsMatched, callers, turns_left, IsWellMade, IsKnown, KnownNext, seen_by_templates, FlagsFit, ComesTo, Setting, IsResumed, Represents, Shows, WorksOn, AllSmall, IsSmallAccess, leaf_values}
+use Rattle.match_turns.specs.Words.{Code, Instr, context_of, State, step, rsp, arrived, write_number, parameters, raised, Raises, Exception, raise_event, is_hidden, Operation, Slot, Temporary, Instruction, Layout, SameOperation, Configuration, Next, raise, act, exec, operands_code, finish_code, KeepsAbove, IsException, IsLive, HasRule, IsMatched, live_from, turns_left, IsWellMade, IsKnown, KnownNext, seen_by_templates, FlagsFit, ComesTo, Setting, IsResumed, Represents, Shows, WorksOn, AllSmall, IsSmallAccess, leaf_values}
 use Rattle.x64_machine.specs.declared.outcome.Stop.TheVariants as stops
 use Rattle.linear_code.specs.declared.instruction.Instruction.TheVariants as instructions
 use Rattle.x64_templates.specs.Runs.{Finished}
@@ -96,8 +96,8 @@ module _ (setting : Setting) (made : IsWellMade setting.program setting.plan)
     untouched : KeepsAbove s.memory s.memory.byte (rsp (context_of s.cpu))
     untouched = record { above = λ x le. refl; code = λ x e. refl }
 
-    asks : Asks setting s.cpu s.cpu s.memory s.memory.byte c w.body.acts
-    asks = asks_host setting s.cpu s.cpu s.memory s.memory.byte c c.frame.next c.store.memory w.body
+    asks : Asks setting s s s.memory.byte c w.body.acts
+    asks = asks_host setting s s s.memory.byte c c.frame.next c.store.memory w.body
         resumed w.memory.code untouched w.memory w.well_formed w.well_formed
 
     live : IsLive s
@@ -131,7 +131,7 @@ module _ (setting : Setting) (made : IsWellMade setting.program setting.plan)
           → Shows setting (arrived t fs (raised t s code 0 access s.cpu))
           (raise_event (exception_of code access) ∷ [])
           (λ next. raise program next (exception_of code access) SameOperation c) c.events
-          (turns_left c) (callers (context_of s.cpu) asks.is)
+          (turns_left c) (live_from (context_of s.cpu) asks.is)
       shows rule =
           raised_as setting fits s s.cpu asks.is w.body.acts c asks.asks w.memory w.body.store code
           0 access (exception_of code access) SameOperation (is_exception code access small)
@@ -147,8 +147,9 @@ module _ (setting : Setting) (made : IsWellMade setting.program setting.plan)
           (arrived t fs (raised t s code 0 access s.cpu))
           (raise_event (exception_of code access) ∷ [])
           (λ next. raise program next (exception_of code access) SameOperation c)
-          (callers (context_of s.cpu) asks.is) (comes_nowhere t fs s) live
+          (live_from (context_of s.cpu) asks.is) (comes_nowhere t fs s) live
           (fault_turns t fs s code access faults)
-          (raised_keeps t fs program p q s code access (callers (context_of s.cpu) asks.is) faults
+          (raised_keeps t fs program p q s code access (live_from (context_of s.cpu) asks.is) faults
+          (omega arith)
           (on_stack t s.memory (context_of s.cpu) 0 asks.is asks.asks.on.is_there.stack))
           (shows rule) acts (omega arith) next

@@ -206,9 +206,8 @@ module _ (setting : Setting) (roomy : HaveRoom setting.program)
     -- ---- the body waits, at the next instruction
 
     abbrev later : State
-    later = record {
+    later = record s {
       cpu = record { registers = s.cpu.registers; rip = back; flags = s.cpu.flags };
-      memory = s.memory;
     }
 
     resumed : IsResumed setting name code (c.frame.next + 1) back

@@ -132,6 +132,7 @@ module _ (setting : Setting) where
           fixed = z.fixed;
           count = z.count;
           small = z.small;
+          handlers = z.handlers;
         }) (first_small setting k l) a.well_formed
 
     frame_1 : HasFrame setting s s1 k (of_test abnormal) activation items acts l a
@@ -260,6 +261,7 @@ module _ (setting : Setting) where
                   fixed = z.fixed;
                   count = z.count;
                   small = z.small;
+                  handlers = z.handlers;
                 };
           };
           holds = r.holds;

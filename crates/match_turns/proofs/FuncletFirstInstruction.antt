@@ -23,6 +23,7 @@ reads_first m at j fine code =
     let s : State = record {
       cpu = record { registers = []; rip = at; flags = no_flags };
       memory = m;
+      vectored = [];
     } in
     reads s j (chosen j) (spells j fine) (longest j) parts.0
     (record { low = l; high = omega arith })

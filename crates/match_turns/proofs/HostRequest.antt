@@ -2,7 +2,7 @@
 use Rattle.std.proofs.Common.{◌≡◌, ℕ, ◌+◌, ◌^◌, ◌<◌, ◌≤◌, Bool, true, false, cond, List, ◌∷◌, Some, None, ap, ◌∙◌, arith}
 use Rattle.std.specs.Prelude.{nat_lt}
 use Rattle.std.proofs.lemmas.Bool.{le-ltb}
-use Rattle.match_turns.specs.Words.{STACK_START, STACK_END, Memory, first_refused, may_write, with_bytes, Cpu, context_of, State, rsp, Waits, Configuration, StackItem, Activation, KeepsAbove, IsWellFormed, AsksHost, Setting, HasProgram, InBody, IsMachineMemory, IsResumed, return_address_at, misplaced, place_below}
+use Rattle.match_turns.specs.Words.{STACK_START, STACK_END, Memory, first_refused, may_write, with_bytes, context_of, State, rsp, Waits, Configuration, StackItem, Activation, KeepsAbove, IsWellFormed, AsksHost, Setting, HasProgram, InBody, IsMachineMemory, IsResumed, return_address_at, misplaced, place_below}
 use Rattle.match_turns.proofs.Lemmas.{all_may, in_stack, kept_by_stores_below, body_on_top}
 
 -- in the stack, far enough above its start, a record can be placed
@@ -32,30 +32,31 @@ module _ (setting : Setting) where
   open setting use {functions as t, funclets as fs, program, plan as p, sites as q, image}
 
   -- the body's state is saved, and bytes below its stack pointer may have been stored since
-  pub record Asks (cpu saved : Cpu) (m : Memory) (byte : ℕ → ℕ) (c : Configuration)
+  pub record Asks (s saved : State) (byte : ℕ → ℕ) (c : Configuration)
       (acts : List Activation) : Type 0 where
     pub is : List StackItem
-    pub asks : AsksHost t fs program p (record { cpu = cpu; memory = with_bytes m byte }) saved is
-        (Waits c.frame ∷ c.below) acts
+    pub asks : AsksHost t fs program p (record s { memory = with_bytes saved.memory byte })
+        saved.cpu is (Waits c.frame ∷ c.below) acts
 
   -- where the saved state is at a machine instruction of an instruction of the body
-  pub asks_host : (cpu saved : Cpu) (m : Memory) (byte : ℕ → ℕ) (c : Configuration) (label : ℕ)
-      (source : Memory) (at : InBody setting (record { cpu = saved; memory = m }) c)
-      → IsResumed setting c.frame.body at.slots.code label saved.rip
-      → HasProgram setting m → KeepsAbove m byte (rsp (context_of saved))
-      → IsMachineMemory setting (with_bytes m byte) source
-      → IsWellFormed (record { cpu = cpu; memory = with_bytes m byte })
-      → IsWellFormed (record { cpu = saved; memory = with_bytes m byte })
-      → Asks cpu saved m byte c at.acts
-  asks_host cpu saved m byte c label source at resumed has keeps memory well_formed
+  pub asks_host : (s saved : State) (byte : ℕ → ℕ) (c : Configuration) (label : ℕ)
+      (source : Memory) (at : InBody setting saved c)
+      → IsResumed setting c.frame.body at.slots.code label saved.cpu.rip
+      → HasProgram setting saved.memory → KeepsAbove saved.memory byte (rsp (context_of saved.cpu))
+      → IsMachineMemory setting (with_bytes saved.memory byte) source
+      → IsWellFormed (record s { memory = with_bytes saved.memory byte })
+      → IsWellFormed (record s { cpu = saved.cpu; memory = with_bytes saved.memory byte })
+      → Asks s saved byte c at.acts
+  asks_host s saved byte c label source at resumed has keeps memory well_formed
       well_formed_saved =
-      let u : State = record { cpu = saved; memory = m } in
-      let top = body_on_top t fs program p q image u c label at resumed has in
-      let high = in_stack t fs program p m (context_of saved) top.is (Waits c.frame ∷ c.below)
+      let m = saved.memory in
+      let from = context_of saved.cpu in
+      let top = body_on_top t fs program p q image saved c label at resumed has in
+      let high = in_stack t fs program p m from top.is (Waits c.frame ∷ c.below)
       at.acts top.on.is_there.stack top.on.is_there.linked in
       let space = at.slots.space.space in
       let shallow = at.slots.space.shallow in
-      let low : STACK_START + 1592 ≤ rsp (context_of saved) = omega arith in
+      let low : STACK_START + 1592 ≤ rsp from = omega arith in
       record {
         is = top.is;
         asks = record {
@@ -63,11 +64,11 @@ module _ (setting : Setting) where
           well_formed = well_formed;
           well_formed_saved = well_formed_saved;
           on = record {
-            is_there = kept_by_stores_below t fs program p m byte (context_of saved)
-                top.is (Waits c.frame ∷ c.below) at.acts keeps top.on.is_there;
+            is_there = kept_by_stores_below t fs program p m byte from top.is
+                (Waits c.frame ∷ c.below) at.acts keeps top.on.is_there;
             data_alone = memory.data_alone;
           };
           low = omega arith;
-          room = record_fits (with_bytes m byte) (rsp (context_of saved)) low high memory.stack;
+          room = record_fits (with_bytes m byte) (rsp from) low high memory.stack;
         };
       }

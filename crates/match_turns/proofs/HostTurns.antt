@@ -1,7 +1,7 @@
 -- The host's turns at its services, and steps of linear code that one of them matches.
 use Rattle.std.proofs.Common.{◌≡◌, ℕ, ◌+◌, ◌%◌, ◌≤◌, Bool, cond, List, [], ◌∷◌, ◌++◌, Option, None, Ok, Err, refl, ap, ◌∙◌}
 use Rattle.std.specs.Prelude.{Result}
-use Rattle.match_turns.specs.Words.{W32, W64, Code, Event, low, address_of, service_at, in_host_page, RefusedAccess, executable, loaded, Rcx, Rdx, Rsp, leading, Context, State, Answer, register, hosted, execute, step, Functions, distance, filter_return, finally_return, Funclet, Turn, arrivals, arrived, raised, unwound_locally, finally_returned, back, returned, turned, turn, Instruction, LinearProgram, Configuration, Seen, Next, act, ImagePlan, filter_turn, drop_below, started, served, WalkGives, KeepsShadow, IsLive, Comes, IsMatched, Sites, turns_left, KnownNext, entry_turns, KeepsWith}
+use Rattle.match_turns.specs.Words.{W32, W64, Code, Event, low, address_of, service_at, in_host_page, RefusedAccess, executable, loaded, Rcx, Rdx, Rsp, leading, Context, State, Answer, register, hosted, execute, step, Functions, distance, filter_return, finally_return, Funclet, Turn, arrivals, arrived, raised, unwound_locally, finally_returned, back, returned, turned, turn, Instruction, LinearProgram, Configuration, Seen, Next, act, ImagePlan, filter_turn, drop_below, started, served, WalkGives, KeepsShadow, IsLive, Comes, IsMatched, Sites, turns_left, KnownNext, entry_turns, LiveCallers, KeepsWith}
 use Rattle.seh_records.specs.Record.{fetched}
 use Rattle.host_layout.specs.declared.service.Service.TheVariants as services
 use Rattle.x64_machine.specs.declared.outcome.Stop.TheVariants as stops
@@ -60,10 +60,10 @@ module _ (t : Functions) (fs : List Funclet) where
   keeps_at : (s : State) (a : ℕ) (cs : List Context) → step s ≡ Err (stops.Host a)
       → WalkGives t s cs
       → (u : State) (es : List Event) → arrivals u.cpu (distance t.base u.cpu.rip) 1 fs ≡ es
-      → WalkGives t u (drop_below (register u.cpu Rsp) (started u es (served (service_at a) cs)))
+      → WalkGives t u (drop_below (register u.cpu Rsp) (started s u es (served (service_at a) cs)))
       → KeepsShadow t fs s u
   keeps_at s a cs e before u es arrives after = host_keeps t fs s u a es cs
-      (drop_below (register u.cpu Rsp) (started u es (served (service_at a) cs))) e arrives before
+      (drop_below (register u.cpu Rsp) (started s u es (served (service_at a) cs))) e arrives before
       after refl
 
   service_step : (s : State) (a : ℕ) → s.cpu.rip ≡ a
@@ -76,50 +76,55 @@ module _ (t : Functions) (fs : List Funclet) where
   -- ---- steps of linear code
 
   module _ (program : LinearProgram) (p : ImagePlan) (q : Sites) where
-    pub filter_return_keeps : (s : State) (cs : List Context) → s.cpu.rip ≡ filter_return
-        → WalkGives t s cs → KeepsWith t fs program p q s cs
-    filter_return_keeps s cs e before = keeps_at s filter_return cs (service_step s filter_return e)
-        before
+    pub filter_return_keeps : (s : State) (live : LiveCallers) → s.cpu.rip ≡ filter_return
+        → register s.cpu Rsp ≤ live.low → WalkGives t s live.callers
+        → KeepsWith t fs program p q s live
+    filter_return_keeps s live e le before = λ u es arrives after. keeps_at s filter_return
+        live.callers (service_step s filter_return e) before u es arrives (after s le)
 
-    pub finally_return_keeps : (s : State) (cs : List Context) → s.cpu.rip ≡ finally_return
-        → WalkGives t s cs → KeepsWith t fs program p q s cs
-    finally_return_keeps s cs e before = keeps_at s finally_return cs
-        (service_step s finally_return e) before
+    pub finally_return_keeps : (s : State) (live : LiveCallers) → s.cpu.rip ≡ finally_return
+        → register s.cpu Rsp ≤ live.low → WalkGives t s live.callers
+        → KeepsWith t fs program p q s live
+    finally_return_keeps s live e le before = λ u es arrives after. keeps_at s finally_return
+        live.callers (service_step s finally_return e) before u es arrives (after s le)
 
     -- the call of a service that dispatches is over
-    pub raise_keeps : (s : State) (c : Context) (cs : List Context)
-        → s.cpu.rip ≡ address_of services.RaiseException → WalkGives t s (c ∷ cs)
-        → KeepsWith t fs program p q s cs
-    raise_keeps s c cs e before = keeps_at s (address_of services.RaiseException) (c ∷ cs)
-        (service_step s (address_of services.RaiseException) e) before
+    pub raise_keeps : (s : State) (c : Context) (live : LiveCallers)
+        → s.cpu.rip ≡ address_of services.RaiseException → register s.cpu Rsp ≤ live.low
+        → WalkGives t s (c ∷ live.callers) → KeepsWith t fs program p q s live
+    raise_keeps s c live e le before = λ u es arrives after. keeps_at s
+        (address_of services.RaiseException) (c ∷ live.callers)
+        (service_step s (address_of services.RaiseException) e) before u es arrives (after s le)
 
-    pub local_unwind_keeps : (s : State) (c : Context) (cs : List Context)
-        → s.cpu.rip ≡ address_of services.LocalUnwind → WalkGives t s (c ∷ cs)
-        → KeepsWith t fs program p q s cs
-    local_unwind_keeps s c cs e before = keeps_at s (address_of services.LocalUnwind) (c ∷ cs)
-        (service_step s (address_of services.LocalUnwind) e) before
+    pub local_unwind_keeps : (s : State) (c : Context) (live : LiveCallers)
+        → s.cpu.rip ≡ address_of services.LocalUnwind → register s.cpu Rsp ≤ live.low
+        → WalkGives t s (c ∷ live.callers) → KeepsWith t fs program p q s live
+    local_unwind_keeps s c live e le before = λ u es arrives after. keeps_at s
+        (address_of services.LocalUnwind) (c ∷ live.callers)
+        (service_step s (address_of services.LocalUnwind) e) before u es arrives (after s le)
 
-    pub raised_keeps : (s : State) (code : Code) (access : Option (Bool × ℕ)) (cs : List Context)
-        → step s ≡ Err (stops.Fault code access) → WalkGives t s cs → KeepsWith t fs program p q s
-        cs
-    raised_keeps s code access cs e before = λ u es arrives after. fault_keeps t fs s u code access
-        es cs (drop_below (register u.cpu Rsp) (started u es cs)) e arrives before after refl
+    pub raised_keeps : (s : State) (code : Code) (access : Option (Bool × ℕ)) (live : LiveCallers)
+        → step s ≡ Err (stops.Fault code access) → register s.cpu Rsp ≤ live.low
+        → WalkGives t s live.callers → KeepsWith t fs program p q s live
+    raised_keeps s code access live e le before = λ u es arrives after. fault_keeps t fs s u code
+        access es live.callers (drop_below (register u.cpu Rsp) (started s u es live.callers)) e
+        arrives before (after s le) refl
 
     -- silent turns lead to a turn of the host, which shows what the step shows
     pub matched_when_shown : (turns_per_step k left : ℕ) (s u : State) (c : Configuration)
         (i : Instruction)
-        (x : Turn) (before : List Event) (seen : Next → Seen) (shadow : List Context)
-        → Comes t fs k s [] u → IsLive u → turn t fs u ≡ x → KeepsWith t fs program p q u shadow
-        → Shows t fs program p q x before seen c.events left shadow
+        (x : Turn) (before : List Event) (seen : Next → Seen) (live : LiveCallers)
+        → Comes t fs k s [] u → IsLive u → turn t fs u ≡ x → KeepsWith t fs program p q u live
+        → Shows t fs program p q x before seen c.events left live
         → ((next : Next) → act program i next c ≡ seen next)
         → k + 1 + entry_turns + left ≤ turns_per_step + turns_left c
         → KnownNext program c i
         → IsMatched t fs program turns_per_step turns_left (Represents t fs program p q) s c i
-    matched_when_shown turns_per_step k left s u c i x before seen shadow silent live e keeps shows
+    matched_when_shown turns_per_step k left s u c i x before seen live silent going e keeps shows
         acts enough
         known =
         matched_by_turn t fs program p q turns_per_step k left s u c i before shows.further silent
-        live
-        (e ∙ shows.turns) enough known shadow keeps
+        going
+        (e ∙ shows.turns) enough known live keeps
         (outcome_same t fs program p q shows.further shows.further seen
-        (λ next. act program i next c) (c.events ++ before) left shadow refl acts shows.outcome)
+        (λ next. act program i next c) (c.events ++ before) left live refl acts shows.outcome)

@@ -22,7 +22,7 @@ pub use Rattle.x64_templates.proofs.Services.{thunk_reaches, pushed_thunk}
 pub use Rattle.x64_templates.proofs.Straight.{executes_then, executes_nothing, executes_one}
 pub use Rattle.x64_templates.proofs.Unwinds.{with_two, FinallyCalled, finally_begins, local_unwind_begins}
 pub use Rattle.match_runs.proofs.Matches.{fails_at_once, silently_before, silently_after, matched_as, matched_after, matched_slower}
-pub use Rattle.match_runs.proofs.Shadows.{none_below, straight, keep_first, host_keeps, fault_keeps, one_below}
+pub use Rattle.match_runs.proofs.Shadows.{none_below, none_started, straight, keep_first, host_keeps, fault_keeps, one_below}
 pub use Rattle.match_runs.proofs.Turns.{comes_then, comes_one, comes_nowhere}
 pub use Rattle.match_stack.proofs.ControlAddresses.{controls_are_of_the_list, control_addresses_are_of_functions}
 pub use Rattle.match_stack.proofs.DispatchSteps.{answers_continue, finally_returns_unwind, raise_searches, local_unwind_unwinds, acceptance_unwinds}

@@ -3,7 +3,7 @@
 use Rattle.std.proofs.Common.{◌≡◌, ℕ, zero, ◌+◌, ◌-◌, ◌%◌, ◌^◌, ◌<◌, ◌≤◌, Bool, true, false, List, [], ◌∷◌, length, Option, Some, None, Ok, refl, sym, ap, subst, ◌∙◌, arith, inl, length-set}
 use Rattle.std.specs.Prelude.{slice_get}
 use Rattle.std.proofs.lemmas.Option.{slice_get_within}
-use Rattle.match_turns.specs.Words.{kept_of, W64, IMAGE_BASE, IMAGE_RANGE_END, STACK_START, STACK_END, address_of, Memory, loaded, Rcx, Rsp, Instr, Context, Cpu, context_of, State, register, Functions, Funclet, arrived, unwound_locally, Local, Instruction, LinearProgram, LinearBody, Frame, Item, Waits, Configuration, body_of, local_unwind, act, instruction_at, exec, Layout, size, sizes, move, IsNear, MachineView, machine, pushed, HasCode, StackItem, Framed, Leaf, ImagePlan, InCode, Activation, SameRegions, Aimed, Linked, AimedHere, KeepsAbove, IsWellFormed, AllKeep, Comes, HasRule, IsMatched, LandsWell, callers, links_of, turns_left, IsWellMade, IsKnown, KnownNext, turns_per_step, FlagsFit, NoneLanded, Setting, setting_of, InBody, IsMachineMemory, IsResumed, RepresentsAt, Represents, modrm, address_to, local_unwind_code, LocalUnwindsAreMatched}
+use Rattle.match_turns.specs.Words.{kept_of, W64, IMAGE_BASE, IMAGE_RANGE_END, STACK_START, STACK_END, address_of, Memory, loaded, Rcx, Rsp, Instr, Context, Cpu, context_of, State, register, Functions, Funclet, arrived, unwound_locally, Local, Instruction, LinearProgram, LinearBody, Frame, Item, Waits, Configuration, body_of, local_unwind, act, instruction_at, exec, Layout, size, sizes, move, IsNear, MachineView, machine, pushed, HasCode, StackItem, Framed, Leaf, ImagePlan, InCode, Activation, SameRegions, Aimed, Linked, AimedHere, KeepsAbove, IsWellFormed, AllKeep, Comes, HasRule, IsMatched, LandsWell, live_from, links_of, turns_left, IsWellMade, IsKnown, KnownNext, turns_per_step, FlagsFit, NoneLanded, Setting, setting_of, InBody, IsMachineMemory, IsResumed, RepresentsAt, Represents, modrm, address_to, local_unwind_code, LocalUnwindsAreMatched}
 use Rattle.x64_templates.specs.Runs.{Reaches}
 use Rattle.host_layout.specs.declared.service.Service.TheVariants as services
 use Rattle.x64_instr.specs.declared.instruction.Instr.TheVariants as instrs
@@ -263,7 +263,7 @@ module _ (setting : Setting) (made : IsWellMade setting.program setting.plan)
         called.program_there.local_unwind.thunk halves.2 refl
         (λ m. image.callers_outside.local_unwind m)
         (λ m. image.callers_outside.services m service (omega arith) (omega arith)
-        (λ e. absurd (omega arith)) (λ e. absurd (omega arith))))
+        (λ e. absurd (omega arith)) (λ e. absurd (omega arith)) (λ e. absurd (omega arith))))
 
     comes : Comes t fs 4 s [] state
     comes = reaches_silently t fs program p q image 4 s state reaches keeps_shadow b.memory.code
@@ -294,13 +294,14 @@ module _ (setting : Setting) (made : IsWellMade setting.program setting.plan)
     registers_saved : kept_of saved.registers ≡ kept_of s.cpu.registers
     registers_saved = ap (λ x. x ∷ others_of s.cpu.registers) sp_saved
 
-    well_formed_saved : IsWellFormed (record { cpu = saved; memory = state.memory })
+    well_formed_saved : IsWellFormed (record state { cpu = saved })
     well_formed_saved =
         let raised = (register state.cpu Rsp + 8) % 2 ^ 64 % 2 ^ 64 in
         record {
           rip_small = back_small;
           count = length-set state.cpu.registers 4 raised ∙ well_formed.count;
           small = set_small state.cpu.registers 4 raised well_formed.small (omega arith);
+          no_handlers = well_formed.no_handlers;
         }
 
     memory : IsMachineMemory setting state.memory c.store.memory
@@ -311,17 +312,17 @@ module _ (setting : Setting) (made : IsWellMade setting.program setting.plan)
         (pushing.pushed_data given sp back low_enough high_enough b.memory.data_alone
         b.memory.stack)
 
-    abbrev at_return : InBody setting (record { cpu = saved; memory = s.memory }) c
+    abbrev at_return : InBody setting (record s { cpu = saved }) c
     at_return = in_body t fs program p q s c b saved (c.frame.next + 1) c.frame.temporaries
         registers_saved
         (record { low = inside.low; high = inside.high }) same_regions back_small
         (all_front s.memory c.frame.temporaries) framed
 
-    asks : Asks setting state.cpu saved s.memory
+    asks : Asks setting state (record s { cpu = saved })
         (pushing.bytes given sp back low_enough high_enough b.memory.data_alone b.memory.stack) c
         b.body.acts
     asks =
-        asks_host setting state.cpu saved s.memory
+        asks_host setting state (record s { cpu = saved })
         (pushing.bytes given sp back low_enough high_enough b.memory.data_alone b.memory.stack) c
         (c.frame.next + 1) c.store.memory
         at_return resumed b.memory.code
@@ -360,19 +361,21 @@ module _ (setting : Setting) (made : IsWellMade setting.program setting.plan)
         let l = low_enough in
         let there = pushing.sp_there given sp back low_enough high_enough b.memory.data_alone
         b.memory.stack service s.cpu.flags back_small in
+        let up = sp_saved in
         let walk =
         service_walk setting state service back asks.is refl (omega arith) (omega arith)
-        (λ e. absurd (omega arith)) (λ e. absurd (omega arith)) returns well_formed.count
+        (λ e. absurd (omega arith)) (λ e. absurd (omega arith)) (λ e. absurd (omega arith)) returns
+        well_formed.count
         (omega arith) asks.asks.on.is_there.stack in
         let shown = unwound_to setting fits state saved asks.is b.body.acts c
         asks.asks memory b.body.store sp target label (omega arith) (omega arith) aimed rule
         unlanded in
         matched_when_shown t fs program p q 16 4 (turns_left c) s state c i
         (arrived t fs (unwound_locally t state sp target saved)) []
-        (λ next. local_unwind program next label c) (callers (context_of saved) asks.is)
+        (λ next. local_unwind program next label c) (live_from (context_of saved) asks.is)
         comes refl (local_unwind_turns t fs state back refl returns)
-        (local_unwind_keeps t fs program p q state walk.0 (callers (context_of saved) asks.is)
-        refl walk.1) shown (λ next. refl) (omega arith) after
+        (local_unwind_keeps t fs program p q state walk.0 (live_from (context_of saved) asks.is)
+        refl (omega arith) walk.1) shown (λ next. refl) (omega arith) after
 
 pub local_unwinds_are_matched : LocalUnwindsAreMatched
 local_unwinds_are_matched t fs program p q image made follows stays fits s c label b known at rule

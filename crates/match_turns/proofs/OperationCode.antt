@@ -147,7 +147,11 @@ module _ (t : Functions) (fs : List Funclet) (program : LinearProgram) (p : Imag
   -- ---- a funclet's first instruction makes its frame
 
   abbrev at_place : Memory → ℕ → State
-  at_place m at = record { cpu = record { registers = []; rip = at; flags = no_flags }; memory = m }
+  at_place m at = record {
+    cpu = record { registers = []; rip = at; flags = no_flags };
+    memory = m;
+    vectored = [];
+  }
 
   -- what is read at code
   first_read : (m : Memory) (at : ℕ) (i : Instr) (is : List Instr) → Fine (i ∷ is)

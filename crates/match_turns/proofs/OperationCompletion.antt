@@ -95,6 +95,7 @@ module _ (setting : Setting) (made : IsWellMade setting.program setting.plan)
             fixed = keeps.fixed;
             count = keeps.count;
             small = keeps.small;
+            handlers = keeps.handlers;
           };
         };
         holds = r.holds;
@@ -211,7 +212,13 @@ module _ (setting : Setting) (made : IsWellMade setting.program setting.plan)
             registers = refl;
             is_there = is_here setting old c begins counted;
           }) refl refl refl
-          (record { protection = refl; fixed = λ a f. refl; count = refl; small = λ h. h })
+          (record {
+            protection = refl;
+            fixed = λ a f. refl;
+            count = refl;
+            small = λ h. h;
+            handlers = refl;
+          })
           (register s.cpu Rax) (register s.cpu Rcx) value m
           (inside.first_small setting made s c w known)
           (inside.second_small setting made s c w known)

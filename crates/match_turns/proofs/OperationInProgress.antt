@@ -75,13 +75,12 @@ module _ (setting : Setting) (made : IsWellMade setting.program setting.plan)
     -- ---- the state in which the instruction had begun, but for the registers that it has taken
 
     abbrev pub before : State
-    before = record {
+    before = record s {
       cpu = record {
         registers = s.cpu.registers;
         rip = p.address c.frame.body c.frame.next;
         flags = s.cpu.flags;
       };
-      memory = s.memory;
     }
 
     begin_small : p.address c.frame.body c.frame.next < 2 ^ 64
@@ -93,8 +92,8 @@ module _ (setting : Setting) (made : IsWellMade setting.program setting.plan)
       well_formed = record {
         rip_small = begin_small;
         count = w.well_formed.count;
-        small =
-            w.well_formed.small;
+        small = w.well_formed.small;
+        no_handlers = w.well_formed.no_handlers;
       };
       memory = w.memory;
       body = in_body_at t fs program p q s c before.cpu w.body refl w.again.locals

@@ -84,16 +84,25 @@ module _ (setting : Setting) (made : IsWellMade setting.program setting.plan)
       (code_split s.memory s.cpu.rip ops (finish_code (p.layout c.frame.body) o to)
       (template_here setting made.room s c b counted here at_here)).0
 
-  -- the state that is reached, in the same memory
+  -- the state that is reached, in the same memory, with the same handlers of the host
   abbrev u : State
-  u = machine (record begun.stopped { memory = s.memory }) (s.cpu.rip + sizes ops) begun.left
+  u = machine (record begun.stopped { memory = s.memory; vectored = s.vectored })
+      (s.cpu.rip + sizes ops) begun.left
+
+  same_handlers : begun.stopped.vectored ≡ s.vectored
+  same_handlers =
+      (reaches_keeps n (machine (v setting made.room s c b counted) s.cpu.rip s.cpu.flags)
+      (machine begun.stopped (s.cpu.rip + sizes ops) begun.left) begun.comes).handlers
 
   comes : Reaches n s u
   comes =
-      subst (λ (m : Memory). Reaches n s (machine
+      subst (λ (hs : List ℕ). Reaches n s (machine
+      (record begun.stopped { memory = s.memory; vectored = hs }) (s.cpu.rip + sizes ops)
+      begun.left)) same_handlers
+      (subst (λ (m : Memory). Reaches n s (machine
       (record begun.stopped { memory = m }) (s.cpu.rip + sizes ops) begun.left)) begun.memory
       (subst (λ (x : State). Reaches n x (machine begun.stopped (s.cpu.rip + sizes ops) begun.left))
-      (sym (same_state setting made.room s c b counted)) begun.comes)
+      (sym (same_state setting made.room s c b counted)) begun.comes))
 
   at_end : u.cpu.rip ≡ p.address c.frame.body c.frame.next + sizes ops
   at_end = ap (λ a. a + sizes ops) b.rip

@@ -166,8 +166,8 @@ continuations t fs program p q image made s saved is acts c on well_formed resum
   record {
     turns = 0;
     few = omega arith;
-    state = record { cpu = saved; memory = s.memory };
-    comes = comes_nowhere t fs (record { cpu = saved; memory = s.memory });
+    state = record s { cpu = saved };
+    comes = comes_nowhere t fs (record s { cpu = saved });
     is_there = inr (works_on (setting_of t fs program p q image) made s saved is acts c on
         well_formed resumes memory
         store);

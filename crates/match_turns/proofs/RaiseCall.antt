@@ -4,7 +4,7 @@ use Rattle.std.specs.Prelude.{nat_eq, replicate, slice_get, slice_index, if◌th
 use Rattle.std.proofs.lemmas.Bool.{eq-eqb}
 use Rattle.std.proofs.lemmas.List.{get_or-drop}
 use Rattle.std.proofs.lemmas.Option.{slice_get-get_or}
-use Rattle.match_turns.specs.Words.{W32, Code, low, Rcx, Rdx, address_of, context_of, State, register, arrived, raised, RaiseException, Exception, raise_event, Temporary, Instruction, LinearProgram, AfterCall, Configuration, Next, with_some, last_temporaries, raise, count_of, waiting, built_in, act, instruction_at, exec, IsException, HasRule, IsMatched, callers, turns_left, IsWellMade, IsKnown, KnownNext, turns_per_step, FlagsFit, Setting, setting_of, RepresentsAt, Represents, RaisesAreMatched, leaf_values, ResumesFrom}
+use Rattle.match_turns.specs.Words.{W32, Code, low, Rcx, Rdx, address_of, context_of, State, register, arrived, raised, RaiseException, Exception, raise_event, Temporary, Instruction, LinearProgram, AfterCall, Configuration, Next, with_some, last_temporaries, raise, count_of, waiting, built_in, act, instruction_at, exec, IsException, HasRule, IsMatched, live_from, turns_left, IsWellMade, IsKnown, KnownNext, turns_per_step, FlagsFit, Setting, setting_of, RepresentsAt, Represents, RaisesAreMatched, leaf_values, ResumesFrom}
 use Rattle.host_layout.specs.declared.service.Service.TheVariants as services
 use Rattle.source_meaning.specs.Expressions as expressions
 use Rattle.linear_code.specs.declared.instruction.Instruction.TheVariants as instructions
@@ -119,7 +119,7 @@ module _ (setting : Setting) (made : IsWellMade setting.program setting.plan)
         let less : turns_left (waiting c first)
         ≤ turns_left c = (let n = length-take first c.frame.temporaries in omega arith) in
         let saved = asking.saved setting made s c b known RaiseException first at in
-        let shadow = callers (context_of saved) asks.is in
+        let live = live_from (context_of saved) asks.is in
         let high = asking.high_enough setting made s c b known RaiseException first
         at in
         let low = asking.low_enough setting made s c b known RaiseException first
@@ -127,21 +127,23 @@ module _ (setting : Setting) (made : IsWellMade setting.program setting.plan)
         let well_formed = asking.well_formed setting made s c b known RaiseException first at in
         let there = asking.sp_there setting made s c b known RaiseException first
         at in
+        let up = asking.sp_saved setting made s c b known RaiseException first at in
         let walk =
         service_walk setting state (address_of services.RaiseException) back asks.is refl
         (omega arith) (omega arith) (λ e. absurd (omega arith)) (λ e. absurd (omega arith))
+        (λ e. absurd (omega arith))
         (asking.returns setting made s c b known RaiseException first at) well_formed.count
         (omega arith) asks.asks.on.is_there.stack in
         matched_when_shown t fs program p q 16 7 (turns_left (waiting c first)) s state c i
         (arrived t fs (raised t state code (register state.cpu Rdx % 2) None
         (asking.saved setting made s c b known RaiseException first at)))
         (raise_event exception ∷ [])
-        (λ next. raise program next exception AfterCall (waiting c first)) shadow
+        (λ next. raise program next exception AfterCall (waiting c first)) live
         (asking.comes setting made s c b known RaiseException first at)
         (asking.live setting made s c b known RaiseException first at)
         (raise_turns t fs state back refl (asking.returns setting made s c b known RaiseException
-        first at)) (raise_keeps t fs program p q state walk.0 shadow refl walk.1) shown goes
-        (omega arith) after
+        first at)) (raise_keeps t fs program p q state walk.0 live refl (omega arith) walk.1)
+        shown goes (omega arith) after
 
 pub raises_are_matched : RaisesAreMatched
 raises_are_matched t fs program p q image made fits s c first b known at rule after = raise_step

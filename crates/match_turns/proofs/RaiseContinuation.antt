@@ -39,7 +39,7 @@ module _ (setting : Setting) where
   module _ (made : IsWellMade program p) (s : State) (saved : Cpu) (is : List StackItem)
       (acts : List Activation) (c : Configuration)
       (on : On t fs program p s.memory (context_of saved) is (Waits c.frame ∷ c.below) acts)
-      (well_formed : IsWellFormed (record { cpu = saved; memory = s.memory }))
+      (well_formed : IsWellFormed (record s { cpu = saved }))
       (says : ResumesFrom p AfterCall c.frame acts saved)
       (memory : IsMachineMemory setting s.memory c.store.memory)
       (store : c.store.activations ≡ locals_of acts) where
@@ -118,11 +118,11 @@ module _ (setting : Setting) where
           (sym store) ∙ counted_here setting made (resumed AfterCall c) known b there
 
       pub continues : LeadsTo t fs entry_turns (RepresentsAt setting)
-          (record { cpu = saved; memory = s.memory }) (resumed AfterCall c)
+          (record s { cpu = saved }) (resumed AfterCall c)
       continues =
           let around = surrounded setting made (resumed AfterCall c) known code.0
           code.1 (length acts) (sym (locals_count acts) ∙ sym (ap length store)) in
-          let u : State = record { cpu = saved; memory = s.memory } in
+          let u : State = record s { cpu = saved } in
           let f = fits in
           let z = kept.resumes setting made.room u c.frame c.below acts
           c.store.memory c.events (context_of saved) is on refl well_formed memory code.0 code.1 i

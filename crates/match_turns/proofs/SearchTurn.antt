@@ -1,7 +1,7 @@
 -- A turn that searches: a filter begins, a handler takes over, or nobody does.
 use Rattle.std.proofs.Common.{◌≡◌, ℕ, zero, ◌+◌, ◌%◌, ◌^◌, ◌<◌, List, [], ◌∷◌, None, refl, sym, ap, subst, arith, inl, inr}
 use Rattle.seh_num.specs.declared.event.Event.TheVariants as events
-use Rattle.match_turns.specs.Words.{context_of, State, rsp, DispatchRecord, placed, Turn, arrived, accepted, searches_on, unwinds_on, accepting, Exception, Handler, Resumption, Waits, Store, Next, Configuration, begin_filter, accept, target_of, unwind, exec, StackItem, Activation, locals_of, Aimed, RecordHasRoom, store_of, FilterBegins, placed_in, from_body, HasRule, callers, turns_left, FlagsFit, Setting, IsMachineMemory, EntersFunclet, Outcome, IsSearching, ResumesFrom}
+use Rattle.match_turns.specs.Words.{context_of, State, rsp, DispatchRecord, placed, Turn, arrived, accepted, searches_on, unwinds_on, accepting, Exception, Handler, Resumption, Waits, Store, Next, Configuration, begin_filter, accept, target_of, unwind, exec, StackItem, Activation, locals_of, Aimed, RecordHasRoom, store_of, FilterBegins, placed_in, from_body, HasRule, live_from, turns_left, FlagsFit, Setting, IsMachineMemory, EntersFunclet, Outcome, IsSearching, ResumesFrom}
 use Rattle.linear_machine.specs.Searching as linear
 use Rattle.match_turns.proofs.Lemmas.{in_stack, acceptance_unwinds}
 use Rattle.match_stack.proofs.SearchTurns.{search_turns}
@@ -31,7 +31,7 @@ module _ (setting : Setting) (fits : FlagsFit setting.program) where
         → HasRule (accept program f exception (exec program zero) c)
         → Outcome setting (arrived t fs (accepted t s at r frame address))
         (λ next. accept program f exception next c) c.events (turns_left c)
-        (callers (context_of r.saved) is)
+        (live_from (context_of r.saved) is)
     taken_over f frame address frame_small address_small aimed rule =
         let a = acceptance_unwinds t fs program p s at r frame address is acts exception found f c
         c.store.memory h frame_small address_small aimed in
@@ -59,7 +59,7 @@ module _ (setting : Setting) (fits : FlagsFit setting.program) where
         (arrived t fs (accepted t s at r frame address))
         (λ next. unwind program next w.target w.items w.left w.shown (store_of w.source w.acts))
         (λ next. accept program f exception next c) c.events (turns_left c)
-        (callers (context_of r.saved) is)
+        (live_from (context_of r.saved) is)
         (ap (arrived t fs) a.turns) same
         (unwound setting fits w (turns_left c) (omega arith) (λ e. absurd cc)
         (placed_in s at record') at record' is a.unwinding memory'
@@ -70,7 +70,7 @@ module _ (setting : Setting) (fits : FlagsFit setting.program) where
     filter_enters : (turn : Turn) (resumption : Resumption)
         → FilterBegins t fs program p s at r turn found exception resumption is acts c
         → EntersFunclet setting turn (λ next. linear.search program next found exception resumption
-        c) c.events (turns_left c) (callers (context_of r.saved) is)
+        c) c.events (turns_left c) (live_from (context_of r.saved) is)
     filter_enters turn resumption f =
         let memory' = memory_untouched t fs program p q s.memory f.state.memory c.store.memory
         f.untouched memory (f.arrives.on []).data_alone in
@@ -100,7 +100,7 @@ module _ (setting : Setting) (fits : FlagsFit setting.program) where
         → HasRule (linear.search program (exec program zero) found exception resumption c)
         → Outcome setting (arrived t fs (searches_on t s at r))
         (λ next. linear.search program next found exception resumption c) c.events (turns_left c)
-        (callers (context_of r.saved) is)
+        (live_from (context_of r.saved) is)
     searched resumption resumes rule = elim (search_turns t fs program p s at r is acts exception
         resumption found c h resumes) [
           | inl f ↦ inr (inl (filter_enters (arrived t fs (searches_on t s at r)) resumption f))
@@ -110,7 +110,7 @@ module _ (setting : Setting) (fits : FlagsFit setting.program) where
                 (arrived t fs (searches_on t s at r)) (λ next. accept program k.handler exception
                 next c)
                 (λ next. linear.search program next found exception resumption c) c.events
-                (turns_left c) (callers (context_of r.saved) is) k.turns k.goes
+                (turns_left c) (live_from (context_of r.saved) is) k.turns k.goes
                 (taken_over k.handler k.frame k.address k.frame_small k.address_small k.aimed
                 (subst HasRule (k.goes (exec program zero)) rule))
             | inr z ↦ inr (inr (record {

@@ -125,7 +125,7 @@ module _ (setting : Setting) (roomy : HaveRoom setting.program) where
 
       -- and with the registers after it
       abbrev pub earlier : State
-      earlier = record {
+      earlier = record s {
         cpu = record { registers = u.cpu.registers; rip = s.cpu.rip; flags = s.cpu.flags };
         memory = m;
       }
@@ -159,6 +159,7 @@ module _ (setting : Setting) (roomy : HaveRoom setting.program) where
           fixed = λ a w. refl;
           count = as_many;
           small = given_small;
+          handlers = refl;
         }) b.well_formed.rip_small moved_there.well_formed;
         memory = memory;
         body = in_body_at t fs program p q moved calling earlier.cpu moved_there.body kept_back hold
@@ -234,6 +235,9 @@ module _ (setting : Setting) (roomy : HaveRoom setting.program) where
             fixed = k.fixed;
             count = k.count;
             small = k.small;
+            handlers = k.handlers
+                ∙ (reaches_keeps 7 s there
+                (reaches setting roomy s c b counted f first at)).handlers;
           }
 
       abbrev values : List ℕ
@@ -352,9 +356,9 @@ module _ (setting : Setting) (roomy : HaveRoom setting.program) where
       callers = beyond_here setting s c b counted
 
       gives_by : (n : Memory) → KeepsStack s.memory n called_from → HasProgram setting n
-          → WalkGives t (record { cpu = u.cpu; memory = n }) (caller ∷ callers)
+          → WalkGives t (record u { memory = n }) (caller ∷ callers)
       gives_by n same has =
-          let x : State = record { cpu = u.cpu; memory = n } in
+          let x : State = record u { memory = n } in
           ends_gives setting s c b counted x
           (past_ends setting s c b counted (instructions.CallBuiltIn f first) at (λ h. h) call_code
           after_code x refl (omega arith) (record {

@@ -1,7 +1,7 @@
 -- An unwinding lands in a body, which continues at the label.
 use Rattle.std.proofs.Common.{◌≡◌, true, ℕ, ◌≤◌, List, [], ◌∷◌, ◌++◌, Option, Some, None, refl, sym, ap, subst, ◌∙◌, arith, inl}
 use Rattle.std.proofs.lemmas.List.{append-nil}
-use Rattle.match_turns.specs.Words.{Event, Memory, Context, State, DispatchRecord, Turn, at_landing, Frame, Target, Item, Waits, Configuration, Next, arrive, StackItem, Framed, StackFrame, InCode, Activation, On, store_of, on_top, IsWellFormed, IsUnwinding, Unwound, LandsThere, landing_value, landing_events, LeadsTo, callers, turns_left, entry_turns, Setting, IsMachineMemory, RepresentsAt, Represents, ContinuesAs, now_of, RegistersHold, leaf_values}
+use Rattle.match_turns.specs.Words.{Event, Memory, Context, State, DispatchRecord, Turn, at_landing, Frame, Target, Item, Waits, Configuration, Next, arrive, StackItem, Framed, StackFrame, InCode, Activation, On, store_of, on_top, IsWellFormed, IsUnwinding, Unwound, LandsThere, landing_value, landing_events, LeadsTo, live_from, turns_left, entry_turns, Setting, IsMachineMemory, RepresentsAt, Represents, ContinuesAs, now_of, RegistersHold, leaf_values}
 use Rattle.linear_machine.specs.Unwinding as linear
 use Rattle.match_turns.proofs.Lemmas.{nine_numbers, waits_in_body, no_front, all_front, first_in_code}
 use Rattle.match_turns.proofs.DispatchWalks.{landing_walk}
@@ -89,7 +89,7 @@ module _ (setting : Setting) where
       → turns_left (arrival l.body l.below w.target.label w.target.code w.source l.outer w.shown)
       ≤ left → (w.target.code ≡ None → l.body.landed ≡ None)
       → ContinuesAs setting turn (λ next. linear.unwind program next w.target w.items w.left w.shown
-      (store_of w.source w.acts)) w.shown left (callers r.walk is)
+      (store_of w.source w.acts)) w.shown left (live_from r.walk is)
   lands_as s at r is turn w left u l memory few unlanded = record {
     state = at_landing s l.to (landing_value w.target.code) r.target;
     events = landing_events w.target.code;

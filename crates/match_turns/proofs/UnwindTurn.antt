@@ -2,7 +2,7 @@
 use Rattle.std.proofs.Common.{◌≡◌, ℕ, zero, ◌+◌, ◌*◌, ◌≤◌, Bool, true, false, List, [], ◌∷◌, length, Option, Some, None, refl, ap, subst, ◌∙◌, inl, inr}
 use Rattle.std.specs.Prelude.{nat_lt, slice_get}
 use Rattle.seh_num.specs.declared.event.Event.TheVariants as events
-use Rattle.match_turns.specs.Words.{State, DispatchRecord, Turn, arrived, unwinds_on, Deep, Frame, Item, Target, Waits, Unwinds, Seen, Finished, Next, pick, with_some, deeper, flag_of, begin_finally, exec, StackItem, store_of, on_top, Unwound, BlockBegins, LandsThere, IsUnwinding, HasRule, callers, held_below, FlagsFit, NoneLanded, Setting, IsMachineMemory, EntersFunclet, Outcome}
+use Rattle.match_turns.specs.Words.{State, DispatchRecord, Turn, arrived, unwinds_on, Deep, Frame, Item, Target, Waits, Unwinds, Seen, Finished, Next, pick, with_some, deeper, flag_of, begin_finally, exec, StackItem, store_of, on_top, Unwound, BlockBegins, LandsThere, IsUnwinding, HasRule, live_from, held_below, FlagsFit, NoneLanded, Setting, IsMachineMemory, EntersFunclet, Outcome}
 use Rattle.linear_machine.specs.Unwinding as linear
 use Rattle.match_stack.proofs.UnwindTurns.{unwind_turns}
 use Rattle.match_turns.proofs.FuncletSteps.{called_blocks_begin}
@@ -31,7 +31,7 @@ module _ (setting : Setting) (fits : FlagsFit setting.program) where
         → (b : BlockBegins t fs program p s r turn w)
         → flag_of (slice_get program.funclets b.block) ≡ Some flag
         → IsMachineMemory setting s.memory w.source
-        → EntersFunclet setting turn seen w.shown n (callers r.walk is)
+        → EntersFunclet setting turn seen w.shown n (live_from r.walk is)
     unfolding with_some pick
     block_enters s at r is turn flag u b flagged memory =
         let target : Target = record w.target { held = b.held } in
@@ -73,13 +73,13 @@ module _ (setting : Setting) (fits : FlagsFit setting.program) where
         → IsUnwinding t fs program p s at r is w → IsMachineMemory setting s.memory w.source
         → HasRule (seen (exec program zero))
         → BlockBegins t fs program p s r turn w
-        → Outcome setting turn seen w.shown n (callers r.walk is)
+        → Outcome setting turn seen w.shown n (live_from r.walk is)
     unfolding with_some
     unwinds_as s at r is turn u memory rule b = by (flag_of (slice_get program.funclets b.block))
         refl
       where
         by : (o : Option ℕ) → flag_of (slice_get program.funclets b.block) ≡ o
-            → Outcome setting turn seen w.shown n (callers r.walk is)
+            → Outcome setting turn seen w.shown n (live_from r.walk is)
         by None e =
             let c = on_top b.body b.below w.source b.outer w.shown in
             let under = Unwinds b.rest (record w.target { held = b.held }) ∷ Waits b.body
@@ -94,7 +94,7 @@ module _ (setting : Setting) (fits : FlagsFit setting.program) where
     lands_with : (s : State) (at : ℕ) (r : DispatchRecord) (is : List StackItem) (turn : Turn)
         → IsUnwinding t fs program p s at r is w → IsMachineMemory setting s.memory w.source
         → LandsThere t fs program p s r turn w
-        → Outcome setting turn seen w.shown n (callers r.walk is)
+        → Outcome setting turn seen w.shown n (live_from r.walk is)
     lands_with s at r is turn u memory l =
         let target : Target = record w.target { held = l.held } in
         let d = arrival l.body l.below w.target.label w.target.code w.source l.outer w.shown in
@@ -116,7 +116,7 @@ module _ (setting : Setting) (fits : FlagsFit setting.program) where
     pub unwound : (s : State) (at : ℕ) (r : DispatchRecord) (is : List StackItem)
         → IsUnwinding t fs program p s at r is w → IsMachineMemory setting s.memory w.source
         → HasRule (seen (exec program zero))
-        → Outcome setting (arrived t fs (unwinds_on t s at r)) seen w.shown n (callers r.walk is)
+        → Outcome setting (arrived t fs (unwinds_on t s at r)) seen w.shown n (live_from r.walk is)
     unwound s at r is u memory rule = elim (unwind_turns t fs program p s at r is w u) [
       | inl b ↦ unwinds_as s at r is (arrived t fs (unwinds_on t s at r)) u memory rule b
       | inr l ↦ lands_with s at r is (arrived t fs (unwinds_on t s at r)) u memory l

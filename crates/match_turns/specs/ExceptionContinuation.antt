@@ -30,11 +30,11 @@ module _ (t : Functions) (fs : List Funclet) (program : LinearProgram) (p : Imag
       (s : State) (saved : Cpu) (is : List StackItem) (acts : List Activation)
       (resumption : Resumption) (c : Configuration)
       → On t fs program p s.memory (context_of saved) is (Waits c.frame ∷ c.below) acts
-      → IsWellFormed (record { cpu = saved; memory = s.memory })
+      → IsWellFormed (record s { cpu = saved })
       → ResumesFrom p resumption c.frame acts saved
       → IsMachineMemory t fs program p q s.memory c.store.memory
       → c.store.activations ≡ locals_of acts
       → (arrivals saved (distance t.base saved.rip) 1 fs ≡ [])
       × (IsKnown program (resumed resumption c) → c.frame.landed ≡ None
       → LeadsTo t fs entry_turns (Represents t fs program p q)
-      (record { cpu = saved; memory = s.memory }) (resumed resumption c))
+      (record s { cpu = saved }) (resumed resumption c))

@@ -76,13 +76,13 @@ ContinuationsAtOperations =
     → IsProgramImage t fs program p q → IsWellMade program p
     → (s : State) (saved : Cpu) (is : List StackItem) (acts : List Activation) (c : Configuration)
     → On t fs program p s.memory (context_of saved) is (Waits c.frame ∷ c.below) acts
-    → IsWellFormed (record { cpu = saved; memory = s.memory })
+    → IsWellFormed (record s { cpu = saved })
     → ResumesFrom p SameOperation c.frame acts saved
     → IsMachineMemory t fs program p q s.memory c.store.memory
     → c.store.activations ≡ locals_of acts
     → (arrivals saved (distance t.base saved.rip) 1 fs ≡ [])
     × LeadsTo t fs entry_turns (Represents t fs program p q)
-    (record { cpu = saved; memory = s.memory })
+    (record s { cpu = saved })
     (resumed SameOperation c)
 
 -- each operation is matched, where its instruction begins and within it

@@ -66,14 +66,14 @@ ContinuationsAfterCalls =
     → IsProgramImage t fs program p q → IsWellMade program p
     → (s : State) (saved : Cpu) (is : List StackItem) (acts : List Activation) (c : Configuration)
     → On t fs program p s.memory (context_of saved) is (Waits c.frame ∷ c.below) acts
-    → IsWellFormed (record { cpu = saved; memory = s.memory })
+    → IsWellFormed (record s { cpu = saved })
     → ResumesFrom p AfterCall c.frame acts saved
     → IsMachineMemory t fs program p q s.memory c.store.memory
     → c.store.activations ≡ locals_of acts
     → (arrivals saved (distance t.base saved.rip) 1 fs ≡ [])
     × (IsKnown program (resumed AfterCall c) → c.frame.landed ≡ None
     → LeadsTo t fs entry_turns (RepresentsAt t fs program p q)
-    (record { cpu = saved; memory = s.memory }) (resumed AfterCall c))
+    (record s { cpu = saved }) (resumed AfterCall c))
 
 -- and wherever one is continued, after a call or at the same operation
 abbrev pub BodiesContinue : Type 0

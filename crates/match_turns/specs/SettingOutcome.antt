@@ -2,12 +2,12 @@
 -- ExceptionContinuation say, of a setting's parts.
 use Rattle.std.specs.Prelude.{ℕ, List}
 use Rattle.seh_num.specs.declared.event.Event.{Event}
-use Rattle.x64_machine.specs.declared.context.Context.{Context}
 use Rattle.x64_machine.specs.Effect.{State}
 use Rattle.host_model.specs.Turns.{Turn}
 use Rattle.linear_machine.specs.Frames.{Configuration, Seen, Next}
 use Rattle.match_bodies.specs.Setting.{Setting}
 use Rattle.match_turns.specs.CallOutcome as calls
+use Rattle.match_turns.specs.DispatchOutcome.{LiveCallers}
 use Rattle.match_turns.specs.DispatchOutcome as outcomes
 use Rattle.match_turns.specs.ExceptionContinuation as continuations
 
@@ -23,19 +23,19 @@ module _ (setting : Setting) where
   abbrev pub Represents : State → Configuration → Type 0
   Represents = outcomes.Represents t fs program p q
 
-  abbrev pub WalkContinues : List Context → State → List Event → Type 0
+  abbrev pub WalkContinues : LiveCallers → State → List Event → Type 0
   WalkContinues = outcomes.WalkContinues t fs program p q
 
-  abbrev pub ContinuesAs : Turn → (Next → Seen) → List Event → ℕ → List Context → Type 0
+  abbrev pub ContinuesAs : Turn → (Next → Seen) → List Event → ℕ → LiveCallers → Type 0
   ContinuesAs = outcomes.ContinuesAs t fs program p q
 
-  abbrev pub EntersFunclet : Turn → (Next → Seen) → List Event → ℕ → List Context → Type 0
+  abbrev pub EntersFunclet : Turn → (Next → Seen) → List Event → ℕ → LiveCallers → Type 0
   EntersFunclet = outcomes.EntersFunclet t fs program p q
 
-  abbrev pub Outcome : Turn → (Next → Seen) → List Event → ℕ → List Context → Type 0
+  abbrev pub Outcome : Turn → (Next → Seen) → List Event → ℕ → LiveCallers → Type 0
   Outcome = outcomes.Outcome t fs program p q
 
-  abbrev pub Shows : Turn → List Event → (Next → Seen) → List Event → ℕ → List Context → Type 0
+  abbrev pub Shows : Turn → List Event → (Next → Seen) → List Event → ℕ → LiveCallers → Type 0
   Shows = outcomes.Shows t fs program p q
 
   abbrev pub Continuations : Type 0

@@ -30,12 +30,11 @@ use Rattle.match_runs.specs.Comes.{Comes}
 use Rattle.match_runs.specs.Ends.{HasRule}
 use Rattle.match_runs.specs.Matched.{IsMatched}
 use Rattle.match_bodies.specs.CodeSites.{Sites}
-use Rattle.match_bodies.specs.Callers.{callers}
 use Rattle.match_bodies.specs.ProgramImages.{IsMachineMemory, IsProgramImage}
 use Rattle.match_bodies.specs.Bodies.{turns_left}
 use Rattle.match_bodies.specs.ConfigurationFacts.{KnownNext}
 use Rattle.match_turns.specs.FuncletEntry.{FlagsFit}
-use Rattle.match_turns.specs.DispatchOutcome.{NoneLanded, Represents, Shows}
+use Rattle.match_turns.specs.DispatchOutcome.{live_from, NoneLanded, Represents, Shows}
 use Rattle.match_turns.specs.ExceptionContinuation.{Continuations}
 
 -- the body that waits below a funclet, with what the funclet leaves in the store
@@ -97,7 +96,7 @@ RaisesAreShown =
     → HasRule (raise program (exec program zero) exception resumption c)
     → Shows t fs program p q (arrived t fs (raised t s code flags access saved))
     (raise_event exception ∷ []) (λ next. raise program next exception resumption c) c.events
-    (turns_left c) (callers (context_of saved) is)
+    (turns_left c) (live_from (context_of saved) is)
 
 -- and a local unwind does what linear code does
 abbrev pub LocalUnwindsAreShown : Type 0
@@ -115,4 +114,4 @@ LocalUnwindsAreShown =
     → NoneLanded (Waits c.frame ∷ c.below)
     → Shows t fs program p q (arrived t fs (unwound_locally t s frame address saved)) []
     (λ next. local_unwind program next label c) c.events (turns_left c)
-    (callers (context_of saved) is)
+    (live_from (context_of saved) is)

@@ -82,7 +82,7 @@ pub use Rattle.seh_records.specs.Laws.{AllSmall, RecordFits}
 pub use Rattle.seh_records.specs.Record.{return_address_at, place_below, if_readable, if_marked, of_kind, kind_of, recorded, mark, word}
 unfoldable pub use Rattle.seh_records.specs.Record.{placed, misplaced}
 pub use Rattle.seh_records.specs.declared.dispatch.DispatchRecord.{DispatchRecord}
-pub use Rattle.seh_walk.specs.Walk.{filter_return, finally_return, steps}
+pub use Rattle.seh_walk.specs.Walk.{filter_return, finally_return, vectored_return, steps}
 pub use Rattle.host_model.specs.Dispatch.{accepted, searches_on, unwinds_on, finally_returned, eax, again, restored, if_unwinding, raised, unwound_locally, place_of, new_record, to_target, at_landing, write_number, parameters, no_flags, count, accepting}
 pub use Rattle.host_model.specs.Funclets.{arrivals, arrived, by_kind}
 pub use Rattle.host_model.specs.HostStep.{back, returned, turned, answer_number, protecting}
@@ -94,7 +94,7 @@ pub use Rattle.match_runs.specs.Ends.{HasRule}
 pub use Rattle.match_runs.specs.Matched.{IsMatched, Fails, Moves, Exits}
 pub use Rattle.match_runs.specs.Shadow.{AllKeep, KeepsShadow, WalkGives, drop_below, GivesCallers, caller_at, is_call, started, served}
 pub use Rattle.match_stack.specs.DispatchStates.{IsWellFormed, Arrives}
-pub use Rattle.match_stack.specs.DispatchSteps.{placed_in, SearchIsAnswered, AnswersAs, from_body, AsksHost, IsException}
+pub use Rattle.match_stack.specs.DispatchSteps.{placed_in, anew, SearchIsAnswered, AnswersAs, from_body, AsksHost, IsException}
 pub use Rattle.match_stack.specs.FilterReturns.{filter_turn, linear_answer, with_answer, answered, AsksTheNext, AskedTakesOver, ContinuesException, IsRaisedAnew}
 pub use Rattle.match_stack.specs.HostUnwind.{on_top, store_of}
 pub use Rattle.match_stack.specs.ImagePlan.{ImagePlan, InCode, parent_body, IsFunclet, by_parent}
@@ -119,7 +119,7 @@ pub use Rattle.match_bodies.specs.Setting.{Setting, IsMachineMemory, RepresentsA
 pub use Rattle.match_bodies.specs.SlotStores.{KeepsStackBut, OwnerHasFrame, with_values}
 pub use Rattle.match_bodies.specs.StepLaws.{turns_per_step}
 pub use Rattle.match_turns.specs.CallOutcome.{begun, FunctionsApart}
-pub use Rattle.match_turns.specs.DispatchOutcome.{KeepsWith, with_events, EndsRun, NoneLanded}
+pub use Rattle.match_turns.specs.DispatchOutcome.{LiveCallers, live_from, KeepsWith, with_events, EndsRun, NoneLanded}
 pub use Rattle.match_turns.specs.FaultLaws.{UndefinedAccessesAreMatched, fetch_turns, OperandsAreFetched, RetriesAreMatched, ContinuationsAtOperations, OperationsAreMatched}
 pub use Rattle.match_turns.specs.FilterInformation.{IsFilterBody}
 pub use Rattle.match_turns.specs.FuncletEntry.{entry_turns, FlagsFit, FiltersBegin, SeparatorsFollow, BlocksBegin}

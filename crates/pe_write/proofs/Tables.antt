@@ -6,7 +6,7 @@ use Rattle.std.proofs.lemmas.Bool.{ne_eqb, lt-ltb, le-leb}
 use Rattle.std.proofs.lemmas.List.{append-nil, length-append, length-drop, drop-drop, drop_at}
 use Rattle.byteorder.specs.Endian.{little_number}
 use Rattle.host_layout.specs.declared.imported.ImportedService.{ImportedService}
-use Rattle.host_layout.specs.declared.imported.ImportedService.TheVariants.{RaiseException, CSpecificHandler, LocalUnwind, Protect, Put, Walk}
+use Rattle.host_layout.specs.declared.imported.ImportedService.TheVariants.{AddVectored, RaiseException, RemoveVectored, CSpecificHandler, LocalUnwind, Protect, Put, Walk}
 use Rattle.host_layout.specs.declared.name.TheConstants.{LIBRARY}
 use Rattle.seh_num.specs.Answers.{◌>>=◌, onto, prepend}
 use Rattle.pe_image.specs.Field.{field}
@@ -43,7 +43,9 @@ entry_whole n rest = refl
 
 hint_name_length : (s : ImportedService) → length (hint_name s) ≡ hint_name_size s
 unfolding hint_name zeros
+hint_name_length AddVectored = refl
 hint_name_length RaiseException = refl
+hint_name_length RemoveVectored = refl
 hint_name_length CSpecificHandler = refl
 hint_name_length LocalUnwind = refl
 hint_name_length Protect = refl
@@ -69,8 +71,12 @@ name_inside s rest = omega (
 named : (s : ImportedService) (rest : List ℕ)
     → terminated (drop 2 (hint_name s ++ rest)) ≡ Some (name_of s)
 unfolding hint_name zeros
+named AddVectored rest =
+    ended (drop 2 (hint_name AddVectored ++ rest)) 27 refl (name_inside AddVectored rest)
 named RaiseException rest =
     ended (drop 2 (hint_name RaiseException ++ rest)) 14 refl (name_inside RaiseException rest)
+named RemoveVectored rest =
+    ended (drop 2 (hint_name RemoveVectored ++ rest)) 30 refl (name_inside RemoveVectored rest)
 named CSpecificHandler rest =
     ended (drop 2 (hint_name CSpecificHandler ++ rest)) 20 refl (name_inside CSpecificHandler rest)
 named LocalUnwind rest =

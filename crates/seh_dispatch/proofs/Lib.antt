@@ -3,8 +3,7 @@ pub mod FilterRows
 pub mod TurnEvents
 pub mod WalkSteps
 pub mod ServiceReturn
-pub mod FaultTurns
-pub mod ServiceTurns
+pub mod StepTurns
 pub mod TurnOutcomes
 pub mod TableEntries
 pub mod FuncletOrder

@@ -1,3 +1,4 @@
+pub mod Machines
 pub mod Outcomes
 pub mod TurnEnds
 pub mod FuncletLists

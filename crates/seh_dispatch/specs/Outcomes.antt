@@ -8,13 +8,15 @@ use Rattle.seh_num.specs.declared.end.Reason.TheVariants as reasons
 use Rattle.seh_num.specs.declared.end.RunEnd.TheVariants as ends
 use Rattle.flat_memory.specs.Memory.{Memory}
 use Rattle.x64_machine.specs.declared.cpu.Cpu.{Cpu}
-use Rattle.x64_machine.specs.Effect.{register, with_register, state}
+use Rattle.x64_machine.specs.Effect.{register, with_register}
 use Rattle.virtual_unwind.specs.CallerOf.{Functions}
 use Rattle.seh_walk.specs.declared.stop_cause.StopCause.{StopCause}
 use Rattle.seh_walk.specs.Walk.{steps}
 use Rattle.host_model.specs.Turns.{Turn, Continues, Ends}
 use Rattle.host_model.specs.HostStep.{printed, walked, walk_from}
 use Rattle.seh_dispatch.specs.FuncletLists.{listed}
+use Rattle.seh_dispatch.specs.Machines.{state_of}
+use Rattle.seh_dispatch.specs.declared.machine.Machine.{Machine}
 use Rattle.seh_dispatch.specs.declared.outcome.TurnOutcome as code
 use Rattle.seh_dispatch.specs.declared.outcome.TurnOutcome.TheVariants as outcomes
 use Rattle.seh_dispatch.specs.declared.outcome.Led.{Led}
@@ -27,20 +29,20 @@ abbrev pub led : List Event → Turn → Turn
 led es (Continues s fs) = Continues s (es ++ fs)
 led es (Ends fs end) = Ends (es ++ fs) end
 
-abbrev pub turn_of : Cpu → Memory → code.TurnOutcome → Turn
-turn_of c m (outcomes.Continues shown) = Continues (state c m) (listed shown)
-turn_of c m (outcomes.Ends end) = Ends [] end
+abbrev pub turn_of : Machine → Memory → code.TurnOutcome → Turn
+turn_of x m (outcomes.Continues shown) = Continues (state_of x m) (listed shown)
+turn_of x m (outcomes.Ends end) = Ends [] end
 
-abbrev pub led_turn : Cpu → Memory → Led → Turn
-led_turn c m made = led (listed made.first) (turn_of c m made.outcome)
+abbrev pub led_turn : Machine → Memory → Led → Turn
+led_turn x m made = led (listed made.first) (turn_of x m made.outcome)
 
-abbrev pub made_turn : Cpu → Memory → Made → Turn
-made_turn c m made = led (listed made.first) (led_turn c m made.rest)
+abbrev pub made_turn : Machine → Memory → Made → Turn
+made_turn x m made = led (listed made.first) (led_turn x m made.rest)
 
 -- a printed walk from the state that is left
-abbrev pub turn_made : Functions → Cpu → Memory → TurnMade → Turn
-turn_made t c m (Told made) = made_turn c m made
-turn_made t c m Walks = walked (state c m) (printed steps t m (walk_from c))
+abbrev pub turn_made : Functions → Machine → Memory → TurnMade → Turn
+turn_made t x m (Told made) = made_turn x m made
+turn_made t x m Walks = walked (state_of x m) (printed steps t m (walk_from x.cpu))
 
 abbrev pub silent : code.TurnOutcome → Led
 silent o = record { first = None; outcome = o }

@@ -7,13 +7,15 @@ use Rattle.seh_num.specs.declared.end.RunEnd.TheVariants.{Exit}
 use Rattle.flat_memory.specs.Memory.{Memory}
 use Rattle.x64_instr.specs.declared.register.Reg.TheVariants.{Rax}
 use Rattle.x64_machine.specs.declared.cpu.Cpu.{Cpu}
-use Rattle.x64_machine.specs.Effect.{register, state}
+use Rattle.x64_machine.specs.Effect.{register}
 use Rattle.host_model.specs.HostStep.{Host, Live, Ended}
+use Rattle.seh_dispatch.specs.Machines.{state_of}
+use Rattle.seh_dispatch.specs.declared.machine.Machine.{Machine}
 
 -- the host that is left
-abbrev pub left : Cpu → Memory → Option RunEnd → Host
-left c m None = Live (state c m)
-left c m (Some end) = Ended end
+abbrev pub left : Machine → Memory → Option RunEnd → Host
+left x m None = Live (state_of x m)
+left x m (Some end) = Ended end
 
 -- the end of a run whose RIP is 0
 abbrev pub over_if : Cpu → Bool → Option RunEnd

@@ -4,13 +4,13 @@ ghost use Rattle.std.specs.Prelude.{◌≡◌, ◌-◌, ◌<◌, ◌^◌, None, 
 ghost use Rattle.eh_tables.specs.Tables.{TablesAreWhole};
 ghost use Rattle.flat_memory.specs.Memory.{Memory};
 ghost use Rattle.virtual_unwind.specs.CallerOf.{functions_of, name_rows, distance};
-ghost use Rattle.x64_machine.specs.Effect.{state};
 ghost use Rattle.x64_decoded.specs.Caches.{IsCoherent};
 ghost use Rattle.host_model.specs.Turns.{shown_in};
 ghost use Rattle.host_model.specs.Funclets.{arrivals, arrived};
 ghost use Rattle.host_model.specs.HostStep.{turn, after};
 ghost use Rattle.seh_dispatch.specs.FuncletLists.{AreAscending};
 ghost use Rattle.seh_dispatch.specs.Filters.{Admits};
+ghost use Rattle.seh_dispatch.specs.Machines.{state_of};
 ghost use Rattle.seh_dispatch.specs.Outcomes.{made_turn, turn_made};
 ghost use Rattle.seh_dispatch.specs.declared.outcome.TurnMade.TheVariants.{Walks};
 ghost use Rattle.seh_dispatch.specs.TurnEnds.{left};
@@ -18,6 +18,7 @@ ghost use Rattle.seh_dispatch.specs.TurnEnds.{over_cpu};
 
 use crate::arrival::{arrival, may_arrive};
 use crate::filter::FuncletFilter;
+use crate::machine::Machine;
 use crate::outcome::{Made, TurnMade, TurnOutcome};
 use crate::serving::make;
 use crate::telling::tell;
@@ -74,17 +75,17 @@ fn conclude<V: Events>(
     tables: &Tables,
     filter: &FuncletFilter,
     funclets: &[Funclet],
-    cpu: &Cpu,
+    machine: &Machine,
     made: Made,
     to: &mut V,
 ) -> Option<RunEnd>
     requires admitted { Admits filter.now funclets.now }
     requires few { length funclets.now < 2 ^ 32 - 1 }
     requires ascending { AreAscending 0 funclets.now }
-    ensures host { (m : Memory) → left cpu.now m result
-        ≡ after (arrived (functions_of tables.now) funclets.now (made_turn cpu.now m made)) }
+    ensures host { (m : Memory) → left machine.now m result
+        ≡ after (arrived (functions_of tables.now) funclets.now (made_turn machine.now m made)) }
     ensures shown { (m : Memory) → V.took to.old (shown_in
-        (arrived (functions_of tables.now) funclets.now (made_turn cpu.now m made))) to.new }
+        (arrived (functions_of tables.now) funclets.now (made_turn machine.now m made))) to.new }
 {
     tell(to, made.first);
     tell(to, made.rest.first);
@@ -92,7 +93,7 @@ fn conclude<V: Events>(
         TurnOutcome::Ends(end) => Some(end),
         TurnOutcome::Continues(event) => {
             tell(to, event);
-            arrive(tables, filter, funclets, cpu, to)
+            arrive(tables, filter, funclets, &machine.cpu, to)
         }
     }
 }
@@ -103,7 +104,7 @@ fn conclude_walk<S: AddressSpace, V: Events>(
     names: &NameTable,
     filter: &FuncletFilter,
     funclets: &[Funclet],
-    cpu: &Cpu,
+    machine: &Machine,
     space: &S,
     to: &mut V,
 ) -> Option<RunEnd>
@@ -112,18 +113,18 @@ fn conclude_walk<S: AddressSpace, V: Events>(
     requires admitted { Admits filter.now funclets.now }
     requires few { length funclets.now < 2 ^ 32 - 1 }
     requires ascending { AreAscending 0 funclets.now }
-    ensures host { left cpu.now (S.memory space.now) result
+    ensures host { left machine.now (S.memory space.now) result
         ≡ after (arrived (functions_of tables.now) funclets.now
-        (turn_made (functions_of tables.now) cpu.now (S.memory space.now) Walks)) }
+        (turn_made (functions_of tables.now) machine.now (S.memory space.now) Walks)) }
     ensures shown { V.took to.old (shown_in (arrived (functions_of tables.now) funclets.now
-        (turn_made (functions_of tables.now) cpu.now (S.memory space.now) Walks))) to.new }
+        (turn_made (functions_of tables.now) machine.now (S.memory space.now) Walks))) to.new }
 {
-    match print_walk(tables, names, cpu, space, to) {
+    match print_walk(tables, names, &machine.cpu, space, to) {
         Some(cause) => Some(RunEnd::Stopped {
             why: cause.reason,
             address: cause.address,
         }),
-        None => arrive(tables, filter, funclets, cpu, to),
+        None => arrive(tables, filter, funclets, &machine.cpu, to),
     }
 }
 
@@ -136,7 +137,7 @@ fn dispatch<S: AddressSpace, V: Events>(
     names: &NameTable,
     filter: &FuncletFilter,
     funclets: &[Funclet],
-    cpu: &mut Cpu,
+    machine: &mut Machine,
     space: &mut S,
     to: &mut V,
 ) -> Option<RunEnd>
@@ -145,14 +146,15 @@ fn dispatch<S: AddressSpace, V: Events>(
     requires admitted { Admits filter.now funclets.now }
     requires few { length funclets.now < 2 ^ 32 - 1 }
     requires ascending { AreAscending 0 funclets.now }
-    ensures host { left cpu.new (S.memory space.new) result
-        ≡ after (turn (functions_of tables.now) funclets.now (state cpu.old (S.memory space.old))) }
-    ensures shown { V.took to.old (shown_in
-        (turn (functions_of tables.now) funclets.now (state cpu.old (S.memory space.old)))) to.new }
+    ensures host { left machine.new (S.memory space.new) result
+        ≡ after (turn (functions_of tables.now) funclets.now
+        (state_of machine.old (S.memory space.old))) }
+    ensures shown { V.took to.old (shown_in (turn (functions_of tables.now) funclets.now
+        (state_of machine.old (S.memory space.old)))) to.new }
 {
-    match make(tables, cpu, space) {
-        TurnMade::Told(made) => conclude(tables, filter, funclets, cpu, made, to),
-        TurnMade::Walks => conclude_walk(tables, names, filter, funclets, cpu, space, to),
+    match make(tables, machine, space) {
+        TurnMade::Told(made) => conclude(tables, filter, funclets, machine, made, to),
+        TurnMade::Walks => conclude_walk(tables, names, filter, funclets, machine, space, to),
     }
 }
 
@@ -165,7 +167,7 @@ pub fn advance<S: AddressSpace, V: Events>(
     filter: &FuncletFilter,
     funclets: &[Funclet],
     instructions: &mut InstructionCache,
-    cpu: &mut Cpu,
+    machine: &mut Machine,
     space: &mut S,
     to: &mut V,
 ) -> Option<RunEnd>
@@ -175,14 +177,15 @@ pub fn advance<S: AddressSpace, V: Events>(
     requires few { length funclets.now < 2 ^ 32 - 1 }
     requires ascending { AreAscending 0 funclets.now }
     requires coherent { IsCoherent (S.memory space.old) instructions.old }
-    ensures host { left cpu.new (S.memory space.new) result
-        ≡ after (turn (functions_of tables.now) funclets.now (state cpu.old (S.memory space.old))) }
-    ensures shown { V.took to.old (shown_in
-        (turn (functions_of tables.now) funclets.now (state cpu.old (S.memory space.old)))) to.new }
+    ensures host { left machine.new (S.memory space.new) result
+        ≡ after (turn (functions_of tables.now) funclets.now
+        (state_of machine.old (S.memory space.old))) }
+    ensures shown { V.took to.old (shown_in (turn (functions_of tables.now) funclets.now
+        (state_of machine.old (S.memory space.old)))) to.new }
     ensures coherent { result ≡ None → IsCoherent (S.memory space.new) instructions.new }
 {
-    if step(cpu, space, instructions) {
-        return arrive(tables, filter, funclets, cpu, to);
+    if step(&mut machine.cpu, space, instructions) {
+        return arrive(tables, filter, funclets, &machine.cpu, to);
     }
-    dispatch(tables, names, filter, funclets, cpu, space, to)
+    dispatch(tables, names, filter, funclets, machine, space, to)
 }

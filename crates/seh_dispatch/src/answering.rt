@@ -1,29 +1,33 @@
-//! What filters answer, and where filters and `__finally` blocks return.
+//! What filters and vectored handlers answer, and where these and `__finally` blocks return.
 
-ghost use Rattle.std.specs.Prelude.{◌≡◌, true};
+ghost use Rattle.std.specs.Prelude.{◌≡◌, ◌+◌, ◌%◌, ◌==◌, nat_le};
+ghost use Rattle.seh_num.specs.declared.width.Width.TheVariants.{W32};
+ghost use Rattle.seh_num.specs.Widths.{half};
 ghost use Rattle.eh_tables.specs.Tables.{TablesAreWhole};
 ghost use Rattle.virtual_unwind.specs.CallerOf.{functions_of};
-ghost use Rattle.x64_machine.specs.Effect.{register, state};
+ghost use Rattle.x64_machine.specs.Effect.{register};
 ghost use Rattle.x64_instr.specs.declared.register.Reg.TheVariants.{Rsp};
 ghost use Rattle.seh_records.specs.Record.{fetched};
 ghost use Rattle.host_model.specs.Dispatch as spec;
+ghost use Rattle.seh_dispatch.specs.Machines.{state_of};
 ghost use Rattle.seh_dispatch.specs.Outcomes.{turn_of, led_turn, made_turn, bad_record};
 
 use crate::dispatching::{accept, begun, search_on, stopped, unwind_on};
+use crate::machine::Machine;
 use crate::outcome::{Led, Made, TurnOutcome, all_silent, silent};
+use crate::raising::{ask_on, search_from};
 use eh_tables::{ScopeRecord, Tables};
 use seh_num::code::NONCONTINUABLE_EXCEPTION;
-use seh_num::end::{Reason, RunEnd};
+use seh_num::end::Reason;
 use seh_num::event::Event;
 use seh_num::extension::sign_extend;
 use seh_num::size::EXCEPTION_MAXIMUM_PARAMETERS;
 use seh_num::width::Width;
 use seh_records::dispatch::{EXCEPTION_NONCONTINUABLE, Kind};
-use seh_records::{DispatchRecord, fetch, rewrite};
+use seh_records::{DispatchRecord, fetch};
 use seh_walk::asked::skipped;
 use seh_walk::stop_cause::StopCause;
 use x64_instr::register::Reg;
-use x64_machine::cpu::Cpu;
 use x64_memory::space::AddressSpace;
 
 /// The answers from here on are below 0: the signed numbers of 32 bits whose top bit is set.
@@ -42,6 +46,7 @@ fn again(dispatch: &DispatchRecord) -> DispatchRecord
     ensures { result ≡ spec.again dispatch.now }
 {
     let mut new = *dispatch;
+    new.kind = Kind::Vectored;
     new.code = NONCONTINUABLE_EXCEPTION;
     new.flags = EXCEPTION_NONCONTINUABLE;
     new.count = 0;
@@ -49,29 +54,6 @@ fn again(dispatch: &DispatchRecord) -> DispatchRecord
     new.target_frame = 0;
     new.target = 0;
     begun(&new)
-}
-
-/// The exception that takes the place of one that can't be continued: its record is rewritten in
-/// place, and the search begins anew.
-#[tactic(auto, using(crate::proofs::RecordPlacement::placing))]
-fn search_again<S: AddressSpace>(
-    tables: &Tables,
-    cpu: &mut Cpu,
-    space: &mut S,
-    at: u64,
-    dispatch: &DispatchRecord,
-) -> TurnOutcome
-    requires { TablesAreWhole tables.now }
-    ensures { turn_of cpu.new (S.memory space.new) result ≡ spec.searched_again
-        (functions_of tables.now) (state cpu.old (S.memory space.old)) at dispatch.now }
-{
-    let new = again(dispatch);
-    match rewrite(space, at, &new) {
-        Err(guard) => TurnOutcome::Ends(RunEnd::StackLimit {
-            address: guard.address,
-        }),
-        Ok(()) => search_on(tables, cpu, space, at, &new),
-    }
 }
 
 /// The row of the filter that a record has asked: the one just before its next row.
@@ -98,14 +80,14 @@ fn asked_row(tables: &Tables, dispatch: &DispatchRecord) -> Option<ScopeRecord>
 /// An answer above 0: the row's frame accepts.
 fn jump<S: AddressSpace>(
     tables: &Tables,
-    cpu: &mut Cpu,
+    machine: &mut Machine,
     space: &mut S,
     at: u64,
     dispatch: &DispatchRecord,
 ) -> TurnOutcome
     requires { TablesAreWhole tables.now }
-    ensures { turn_of cpu.new (S.memory space.new) result
-        ≡ spec.jumping (functions_of tables.now) (state cpu.old (S.memory space.old))
+    ensures { turn_of machine.new (S.memory space.new) result
+        ≡ spec.jumping (functions_of tables.now) (state_of machine.old (S.memory space.old))
         at dispatch.now (spec.asked_row (functions_of tables.now) dispatch.now) }
 {
     match asked_row(tables, dispatch) {
@@ -115,29 +97,31 @@ fn jump<S: AddressSpace>(
                 return bad(at);
             }
             let target = tables.base().wrapping_add(row.jump_target as u64);
-            accept(tables, cpu, space, at, dispatch, dispatch.frame, target)
+            accept(tables, machine, space, at, dispatch, dispatch.frame, target)
         }
     }
 }
 
-/// An answer below 0: the saved state is restored, or the exception can't be continued.
+/// An answer below 0: the saved state is restored. Of an exception that can't be continued the
+/// record is rewritten in place for another one, and the vectored handlers are asked anew.
 #[tactic(auto, using(crate::proofs::TurnEvents::leading))]
 fn continue_execution<S: AddressSpace>(
     tables: &Tables,
-    cpu: &mut Cpu,
+    machine: &mut Machine,
     space: &mut S,
     at: u64,
     dispatch: &DispatchRecord,
 ) -> Led
     requires { TablesAreWhole tables.now }
-    ensures { led_turn cpu.new (S.memory space.new) result ≡ spec.by_sign (functions_of tables.now)
-        (state cpu.old (S.memory space.old)) at dispatch.now true }
+    ensures { led_turn machine.new (S.memory space.new) result ≡ spec.continued
+        (functions_of tables.now) (state_of machine.old (S.memory space.old)) at dispatch.now
+        (dispatch.now.flags % 2 == 0) }
 {
     if dispatch.flags % 2 == 0 {
-        *cpu = dispatch.saved;
+        machine.cpu = dispatch.saved;
         return silent(TurnOutcome::Continues(None));
     }
-    let outcome = search_again(tables, cpu, space, at, dispatch);
+    let outcome = ask_on(tables, machine, space, at, &again(dispatch));
     Led {
         first: Some(Event::Raise {
             code: NONCONTINUABLE_EXCEPTION,
@@ -152,42 +136,44 @@ fn continue_execution<S: AddressSpace>(
 #[tactic(auto, using(crate::proofs::TurnEvents::leading))]
 fn answer<S: AddressSpace>(
     tables: &Tables,
-    cpu: &mut Cpu,
+    machine: &mut Machine,
     space: &mut S,
     at: u64,
     dispatch: &DispatchRecord,
     value: u32,
 ) -> Led
     requires { TablesAreWhole tables.now }
-    ensures { led_turn cpu.new (S.memory space.new) result ≡ spec.answered (functions_of tables.now)
-        (state cpu.old (S.memory space.old)) at dispatch.now value }
+    ensures { led_turn machine.new (S.memory space.new) result ≡ spec.answered
+        (functions_of tables.now) (state_of machine.old (S.memory space.old)) at dispatch.now
+        value }
 {
     if value == 0 {
-        return silent(search_on(tables, cpu, space, at, dispatch));
+        return silent(search_on(tables, machine, space, at, dispatch));
     }
     if value >= FIRST_NEGATIVE {
-        return continue_execution(tables, cpu, space, at, dispatch);
+        return continue_execution(tables, machine, space, at, dispatch);
     }
-    silent(jump(tables, cpu, space, at, dispatch))
+    silent(jump(tables, machine, space, at, dispatch))
 }
 
 /// A filter's return, with its answer in EAX.
 #[tactic(auto, using(crate::proofs::TurnEvents::leading))]
-pub fn filter_return<S: AddressSpace>(tables: &Tables, cpu: &mut Cpu, space: &mut S) -> Made
+pub fn filter_return<S: AddressSpace>(tables: &Tables, machine: &mut Machine, space: &mut S) -> Made
     requires { TablesAreWhole tables.now }
-    ensures { made_turn cpu.new (S.memory space.new) result
-        ≡ spec.filter_returned (functions_of tables.now) (state cpu.old (S.memory space.old))
-        (register cpu.old Rsp) (fetched (S.memory space.old) (register cpu.old Rsp)) }
+    ensures { made_turn machine.new (S.memory space.new) result
+        ≡ spec.filter_returned (functions_of tables.now) (state_of machine.old (S.memory space.old))
+        (register machine.old.cpu Rsp)
+        (fetched (S.memory space.old) (register machine.old.cpu Rsp)) }
 {
-    let at = cpu.register(Reg::Rsp);
+    let at = machine.cpu.register(Reg::Rsp);
     match fetch(space, at) {
         Err(_) => all_silent(bad(at)),
         Ok(dispatch) => match dispatch.kind {
             Kind::Search => {
-                let rax = cpu.register(Reg::Rax);
+                let rax = machine.cpu.register(Reg::Rax);
                 let shown = sign_extend(Width::W32, rax) as i32;
                 let value = (rax % (1 << 32)) as u32;
-                let rest = answer(tables, cpu, space, at, &dispatch, value);
+                let rest = answer(tables, machine, space, at, &dispatch, value);
                 Made {
                     first: Some(Event::Answer(shown)),
                     rest,
@@ -199,18 +185,96 @@ pub fn filter_return<S: AddressSpace>(tables: &Tables, cpu: &mut Cpu, space: &mu
 }
 
 /// The return of a `__finally` block: its unwinding continues.
-pub fn finally_return<S: AddressSpace>(tables: &Tables, cpu: &mut Cpu, space: &mut S) -> TurnOutcome
+pub fn finally_return<S: AddressSpace>(
+    tables: &Tables,
+    machine: &mut Machine,
+    space: &mut S,
+) -> TurnOutcome
     requires { TablesAreWhole tables.now }
-    ensures { turn_of cpu.new (S.memory space.new) result
-        ≡ spec.finally_returned (functions_of tables.now) (state cpu.old (S.memory space.old))
-        (register cpu.old Rsp) (fetched (S.memory space.old) (register cpu.old Rsp)) }
+    ensures { turn_of machine.new (S.memory space.new) result
+        ≡ spec.finally_returned (functions_of tables.now)
+        (state_of machine.old (S.memory space.old))
+        (register machine.old.cpu Rsp)
+        (fetched (S.memory space.old) (register machine.old.cpu Rsp)) }
 {
-    let at = cpu.register(Reg::Rsp);
+    let at = machine.cpu.register(Reg::Rsp);
     match fetch(space, at) {
         Err(_) => bad(at),
         Ok(dispatch) => match dispatch.kind {
-            Kind::Search => bad(at),
-            _ => unwind_on(tables, cpu, space, at, &dispatch),
+            Kind::ExceptionUnwind | Kind::LocalUnwind => {
+                unwind_on(tables, machine, space, at, &dispatch)
+            }
+            Kind::Search | Kind::Vectored => bad(at),
+        },
+    }
+}
+
+/// The next vectored handler is asked, in the list as it is now; past the last one the search
+/// begins.
+fn ask_next<S: AddressSpace>(
+    tables: &Tables,
+    machine: &mut Machine,
+    space: &mut S,
+    at: u64,
+    dispatch: &DispatchRecord,
+) -> TurnOutcome
+    requires { TablesAreWhole tables.now }
+    ensures { turn_of machine.new (S.memory space.new) result ≡ spec.asks_on
+        (functions_of tables.now) (state_of machine.old (S.memory space.old)) at
+        (record dispatch.now { row = dispatch.now.row + 1 }) }
+{
+    // at no later place is one
+    if dispatch.row >= machine.handlers.len() {
+        return search_from(tables, machine, space, at, dispatch);
+    }
+    let mut next = *dispatch;
+    next.row += 1;
+    ask_on(tables, machine, space, at, &next)
+}
+
+/// What a vectored handler's answer does.
+#[tactic(auto, using(crate::proofs::TurnEvents::leading))]
+fn answer_vectored<S: AddressSpace>(
+    tables: &Tables,
+    machine: &mut Machine,
+    space: &mut S,
+    at: u64,
+    dispatch: &DispatchRecord,
+    value: u32,
+) -> Led
+    requires { TablesAreWhole tables.now }
+    ensures { led_turn machine.new (S.memory space.new) result ≡ spec.by_vectored_answer
+        (functions_of tables.now) (state_of machine.old (S.memory space.old)) at dispatch.now
+        (nat_le (half W32) value) }
+{
+    if value >= FIRST_NEGATIVE {
+        return continue_execution(tables, machine, space, at, dispatch);
+    }
+    silent(ask_next(tables, machine, space, at, dispatch))
+}
+
+/// A vectored handler's return, with its answer in EAX.
+#[tactic(auto, using(crate::proofs::TurnEvents::leading))]
+pub fn vectored_return<S: AddressSpace>(
+    tables: &Tables,
+    machine: &mut Machine,
+    space: &mut S,
+) -> Led
+    requires { TablesAreWhole tables.now }
+    ensures { led_turn machine.new (S.memory space.new) result ≡ spec.vectored_returned
+        (functions_of tables.now) (state_of machine.old (S.memory space.old))
+        (register machine.old.cpu Rsp)
+        (fetched (S.memory space.old) (register machine.old.cpu Rsp)) }
+{
+    let at = machine.cpu.register(Reg::Rsp);
+    match fetch(space, at) {
+        Err(_) => silent(bad(at)),
+        Ok(dispatch) => match dispatch.kind {
+            Kind::Vectored => {
+                let value = (machine.cpu.register(Reg::Rax) % (1 << 32)) as u32;
+                answer_vectored(tables, machine, space, at, &dispatch, value)
+            }
+            _ => silent(bad(at)),
         },
     }
 }

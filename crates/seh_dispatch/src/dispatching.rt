@@ -4,10 +4,11 @@
 ghost use Rattle.std.specs.Prelude.{◌≡◌, ◌%◌};
 ghost use Rattle.eh_tables.specs.Tables.{TablesAreWhole};
 ghost use Rattle.virtual_unwind.specs.CallerOf.{functions_of};
-ghost use Rattle.x64_machine.specs.Effect.{state};
 ghost use Rattle.host_model.specs.Dispatch as spec;
+ghost use Rattle.seh_dispatch.specs.Machines.{state_of};
 ghost use Rattle.seh_dispatch.specs.Outcomes.{turn_of, stopped_outcome};
 
+use crate::machine::Machine;
 use crate::outcome::TurnOutcome;
 use eh_tables::Tables;
 use host_layout::service::{FILTER_RETURN_AT, FINALLY_RETURN_AT};
@@ -66,9 +67,9 @@ fn accepting(dispatch: &DispatchRecord, frame: u64, target: u64) -> DispatchReco
     begun(&accepted)
 }
 
-/// Calls a funclet at a record: its return address is below the record.
-fn enter<S: AddressSpace>(
-    cpu: &mut Cpu,
+/// Calls a funclet or a vectored handler at a record: its return address is below the record.
+pub fn enter<S: AddressSpace>(
+    machine: &mut Machine,
     space: &mut S,
     at: u64,
     back: u64,
@@ -76,15 +77,15 @@ fn enter<S: AddressSpace>(
     first: u64,
     frame: u64,
 )
-    ensures { state cpu.new (S.memory space.new)
-        ≡ spec.entered (state cpu.old (S.memory space.old)) at back handler first frame }
+    ensures { state_of machine.new (S.memory space.new)
+        ≡ spec.entered (state_of machine.old (S.memory space.old)) at back handler first frame }
 {
     let below = at.wrapping_sub(8);
     let _ = space.store(below, Width::W64, back);
-    cpu.registers[Reg::Rcx as usize] = first;
-    cpu.registers[Reg::Rdx as usize] = frame;
-    cpu.registers[Reg::Rsp as usize] = below;
-    cpu.rip = handler;
+    machine.cpu.registers[Reg::Rcx as usize] = first;
+    machine.cpu.registers[Reg::Rdx as usize] = frame;
+    machine.cpu.registers[Reg::Rsp as usize] = below;
+    machine.cpu.rip = handler;
 }
 
 fn landed(context: &Context, rax: u64, target: u64) -> Cpu
@@ -106,21 +107,21 @@ fn landed(context: &Context, rax: u64, target: u64) -> Cpu
 }
 
 fn land<S: AddressSpace>(
-    cpu: &mut Cpu,
+    machine: &mut Machine,
     space: &S,
     dispatch: &DispatchRecord,
     context: &Context,
 ) -> TurnOutcome
-    ensures { turn_of cpu.new (S.memory space.now) result
-        ≡ spec.land (state cpu.old (S.memory space.now)) dispatch.now context.now }
+    ensures { turn_of machine.new (S.memory space.now) result
+        ≡ spec.land (state_of machine.old (S.memory space.now)) dispatch.now context.now }
 {
     match dispatch.kind {
         Kind::ExceptionUnwind => {
-            *cpu = landed(context, dispatch.code.0 as u64, dispatch.target);
+            machine.cpu = landed(context, dispatch.code.0 as u64, dispatch.target);
             TurnOutcome::Continues(Some(Event::Except(dispatch.code)))
         }
         _ => {
-            *cpu = landed(context, 0, dispatch.target);
+            machine.cpu = landed(context, 0, dispatch.target);
             TurnOutcome::Continues(None)
         }
     }
@@ -130,18 +131,18 @@ fn land<S: AddressSpace>(
 #[tactic(auto, using(crate::proofs::RecordPlacement::placing))]
 pub fn unwind_on<S: AddressSpace>(
     tables: &Tables,
-    cpu: &mut Cpu,
+    machine: &mut Machine,
     space: &mut S,
     at: u64,
     dispatch: &DispatchRecord,
 ) -> TurnOutcome
     requires { TablesAreWhole tables.now }
-    ensures { turn_of cpu.new (S.memory space.new) result ≡ spec.unwinds_on
-        (functions_of tables.now) (state cpu.old (S.memory space.old)) at dispatch.now }
+    ensures { turn_of machine.new (S.memory space.new) result ≡ spec.unwinds_on
+        (functions_of tables.now) (state_of machine.old (S.memory space.old)) at dispatch.now }
 {
     match unwind(tables, space, dispatch) {
         UnwindResult::Stop(why) => stopped(why),
-        UnwindResult::Land { context } => land(cpu, space, dispatch, &context),
+        UnwindResult::Land { context } => land(machine, space, dispatch, &context),
         UnwindResult::Finally {
             handler,
             frame,
@@ -152,7 +153,7 @@ pub fn unwind_on<S: AddressSpace>(
                 address: guard.address,
             }),
             Ok(()) => {
-                enter(cpu, space, at, FINALLY_RETURN_AT, handler, 1, frame);
+                enter(machine, space, at, FINALLY_RETURN_AT, handler, 1, frame);
                 TurnOutcome::Continues(None)
             }
         },
@@ -163,7 +164,7 @@ pub fn unwind_on<S: AddressSpace>(
 #[tactic(auto, using(crate::proofs::RecordPlacement::placing))]
 pub fn accept<S: AddressSpace>(
     tables: &Tables,
-    cpu: &mut Cpu,
+    machine: &mut Machine,
     space: &mut S,
     at: u64,
     dispatch: &DispatchRecord,
@@ -171,15 +172,16 @@ pub fn accept<S: AddressSpace>(
     target: u64,
 ) -> TurnOutcome
     requires { TablesAreWhole tables.now }
-    ensures { turn_of cpu.new (S.memory space.new) result ≡ spec.accepted (functions_of tables.now)
-        (state cpu.old (S.memory space.old)) at dispatch.now frame target }
+    ensures { turn_of machine.new (S.memory space.new) result ≡ spec.accepted
+        (functions_of tables.now) (state_of machine.old (S.memory space.old)) at dispatch.now frame
+        target }
 {
     let accepted = accepting(dispatch, frame, target);
     match rewrite(space, at, &accepted) {
         Err(guard) => TurnOutcome::Ends(RunEnd::StackLimit {
             address: guard.address,
         }),
-        Ok(()) => unwind_on(tables, cpu, space, at, &accepted),
+        Ok(()) => unwind_on(tables, machine, space, at, &accepted),
     }
 }
 
@@ -187,20 +189,20 @@ pub fn accept<S: AddressSpace>(
 #[tactic(auto, using(crate::proofs::RecordPlacement::placing))]
 pub fn search_on<S: AddressSpace>(
     tables: &Tables,
-    cpu: &mut Cpu,
+    machine: &mut Machine,
     space: &mut S,
     at: u64,
     dispatch: &DispatchRecord,
 ) -> TurnOutcome
     requires { TablesAreWhole tables.now }
-    ensures { turn_of cpu.new (S.memory space.new) result ≡ spec.searches_on
-        (functions_of tables.now) (state cpu.old (S.memory space.old)) at dispatch.now }
+    ensures { turn_of machine.new (S.memory space.new) result ≡ spec.searches_on
+        (functions_of tables.now) (state_of machine.old (S.memory space.old)) at dispatch.now }
 {
     match search(tables, space, dispatch) {
         SearchResult::Stop(why) => stopped(why),
         SearchResult::Nobody => TurnOutcome::Ends(RunEnd::Unhandled(dispatch.code)),
         SearchResult::Accept { frame, target } => {
-            accept(tables, cpu, space, at, dispatch, frame, target)
+            accept(tables, machine, space, at, dispatch, frame, target)
         }
         SearchResult::Filter {
             handler,
@@ -213,7 +215,15 @@ pub fn search_on<S: AddressSpace>(
             }),
             Ok(()) => {
                 let pointers = at.wrapping_add(POINTERS_AT);
-                enter(cpu, space, at, FILTER_RETURN_AT, handler, pointers, frame);
+                enter(
+                    machine,
+                    space,
+                    at,
+                    FILTER_RETURN_AT,
+                    handler,
+                    pointers,
+                    frame,
+                );
                 TurnOutcome::Continues(None)
             }
         },
@@ -240,7 +250,8 @@ fn count(access: Option<(bool, u64)>) -> u32
     }
 }
 
-fn new_record(
+/// A record that has just begun, from the saved state.
+pub fn new_record(
     kind: Kind,
     code: Code,
     flags: u32,
@@ -264,30 +275,6 @@ fn new_record(
     }
 }
 
-/// A new exception, of which the state is saved.
-#[tactic(auto, using(crate::proofs::RecordPlacement::placing))]
-pub fn raise<S: AddressSpace>(
-    tables: &Tables,
-    cpu: &mut Cpu,
-    space: &mut S,
-    code: Code,
-    flags: u32,
-    access: Option<(bool, u64)>,
-    saved: &Cpu,
-) -> TurnOutcome
-    requires { TablesAreWhole tables.now }
-    ensures { turn_of cpu.new (S.memory space.new) result ≡ spec.raising (functions_of tables.now)
-        (state cpu.old (S.memory space.old)) code flags access saved.now }
-{
-    let dispatch = new_record(Kind::Search, code, flags, access, saved);
-    match place(space, saved.registers[Reg::Rsp as usize], &dispatch) {
-        Err(guard) => TurnOutcome::Ends(RunEnd::StackLimit {
-            address: guard.address,
-        }),
-        Ok(at) => search_on(tables, cpu, space, at, &dispatch),
-    }
-}
-
 fn to_target(saved: &Cpu, frame: u64, target: u64) -> DispatchRecord
     ensures { result ≡ spec.to_target saved.now frame target }
 {
@@ -301,21 +288,22 @@ fn to_target(saved: &Cpu, frame: u64, target: u64) -> DispatchRecord
 #[tactic(auto, using(crate::proofs::RecordPlacement::placing))]
 pub fn unwind_locally<S: AddressSpace>(
     tables: &Tables,
-    cpu: &mut Cpu,
+    machine: &mut Machine,
     space: &mut S,
     frame: u64,
     target: u64,
     saved: &Cpu,
 ) -> TurnOutcome
     requires { TablesAreWhole tables.now }
-    ensures { turn_of cpu.new (S.memory space.new) result ≡ spec.unwound_locally
-        (functions_of tables.now) (state cpu.old (S.memory space.old)) frame target saved.now }
+    ensures { turn_of machine.new (S.memory space.new) result ≡ spec.unwound_locally
+        (functions_of tables.now) (state_of machine.old (S.memory space.old)) frame target
+        saved.now }
 {
     let dispatch = to_target(saved, frame, target);
     match place(space, saved.registers[Reg::Rsp as usize], &dispatch) {
         Err(guard) => TurnOutcome::Ends(RunEnd::StackLimit {
             address: guard.address,
         }),
-        Ok(at) => unwind_on(tables, cpu, space, at, &dispatch),
+        Ok(at) => unwind_on(tables, machine, space, at, &dispatch),
     }
 }

@@ -8,14 +8,17 @@ ghost use Rattle.flat_memory.specs.Memory.{loaded};
 ghost use Rattle.virtual_unwind.specs.CallerOf.{functions_of};
 ghost use Rattle.x64_instr.specs.declared.register.Reg.TheVariants.{Rcx, Rdx, Rsp};
 ghost use Rattle.host_layout.specs.declared.service.Service.TheVariants as services;
-ghost use Rattle.x64_machine.specs.Effect.{register, state, step};
+ghost use Rattle.x64_machine.specs.Effect.{register, step};
 ghost use Rattle.host_model.specs.Dispatch as dispatch;
 ghost use Rattle.host_model.specs.HostStep as spec;
+ghost use Rattle.seh_dispatch.specs.Machines.{state_of};
 ghost use Rattle.seh_dispatch.specs.Outcomes.{turn_of, led_turn, turn_made, back_of, stopped_outcome};
 
-use crate::answering::{filter_return, finally_return};
-use crate::dispatching::{raise, stopped, unwind_locally};
+use crate::answering::{filter_return, finally_return, vectored_return};
+use crate::dispatching::{stopped, unwind_locally};
+use crate::machine::Machine;
 use crate::outcome::{Led, Made, TurnMade, TurnOutcome, all_told, silent};
+use crate::raising::raise;
 use eh_tables::Tables;
 use host_layout::service::Service;
 use seh_num::end::{Reason, RunEnd};
@@ -58,15 +61,15 @@ fn unreadable(cpu: &Cpu) -> TurnOutcome
 
 /// Shows the number in RCX.
 #[tactic(auto, using(crate::proofs::ServiceReturn::returning_steps))]
-fn put<S: AddressSpace>(cpu: &mut Cpu, space: &S) -> TurnOutcome
-    ensures { turn_of cpu.new (S.memory space.now) result
-        ≡ spec.put (state cpu.old (S.memory space.now)) }
+fn put<S: AddressSpace>(machine: &mut Machine, space: &S) -> TurnOutcome
+    ensures { turn_of machine.new (S.memory space.now) result
+        ≡ spec.put (state_of machine.old (S.memory space.now)) }
 {
-    match back(cpu, space) {
-        None => unreadable(cpu),
+    match back(&machine.cpu, space) {
+        None => unreadable(&machine.cpu),
         Some(after) => {
-            let value = sign_extend(Width::W64, cpu.register(Reg::Rcx));
-            *cpu = after;
+            let value = sign_extend(Width::W64, machine.cpu.register(Reg::Rcx));
+            machine.cpu = after;
             TurnOutcome::Continues(Some(Event::Put(value)))
         }
     }
@@ -74,29 +77,76 @@ fn put<S: AddressSpace>(cpu: &mut Cpu, space: &S) -> TurnOutcome
 
 /// Sets the rights of a page of the arena.
 #[tactic(auto, using(crate::proofs::ServiceReturn::returning_steps))]
-fn protect<S: AddressSpace>(cpu: &mut Cpu, space: &mut S) -> TurnOutcome
-    ensures { turn_of cpu.new (S.memory space.new) result
-        ≡ spec.returning (state cpu.old (S.memory space.old))
-        (spec.protecting (state cpu.old (S.memory space.old))) }
+fn protect<S: AddressSpace>(machine: &mut Machine, space: &mut S) -> TurnOutcome
+    ensures { turn_of machine.new (S.memory space.new) result
+        ≡ spec.returning (state_of machine.old (S.memory space.old))
+        (spec.protecting (state_of machine.old (S.memory space.old))) }
 {
-    match back(cpu, space) {
-        None => unreadable(cpu),
+    match back(&machine.cpu, space) {
+        None => unreadable(&machine.cpu),
         Some(after) => {
-            let at = cpu.register(Reg::Rcx);
-            let protection = sign_extend(Width::W32, cpu.register(Reg::Rdx)) as i32;
+            let at = machine.cpu.register(Reg::Rcx);
+            let protection = sign_extend(Width::W32, machine.cpu.register(Reg::Rdx)) as i32;
             let answer = if space.protect(at, protection) { 1 } else { 0 };
-            *cpu = after;
-            cpu.set_register(Width::W64, Reg::Rax, answer);
+            machine.cpu = after;
+            machine.cpu.set_register(Width::W64, Reg::Rax, answer);
             TurnOutcome::Continues(None)
         }
     }
 }
 
-/// An exception: its event, and its search.
+/// Puts the vectored handler in RDX into the list, in front of the others where ECX isn't 0.
+#[tactic(auto, using(crate::proofs::ServiceReturn::returning_steps))]
+fn add_vectored<S: AddressSpace>(machine: &mut Machine, space: &S) -> TurnOutcome
+    ensures { turn_of machine.new (S.memory space.now) result
+        ≡ spec.returning (state_of machine.old (S.memory space.now))
+        (spec.adding (state_of machine.old (S.memory space.now))) }
+{
+    match back(&machine.cpu, space) {
+        None => unreadable(&machine.cpu),
+        Some(after) => {
+            let first = machine.cpu.register(Reg::Rcx) % (1 << 32) != 0;
+            let handler = machine.cpu.register(Reg::Rdx);
+            let answer = if machine.handlers.add(first, handler) {
+                1
+            } else {
+                0
+            };
+            machine.cpu = after;
+            machine.cpu.set_register(Width::W64, Reg::Rax, answer);
+            TurnOutcome::Continues(None)
+        }
+    }
+}
+
+/// Takes the vectored handler in RCX out of the list.
+#[tactic(auto, using(crate::proofs::ServiceReturn::returning_steps))]
+fn remove_vectored<S: AddressSpace>(machine: &mut Machine, space: &S) -> TurnOutcome
+    ensures { turn_of machine.new (S.memory space.now) result
+        ≡ spec.returning (state_of machine.old (S.memory space.now))
+        (spec.removing (state_of machine.old (S.memory space.now))) }
+{
+    match back(&machine.cpu, space) {
+        None => unreadable(&machine.cpu),
+        Some(after) => {
+            let handler = machine.cpu.register(Reg::Rcx);
+            let answer = if machine.handlers.remove(handler) {
+                1
+            } else {
+                0
+            };
+            machine.cpu = after;
+            machine.cpu.set_register(Width::W64, Reg::Rax, answer);
+            TurnOutcome::Continues(None)
+        }
+    }
+}
+
+/// An exception: its event, and those who are asked about it.
 #[tactic(auto, using(crate::proofs::TurnEvents::leading))]
 fn raised<S: AddressSpace>(
     tables: &Tables,
-    cpu: &mut Cpu,
+    machine: &mut Machine,
     space: &mut S,
     code: Code,
     flags: u32,
@@ -104,10 +154,11 @@ fn raised<S: AddressSpace>(
     saved: &Cpu,
 ) -> Led
     requires { TablesAreWhole tables.now }
-    ensures { led_turn cpu.new (S.memory space.new) result ≡ dispatch.raised
-        (functions_of tables.now) (state cpu.old (S.memory space.old)) code flags access saved.now }
+    ensures { led_turn machine.new (S.memory space.new) result ≡ dispatch.raised
+        (functions_of tables.now) (state_of machine.old (S.memory space.old)) code flags access
+        saved.now }
 {
-    let outcome = raise(tables, cpu, space, code, flags, access, saved);
+    let outcome = raise(tables, machine, space, code, flags, access, saved);
     Led {
         first: Some(Event::Raise {
             code,
@@ -120,49 +171,55 @@ fn raised<S: AddressSpace>(
 
 /// Raises the exception of the code in ECX; bit 0 of EDX makes it noncontinuable.
 #[tactic(auto, using(crate::proofs::ServiceReturn::returning_steps, crate::proofs::TurnEvents::leading))]
-fn raise_exception<S: AddressSpace>(tables: &Tables, cpu: &mut Cpu, space: &mut S) -> Led
+fn raise_exception<S: AddressSpace>(tables: &Tables, machine: &mut Machine, space: &mut S) -> Led
     requires { TablesAreWhole tables.now }
-    ensures { led_turn cpu.new (S.memory space.new) result ≡ spec.served (functions_of tables.now)
-        (state cpu.old (S.memory space.old)) (Some services.RaiseException) }
+    ensures { led_turn machine.new (S.memory space.new) result
+        ≡ spec.served (functions_of tables.now) (state_of machine.old (S.memory space.old))
+        (Some services.RaiseException) }
 {
-    match back(cpu, space) {
-        None => silent(unreadable(cpu)),
+    match back(&machine.cpu, space) {
+        None => silent(unreadable(&machine.cpu)),
         Some(after) => {
-            let code = Code((cpu.register(Reg::Rcx) % (1 << 32)) as u32);
-            let flags = (cpu.register(Reg::Rdx) % 2) as u32;
-            raised(tables, cpu, space, code, flags, None, &after)
+            let code = Code((machine.cpu.register(Reg::Rcx) % (1 << 32)) as u32);
+            let flags = (machine.cpu.register(Reg::Rdx) % 2) as u32;
+            raised(tables, machine, space, code, flags, None, &after)
         }
     }
 }
 
 /// Unwinds to the target in RDX of the frame in RCX.
 #[tactic(auto, using(crate::proofs::ServiceReturn::returning_steps))]
-fn local_unwind<S: AddressSpace>(tables: &Tables, cpu: &mut Cpu, space: &mut S) -> TurnOutcome
+fn local_unwind<S: AddressSpace>(
+    tables: &Tables,
+    machine: &mut Machine,
+    space: &mut S,
+) -> TurnOutcome
     requires { TablesAreWhole tables.now }
-    ensures { turn_of cpu.new (S.memory space.new) result ≡ spec.served (functions_of tables.now)
-        (state cpu.old (S.memory space.old)) (Some services.LocalUnwind) }
+    ensures { turn_of machine.new (S.memory space.new) result
+        ≡ spec.served (functions_of tables.now) (state_of machine.old (S.memory space.old))
+        (Some services.LocalUnwind) }
 {
-    match back(cpu, space) {
-        None => unreadable(cpu),
+    match back(&machine.cpu, space) {
+        None => unreadable(&machine.cpu),
         Some(after) => {
-            let frame = cpu.register(Reg::Rcx);
-            let target = cpu.register(Reg::Rdx);
-            unwind_locally(tables, cpu, space, frame, target, &after)
+            let frame = machine.cpu.register(Reg::Rcx);
+            let target = machine.cpu.register(Reg::Rdx);
+            unwind_locally(tables, machine, space, frame, target, &after)
         }
     }
 }
 
 /// Returns, with a walk from the caller to be printed.
 #[tactic(auto, using(crate::proofs::ServiceReturn::returning_steps))]
-fn walk<S: AddressSpace>(tables: &Tables, cpu: &mut Cpu, space: &S) -> TurnMade
-    ensures { turn_made (functions_of tables.now) cpu.new (S.memory space.now) result
-        ≡ spec.served (functions_of tables.now) (state cpu.old (S.memory space.now))
+fn walk<S: AddressSpace>(tables: &Tables, machine: &mut Machine, space: &S) -> TurnMade
+    ensures { turn_made (functions_of tables.now) machine.new (S.memory space.now) result
+        ≡ spec.served (functions_of tables.now) (state_of machine.old (S.memory space.now))
         (Some services.Walk) }
 {
-    match back(cpu, space) {
-        None => all_told(unreadable(cpu)),
+    match back(&machine.cpu, space) {
+        None => all_told(unreadable(&machine.cpu)),
         Some(after) => {
-            *cpu = after;
+            machine.cpu = after;
             TurnMade::Walks
         }
     }
@@ -172,49 +229,56 @@ fn walk<S: AddressSpace>(tables: &Tables, cpu: &mut Cpu, space: &S) -> TurnMade
 #[tactic(auto, using(crate::proofs::TurnEvents::leading))]
 fn serve<S: AddressSpace>(
     tables: &Tables,
-    cpu: &mut Cpu,
+    machine: &mut Machine,
     space: &mut S,
     service: Option<Service>,
 ) -> TurnMade
     requires { TablesAreWhole tables.now }
-    ensures { turn_made (functions_of tables.now) cpu.new (S.memory space.new) result
-        ≡ spec.served (functions_of tables.now) (state cpu.old (S.memory space.old)) service }
+    ensures { turn_made (functions_of tables.now) machine.new (S.memory space.new) result
+        ≡ spec.served (functions_of tables.now) (state_of machine.old (S.memory space.old))
+        service }
 {
     match service {
-        Some(Service::Put) => all_told(put(cpu, space)),
-        Some(Service::Protect) => all_told(protect(cpu, space)),
+        Some(Service::Put) => all_told(put(machine, space)),
+        Some(Service::Protect) => all_told(protect(machine, space)),
         Some(Service::RaiseException) => {
-            let rest = raise_exception(tables, cpu, space);
+            let rest = raise_exception(tables, machine, space);
             TurnMade::Told(Made { first: None, rest })
         }
-        Some(Service::LocalUnwind) => all_told(local_unwind(tables, cpu, space)),
-        Some(Service::FilterReturn) => TurnMade::Told(filter_return(tables, cpu, space)),
-        Some(Service::FinallyReturn) => all_told(finally_return(tables, cpu, space)),
-        Some(Service::Walk) => walk(tables, cpu, space),
+        Some(Service::LocalUnwind) => all_told(local_unwind(tables, machine, space)),
+        Some(Service::FilterReturn) => TurnMade::Told(filter_return(tables, machine, space)),
+        Some(Service::FinallyReturn) => all_told(finally_return(tables, machine, space)),
+        Some(Service::AddVectored) => all_told(add_vectored(machine, space)),
+        Some(Service::RemoveVectored) => all_told(remove_vectored(machine, space)),
+        Some(Service::VectoredReturn) => {
+            let rest = vectored_return(tables, machine, space);
+            TurnMade::Told(Made { first: None, rest })
+        }
+        Some(Service::Walk) => walk(tables, machine, space),
         Some(Service::CSpecificHandler) | None => all_told(stopped(StopCause {
             reason: Reason::Illegal,
-            address: cpu.rip,
+            address: machine.cpu.rip,
         })),
     }
 }
 
 /// A turn, but for the event of the funclet at which it arrives.
-#[tactic(auto, using(crate::proofs::TurnEvents::leading))]
-pub fn make<S: AddressSpace>(tables: &Tables, cpu: &mut Cpu, space: &mut S) -> TurnMade
+#[tactic(auto, using(crate::proofs::TurnEvents::leading, crate::proofs::StepTurns::step_turns))]
+pub fn make<S: AddressSpace>(tables: &Tables, machine: &mut Machine, space: &mut S) -> TurnMade
     requires { TablesAreWhole tables.now }
-    ensures { turn_made (functions_of tables.now) cpu.new (S.memory space.new) result
-        ≡ spec.turned (functions_of tables.now) (state cpu.old (S.memory space.old))
-        (step (state cpu.old (S.memory space.old))) }
+    ensures { turn_made (functions_of tables.now) machine.new (S.memory space.new) result
+        ≡ spec.turned (functions_of tables.now) (state_of machine.old (S.memory space.old))
+        (step (state_of machine.old (S.memory space.old))) }
 {
-    let rip = cpu.rip;
-    match step(cpu, space) {
+    let rip = machine.cpu.rip;
+    match step(&mut machine.cpu, space) {
         StepOutcome::Next => all_told(TurnOutcome::Continues(None)),
         StepOutcome::Fault { code, access } => {
-            let saved = *cpu;
-            let rest = raised(tables, cpu, space, code, 0, access, &saved);
+            let saved = machine.cpu;
+            let rest = raised(tables, machine, space, code, 0, access, &saved);
             TurnMade::Told(Made { first: None, rest })
         }
-        StepOutcome::Host { address } => serve(tables, cpu, space, Service::at(address)),
+        StepOutcome::Host { address } => serve(tables, machine, space, Service::at(address)),
         StepOutcome::Illegal => all_told(stopped(StopCause {
             reason: Reason::Illegal,
             address: rip,

@@ -1,10 +1,9 @@
 -- The regions of an image's run, with what is put into them, are the image as it lies in memory.
 use Rattle.std.proofs.Common.{◌≡◌, ℕ, ◌≤◌, Bool, true, false, ◌||◌, cond, List, [], ◌∷◌, Option, Some, None, refl, ap, ◌∙◌, lit≤}
-use Rattle.std.specs.Prelude.{map}
 use Rattle.host_layout.specs.declared.range.TheConstants.{DATA_STACK_START, FIRST_DATA_STACK}
 use Rattle.flat_memory.specs.declared.protection.Protection.{Protection}
 use Rattle.flat_memory.specs.declared.protection.TheConstants.{UNMAPPED}
-use Rattle.seh_host.specs.Words.{Memory, with_number, first_byte, Image, AreAscending, ARENA, DATA_STACK, region_mode, mapped_over, section_of, in_stack, in_data_stack, stack_mode, mode_in, stack, section_region, regions_of, blank_memory, with_raw, unbound}
+use Rattle.seh_host.specs.Words.{Memory, with_number, first_byte, Image, AreAscending, ARENA, DATA_STACK, region_mode, mapped_over, section_of, in_stack, in_data_stack, stack_mode, mode_in, stack, regions_of, blank_memory, with_raw, unbound}
 use Rattle.seh_host.specs.Words.{Section}
 use Rattle.x64_memory.specs.declared.region.Region.{Region}
 use Rattle.x64_memory.specs.Regions as regions

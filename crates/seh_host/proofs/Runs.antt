@@ -3,8 +3,8 @@ use Rattle.std.proofs.Common.{◌≡◌, ℕ, Option, Some, None, refl}
 use Rattle.std.specs.Option.{unwrap_or}
 use Rattle.seh_host.specs.Words.{RunEnd, end_of, Memory, end_within}
 use Rattle.seh_num.specs.declared.end.RunEnd.TheVariants.{OutOfTurns}
-use Rattle.x64_machine.specs.declared.cpu.Cpu.{Cpu}
 use Rattle.seh_dispatch.specs.TurnEnds.{left}
+use Rattle.seh_dispatch.specs.declared.machine.Machine.{Machine}
 
 -- ---- what a turn leaves of a host that has ended
 
@@ -13,6 +13,6 @@ within turns None = refl
 within turns (Some x) = refl
 
 -- the end that a host keeps
-pub end_left : (c : Cpu) (m : Memory) (e : Option RunEnd) → e ≡ end_of (left c m e)
-end_left c m None = refl
-end_left c m (Some x) = refl
+pub end_left : (h : Machine) (m : Memory) (e : Option RunEnd) → e ≡ end_of (left h m e)
+end_left h m None = refl
+end_left h m (Some x) = refl

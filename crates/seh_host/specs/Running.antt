@@ -27,7 +27,7 @@ running_of h =
     record {
       functions = functions_of h.tables;
       funclets = h.funclets.items;
-      host = left h.cpu (memory_of h.space) h.end;
+      host = left h.machine (memory_of h.space) h.end;
     }
 
 abbrev pub after_turn : Running → Running

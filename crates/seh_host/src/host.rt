@@ -10,17 +10,18 @@ use eh_tables::Tables;
 use host_model::funclet::Funclet;
 use pe_image::NameTable;
 use seh_dispatch::filter::FuncletFilter;
+use seh_dispatch::machine::Machine;
 use seh_num::end::RunEnd;
 use x64_decoded::cache::InstructionCache;
-use x64_machine::cpu::Cpu;
 use x64_memory::page_map::PageMap;
 
-/// An image that is run: its registers and memory, and how its run ended, once it has; with its
-/// function table, which is read whole, the names of its functions, its funclets with their filter,
-/// and instructions that were decoded before, which agree with memory while the run lasts.
+/// An image that is run: its registers, vectored handlers and memory, and how its run ended, once
+/// it has; with its function table, which is read whole, the names of its functions, its funclets
+/// with their filter, and instructions that were decoded before, which agree with memory while the
+/// run lasts.
 #[derive(Drop)]
 pub struct Host<'image, 'bytes> {
-    pub(crate) cpu: Cpu,
+    pub(crate) machine: Machine,
     pub(crate) space: PageMap,
     pub(crate) end: Option<RunEnd>,
     pub(crate) tables: Tables<'image, 'bytes>,

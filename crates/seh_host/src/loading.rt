@@ -21,9 +21,11 @@ use host_layout::range::{DATA_STACK_START, FIRST_DATA_STACK, FIRST_STACK};
 use pe_image::{ImageView, NameTable};
 use seh_dispatch::filter::FuncletFilter;
 use seh_dispatch::gathering::funclets_in;
+use seh_dispatch::machine::Machine;
 use seh_num::extension::wrap;
 use seh_num::width::Width;
 use std::alloc::{AllocError, Global};
+use vectored_list::VectoredList;
 use x64_decoded::cache::InstructionCache;
 use x64_instr::register::Reg;
 use x64_machine::cpu::{Cpu, Flags};
@@ -120,14 +122,15 @@ fn read_tables<'image, 'bytes>(
 
 /// Loads an image: its sections, a stack, the data stack and the arena are mapped, the slots of its
 /// imports hold the addresses of the host's services, a later one over an earlier, and the run is
-/// at the entry point with the argument in RCX.
+/// at the entry point with the argument in RCX, and without a vectored handler.
 ///
 /// It is refused for the first reason that holds, in this order: `Table` where the function table
 /// isn't read whole; `Place` where the base isn't a multiple of 65,536, is below 4 GiB, the image's
 /// size is above 256 MiB or its end is above 2^47; `Import` where an import names none of
-/// `RaiseException`, `__C_specific_handler`, `_local_unwind`, `protect`, `put` and `walk`, whatever
-/// its library is called; `Entry` where the entry point's page isn't executable; `Names` where the
-/// table of names isn't read whole.
+/// `AddVectoredExceptionHandler`, `RaiseException`, `RemoveVectoredExceptionHandler`,
+/// `__C_specific_handler`, `_local_unwind`, `protect`, `put` and `walk`, whatever its library is
+/// called; `Entry` where the entry point's page isn't executable; `Names` where the table of names
+/// isn't read whole.
 pub fn load<'image, 'bytes>(
     alloc: Global,
     image: &'image ImageView<'bytes>,
@@ -154,7 +157,10 @@ pub fn load<'image, 'bytes>(
         return Err(LoadErr::Memory);
     };
     Ok(Host {
-        cpu: first_cpu(image.base() + image.entry(), arg),
+        machine: Machine {
+            cpu: first_cpu(image.base() + image.entry(), arg),
+            handlers: VectoredList::new(),
+        },
         space,
         end: None,
         tables,

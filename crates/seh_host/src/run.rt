@@ -41,7 +41,7 @@ pub fn turn<V: Events>(host: &mut Host<'_, '_>, to: &mut V) -> Turn
         &host.filter,
         &host.funclets,
         &mut host.instructions,
-        &mut host.cpu,
+        &mut host.machine,
         &mut host.space,
         &mut counting,
     );

@@ -2,7 +2,7 @@
 use Rattle.std.proofs.Common.{◌≡◌, ℕ, zero, suc, ◌+◌, ◌*◌, ◌%◌, ◌^◌, ◌<◌, ◌≤◌, Bool, true, false, Some, None, List, [], ◌∷◌, ◌++◌, length, get_or, append_assoc, length-append, refl, sym, ap, ◌∙◌, arith, lit<}
 use Rattle.std.proofs.lemmas.Bool.{eq-eqb}
 use Rattle.std.proofs.lemmas.List.{get_or-append-add, get_or_append_left, append-nil}
-use Rattle.seh_records.specs.Vocabulary.{if_set, Memory, next, number_at, first_refused, may_read, Kind, Search, ExceptionUnwind, LocalUnwind, DispatchRecord, words_at, AreBytes, RecordFits, RecordIsFetched, words, head, front, back, mark, number_of, kind_of, fetched, if_readable, if_marked, of_kind, recorded, word, half, words_from, eflags, flags_of, RECORD_SIZE}
+use Rattle.seh_records.specs.Vocabulary.{if_set, Memory, next, number_at, first_refused, may_read, Kind, Search, ExceptionUnwind, LocalUnwind, Vectored, DispatchRecord, words_at, AreBytes, RecordFits, RecordIsFetched, words, head, front, back, mark, number_of, kind_of, fetched, if_readable, if_marked, of_kind, recorded, word, half, words_from, eflags, flags_of, RECORD_SIZE}
 use Rattle.x64_machine.specs.declared.cpu.Flags.{Flags}
 
 -- ---- halves of words
@@ -114,6 +114,7 @@ kind_back : (k : Kind) → kind_of (number_of k) ≡ Some k
 kind_back Search = refl
 kind_back ExceptionUnwind = refl
 kind_back LocalUnwind = refl
+kind_back Vectored = refl
 
 -- ---- a record
 

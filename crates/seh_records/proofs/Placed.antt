@@ -3,7 +3,7 @@ use Rattle.std.proofs.Common.{◌≡◌, ℕ, zero, suc, ◌+◌, ◌-◌, ◌*�
 use Rattle.std.specs.Prelude.{◌⊎◌, replicate}
 use Rattle.std.proofs.lemmas.Bool.{cases_lt}
 use Rattle.std.proofs.lemmas.List.{get_or-append-add, get_or_append_left}
-use Rattle.seh_records.specs.Vocabulary.{Memory, is_among, distance, number_at, with_number, with_bytes, IsApart, Kind, Search, ExceptionUnwind, LocalUnwind, DispatchRecord, with_words, words_at, words, head, front, back, number_of, eflags, placed, fetched, AllSmall, AreBytes, Readable, RecordFits, PlacedIsRecord, PlacedIsFetched, PlacedIsFetchedWhereNotRefused, PlacingLeavesOthers, RECORD_SIZE}
+use Rattle.seh_records.specs.Vocabulary.{Memory, is_among, distance, number_at, with_number, with_bytes, IsApart, Kind, Search, ExceptionUnwind, LocalUnwind, Vectored, DispatchRecord, with_words, words_at, words, head, front, back, number_of, eflags, placed, fetched, AllSmall, AreBytes, Readable, RecordFits, PlacedIsRecord, PlacedIsFetched, PlacedIsFetchedWhereNotRefused, PlacingLeavesOthers, RECORD_SIZE}
 use Rattle.seh_records.proofs.Lemmas.{leaves_others, stored_is_loaded}
 use Rattle.seh_records.proofs.Block.{outside, one_block}
 use Rattle.seh_records.proofs.Places.{readable_bytes, below_top}
@@ -103,6 +103,7 @@ kind_small : (k : Kind) → number_of k < 2 ^ 64
 kind_small Search = lit< tt
 kind_small ExceptionUnwind = lit< tt
 kind_small LocalUnwind = lit< tt
+kind_small Vectored = lit< tt
 
 words_small : (at : ℕ) (r : DispatchRecord) → RecordFits r → Small (words at r)
 unfolding words

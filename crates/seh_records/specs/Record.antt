@@ -8,7 +8,7 @@ use Rattle.x64_machine.specs.declared.cpu.Cpu.{Cpu}
 use Rattle.x64_machine.specs.declared.cpu.Flags.{Flags}
 use Rattle.x64_machine.specs.declared.context.Context.{Context}
 use Rattle.seh_records.specs.declared.dispatch.Kind.{Kind}
-use Rattle.seh_records.specs.declared.dispatch.Kind.TheVariants.{Search, ExceptionUnwind, LocalUnwind}
+use Rattle.seh_records.specs.declared.dispatch.Kind.TheVariants.{Search, ExceptionUnwind, LocalUnwind, Vectored}
 use Rattle.seh_records.specs.declared.dispatch.DispatchRecord.{DispatchRecord}
 use Rattle.seh_records.specs.declared.refusal.Guard.{Guard}
 use Rattle.seh_records.specs.declared.refusal.BadRecord.{BadRecord}
@@ -25,11 +25,12 @@ abbrev pub number_of : Kind → ℕ
 number_of Search = 1
 number_of ExceptionUnwind = 2
 number_of LocalUnwind = 3
+number_of Vectored = 4
 
 abbrev pub kind_of : ℕ → Option Kind
 kind_of n =
     if n == 1 then Some Search else (if n == 2 then Some ExceptionUnwind
-    else (if n == 3 then Some LocalUnwind else None))
+    else (if n == 3 then Some LocalUnwind else (if n == 4 then Some Vectored else None)))
 
 -- ---- EFlags
 

@@ -13,5 +13,5 @@ pub use Rattle.seh_records.specs.Words.{block_byte, byte_of}
 unfoldable pub use Rattle.seh_records.specs.Words.{with_words, with_block, words_at}
 pub use Rattle.seh_records.specs.declared.dispatch.DispatchRecord.{DispatchRecord}
 pub use Rattle.seh_records.specs.declared.dispatch.Kind.{Kind}
-pub use Rattle.seh_records.specs.declared.dispatch.Kind.TheVariants.{Search, ExceptionUnwind, LocalUnwind}
+pub use Rattle.seh_records.specs.declared.dispatch.Kind.TheVariants.{Search, ExceptionUnwind, LocalUnwind, Vectored}
 pub use Rattle.seh_records.specs.declared.layout.TheConstants.{RECORD_SIZE, PLACED_SIZE}

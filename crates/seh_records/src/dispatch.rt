@@ -15,6 +15,8 @@ pub enum Kind {
     ExceptionUnwind,
     /// A local unwind.
     LocalUnwind,
+    /// A vectored handler, which is asked about an exception before the handlers of frames.
+    Vectored,
 }
 
 /// A suspended search or unwinding.
@@ -24,7 +26,8 @@ pub struct DispatchRecord {
     pub kind: Kind,
     /// The establisher frame in hand.
     pub frame: u64,
-    /// The next scope record at the walk's frame.
+    /// The next scope record at the walk's frame; of a vectored handler that is asked, its place in
+    /// their list, from 0.
     pub row: u64,
     /// The frame that an unwinding goes to.
     pub target_frame: u64,

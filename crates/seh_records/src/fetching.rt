@@ -125,6 +125,7 @@ fn kind_of(number: u64) -> Option<Kind>
         1 => Some(Kind::Search),
         2 => Some(Kind::ExceptionUnwind),
         3 => Some(Kind::LocalUnwind),
+        4 => Some(Kind::Vectored),
         _ => None,
     }
 }
@@ -146,7 +147,7 @@ fn fetched<S: AddressSpace>(space: &S, at: u64) -> Option<DispatchRecord>
 }
 
 /// The record at an address. `BadRecord` is answered exactly where its bytes may not all
-/// be read, the mark isn't there or the kind is none of the three.
+/// be read, the mark isn't there or the kind is none of the four.
 pub fn fetch<S: AddressSpace>(space: &S, at: u64) -> Result<DispatchRecord, BadRecord>
     ensures { result ≡ spec.fetch_answer at (spec.fetched (S.memory space.now) at) }
 {

@@ -23,6 +23,7 @@ fn number_of(kind: Kind) -> u64
         Kind::Search => 1,
         Kind::ExceptionUnwind => 2,
         Kind::LocalUnwind => 3,
+        Kind::Vectored => 4,
     }
 }
 

@@ -1,6 +1,6 @@
 -- What the code finds at a state of a walk is what the definitions find.
 use Rattle.std.proofs.Common.{◌≡◌, ℕ, Bool, true, false, ltb, Option, Some, None, Ok, Err, refl, sym, ap, ◌∙◌}
-use Rattle.std.specs.Prelude.{Result, not}
+use Rattle.std.specs.Prelude.{Result}
 use Rattle.eh_tables.specs.Infos.{Info}
 use Rattle.eh_tables.specs.Tables.{Tables}
 use Rattle.flat_memory.specs.Memory.{Memory}
@@ -12,15 +12,15 @@ use Rattle.virtual_unwind.specs.CallerOf.{Functions, CallerFrame, functions_of, 
 use Rattle.virtual_unwind.specs.Shown.{shown}
 use Rattle.virtual_unwind.proofs.Asking.{the_entry_is_asked}
 use Rattle.seh_records.specs.declared.dispatch.Kind.{Kind}
-use Rattle.seh_records.specs.declared.dispatch.Kind.TheVariants.{Search, ExceptionUnwind, LocalUnwind}
+use Rattle.seh_records.specs.declared.dispatch.Kind.TheVariants.{Search, ExceptionUnwind, LocalUnwind, Vectored}
 use Rattle.seh_records.specs.declared.dispatch.DispatchRecord.{DispatchRecord}
 use Rattle.seh_records.specs.declared.refusal.BadRecord.{BadRecord}
 use Rattle.seh_records.specs.Record.{fetch_answer}
 use Rattle.seh_walk.specs.declared.walk.WalkState.{WalkState}
 use Rattle.seh_walk.specs.declared.walk.WalkItem as code
 use Rattle.seh_walk.specs.Walk as walk
-use Rattle.seh_walk.specs.Walk.{above, if_above, framed, past_filter, past_finally}
-use Rattle.seh_walk.specs.Seen.{seen, above_item, if_above_item, filter_item, finally_item, searching_item, unwinding_item, item_of}
+use Rattle.seh_walk.specs.Walk.{above, if_above, framed, past_filter, past_finally, past_vectored}
+use Rattle.seh_walk.specs.Seen.{seen, above_item, if_above_item, filter_item, finally_item, vectored_return_item, searching_item, unwinding_item, vectored_item, item_of}
 
 above_seen : (t : Functions) (w u : WalkState) (at : ℕ) → seen t w (above_item at u) ≡ above at u
 above_seen t w u at = go (ltb at (rsp u.context))
@@ -35,10 +35,11 @@ filter_seen t w at None = refl
 filter_seen t w at (Some r) = go r.kind
   where
     go : (k : Kind) → seen t w (searching_item at r k)
-        ≡ walk.if_search at (above at (walk.saved_in r)) (walk.is_search k)
+        ≡ walk.if_kind at (above at (walk.saved_in r)) (walk.is_search k)
     go Search = above_seen t w (walk.saved_in r) at
     go ExceptionUnwind = refl
     go LocalUnwind = refl
+    go Vectored = refl
 
 finally_seen : (t : Functions) (w : WalkState) (at : ℕ) (o : Option DispatchRecord)
     → seen t w (finally_item at (fetch_answer at o)) ≡ past_finally at o
@@ -46,10 +47,23 @@ finally_seen t w at None = refl
 finally_seen t w at (Some r) = go r.kind
   where
     go : (k : Kind) → seen t w (unwinding_item at r k)
-        ≡ walk.if_search at (above at (walk.walk_in r)) (not (walk.is_search k))
+        ≡ walk.if_kind at (above at (walk.walk_in r)) (walk.is_unwinding k)
     go Search = refl
     go ExceptionUnwind = above_seen t w (walk.walk_in r) at
     go LocalUnwind = above_seen t w (walk.walk_in r) at
+    go Vectored = refl
+
+vectored_seen : (t : Functions) (w : WalkState) (at : ℕ) (o : Option DispatchRecord)
+    → seen t w (vectored_return_item at (fetch_answer at o)) ≡ past_vectored at o
+vectored_seen t w at None = refl
+vectored_seen t w at (Some r) = go r.kind
+  where
+    go : (k : Kind) → seen t w (vectored_item at r k)
+        ≡ walk.if_kind at (above at (walk.saved_in r)) (walk.is_vectored k)
+    go Search = refl
+    go ExceptionUnwind = refl
+    go LocalUnwind = refl
+    go Vectored = above_seen t w (walk.saved_in r) at
 
 framed_seen : (t : Functions) (m : Memory) (w : WalkState) (a : Answer CallerFrame)
     → caller_in t m w.context ≡ a → seen t w (item_of (shown a)) ≡ framed a
@@ -68,6 +82,12 @@ pub item_finally : (t : Functions) (w : WalkState) (at : ℕ) (o : Option Dispat
     → a ≡ fetch_answer at o → seen t w c ≡ past_finally at o
 item_finally t w at o a c e f = ap (seen t w) (e ∙ ap (finally_item at) f) ∙ finally_seen t w at o
 
+pub item_vectored : (t : Functions) (w : WalkState) (at : ℕ) (o : Option DispatchRecord)
+    (a : Result DispatchRecord BadRecord) (c : code.WalkItem) → c ≡ vectored_return_item at a
+    → a ≡ fetch_answer at o → seen t w c ≡ past_vectored at o
+item_vectored t w at o a c e f = ap (seen t w) (e ∙ ap (vectored_return_item at) f)
+    ∙ vectored_seen t w at o
+
 pub item_frame : (t : Tables) (m : Memory) (w : WalkState) (a : Result Caller UnwindErr)
     (c : code.WalkItem) → c ≡ item_of a → a ≡ shown (caller_of t m w.context)
     → seen (functions_of t) w c ≡ framed (caller_in (functions_of t) m w.context)
@@ -75,4 +95,4 @@ unfolding caller_of
 item_frame t m w a c e f = ap (seen (functions_of t) w) (e ∙ ap item_of f)
     ∙ framed_seen (functions_of t) m w (caller_in (functions_of t) m w.context) refl
 
-pub ruleset items = (item_filter, item_finally, item_frame)
+pub ruleset items = (item_filter, item_finally, item_vectored, item_frame)

@@ -1,6 +1,5 @@
 -- RSP rises in a walk, and stays an address.
 use Rattle.std.proofs.Common.{◌≡◌, ℕ, zero, suc, ◌+◌, ◌%◌, ◌^◌, ◌<◌, Bool, true, false, eqb, ltb, Option, Some, None, Ok, Err, get_or, refl, subst, lit<}
-use Rattle.std.specs.Prelude.{not}
 use Rattle.std.proofs.lemmas.Bool.{ltb-true}
 use Rattle.flat_memory.specs.Memory.{Memory, first_refused, may_read}
 use Rattle.x64_machine.specs.declared.context.Context.{Context}
@@ -16,7 +15,7 @@ use Rattle.seh_records.specs.Record.{fetched, if_readable, if_marked, of_kind, k
 use Rattle.seh_records.specs.Laws.{AreBytes}
 use Rattle.seh_records.specs.declared.layout.TheConstants.{RECORD_SIZE}
 use Rattle.seh_walk.specs.declared.walk.WalkState.{WalkState}
-use Rattle.seh_walk.specs.Walk.{Visited, visited, if_over, if_filter, if_finally, if_above, above, if_search, is_search, saved_in, walk_in, past_filter, past_finally, framed, filter_return, finally_return}
+use Rattle.seh_walk.specs.Walk.{Visited, visited, if_over, if_filter, if_finally, if_vectored, if_above, above, if_kind, is_search, is_unwinding, is_vectored, saved_in, walk_in, past_filter, past_finally, past_vectored, framed, filter_return, finally_return, vectored_return}
 use Rattle.seh_walk.specs.Laws.{ContinuesAt, WalksRise, WalksStayBelow}
 use Rattle.seh_walk.proofs.Bounded.{eight_small, IsSmallFound, caller_small}
 
@@ -36,22 +35,29 @@ module _ (t : Functions) (m : Memory) (w : WalkState) (P : ℕ → Type 0) where
           (h (ltb-true at (rsp v.context) e))
       go false e l = absurd l
 
-  search_keeps : (at : ℕ) (i : Visited) (b : Bool) → Keeps i → Keeps (if_search at i b)
-  search_keeps at i true h = h
-  search_keeps at i false h = λ u l. absurd l
+  kind_keeps : (at : ℕ) (i : Visited) (b : Bool) → Keeps i → Keeps (if_kind at i b)
+  kind_keeps at i true h = h
+  kind_keeps at i false h = λ u l. absurd l
 
   filter_keeps : (at : ℕ) (o : Option DispatchRecord)
       → ((r : DispatchRecord) → o ≡ Some r → at < rsp (context_of r.saved)
       → P (rsp (context_of r.saved))) → Keeps (past_filter at o)
   filter_keeps at None h = λ u l. absurd l
-  filter_keeps at (Some r) h = search_keeps at (above at (saved_in r)) (is_search r.kind)
+  filter_keeps at (Some r) h = kind_keeps at (above at (saved_in r)) (is_search r.kind)
+      (above_keeps at (saved_in r) (h r refl))
+
+  vectored_keeps : (at : ℕ) (o : Option DispatchRecord)
+      → ((r : DispatchRecord) → o ≡ Some r → at < rsp (context_of r.saved)
+      → P (rsp (context_of r.saved))) → Keeps (past_vectored at o)
+  vectored_keeps at None h = λ u l. absurd l
+  vectored_keeps at (Some r) h = kind_keeps at (above at (saved_in r)) (is_vectored r.kind)
       (above_keeps at (saved_in r) (h r refl))
 
   finally_keeps : (at : ℕ) (o : Option DispatchRecord)
       → ((r : DispatchRecord) → o ≡ Some r → at < rsp r.walk → P (rsp r.walk))
       → Keeps (past_finally at o)
   finally_keeps at None h = λ u l. absurd l
-  finally_keeps at (Some r) h = search_keeps at (above at (walk_in r)) (not (is_search r.kind))
+  finally_keeps at (Some r) h = kind_keeps at (above at (walk_in r)) (is_unwinding r.kind)
       (above_keeps at (walk_in r) (h r refl))
 
   framed_keeps : (a : Answer CallerFrame) → ((f : CallerFrame) → a ≡ Ok f → P (rsp f.context))
@@ -64,9 +70,13 @@ module _ (t : Functions) (m : Memory) (w : WalkState) (P : ℕ → Type 0) where
       (walk : (r : DispatchRecord) → fetched m (rsp w.context) ≡ Some r
       → rsp w.context < rsp r.walk → P (rsp r.walk))
       (caller : (f : CallerFrame) → caller_in t m w.context ≡ Ok f → P (rsp f.context)) where
+    by_vectored : (b : Bool) → Keeps (if_vectored t m w b)
+    by_vectored true = vectored_keeps (rsp w.context) (fetched m (rsp w.context)) saved
+    by_vectored false = framed_keeps (caller_in t m w.context) caller
+
     by_finally : (b : Bool) → Keeps (if_finally t m w b)
     by_finally true = finally_keeps (rsp w.context) (fetched m (rsp w.context)) walk
-    by_finally false = framed_keeps (caller_in t m w.context) caller
+    by_finally false = by_vectored (eqb w.context.rip vectored_return)
 
     by_filter : (b : Bool) → Keeps (if_filter t m w b)
     by_filter true = filter_keeps (rsp w.context) (fetched m (rsp w.context)) saved

@@ -8,7 +8,7 @@ use Rattle.virtual_unwind.specs.declared.refusal.UnwindErr.{UnwindErr}
 use Rattle.virtual_unwind.specs.Contexts.{rsp}
 use Rattle.virtual_unwind.specs.CallerOf.{Functions, entry_of, asked_in}
 use Rattle.seh_records.specs.declared.dispatch.Kind.{Kind}
-use Rattle.seh_records.specs.declared.dispatch.Kind.TheVariants.{Search, ExceptionUnwind, LocalUnwind}
+use Rattle.seh_records.specs.declared.dispatch.Kind.TheVariants.{Search, ExceptionUnwind, LocalUnwind, Vectored}
 use Rattle.seh_records.specs.declared.dispatch.DispatchRecord.{DispatchRecord}
 use Rattle.seh_records.specs.declared.refusal.BadRecord.{BadRecord}
 use Rattle.seh_walk.specs.declared.walk.WalkState.{WalkState}
@@ -50,11 +50,19 @@ abbrev pub searching_item : ℕ → DispatchRecord → Kind → code.WalkItem
 searching_item at r Search = above_item at (saved_in r)
 searching_item at r ExceptionUnwind = bad_item at
 searching_item at r LocalUnwind = bad_item at
+searching_item at r Vectored = bad_item at
 
 abbrev pub unwinding_item : ℕ → DispatchRecord → Kind → code.WalkItem
 unwinding_item at r Search = bad_item at
 unwinding_item at r ExceptionUnwind = above_item at (walk_in r)
 unwinding_item at r LocalUnwind = above_item at (walk_in r)
+unwinding_item at r Vectored = bad_item at
+
+abbrev pub vectored_item : ℕ → DispatchRecord → Kind → code.WalkItem
+vectored_item at r Search = bad_item at
+vectored_item at r ExceptionUnwind = bad_item at
+vectored_item at r LocalUnwind = bad_item at
+vectored_item at r Vectored = above_item at (saved_in r)
 
 abbrev pub filter_item : ℕ → Result DispatchRecord BadRecord → code.WalkItem
 filter_item at (Ok r) = searching_item at r r.kind
@@ -63,6 +71,10 @@ filter_item at (Err e) = bad_item at
 abbrev pub finally_item : ℕ → Result DispatchRecord BadRecord → code.WalkItem
 finally_item at (Ok r) = unwinding_item at r r.kind
 finally_item at (Err e) = bad_item at
+
+abbrev pub vectored_return_item : ℕ → Result DispatchRecord BadRecord → code.WalkItem
+vectored_return_item at (Ok r) = vectored_item at r r.kind
+vectored_return_item at (Err e) = bad_item at
 
 abbrev pub item_of : Result Caller UnwindErr → code.WalkItem
 item_of (Ok c) = items.Frame c (record { context = c.context; row = 0 })

@@ -1,10 +1,10 @@
--- The walk over frames: through the callers, and through the host's two return addresses at the
--- records there.
-use Rattle.std.specs.Prelude.{ℕ, Bool, true, false, not, ◌==◌, nat_lt, Option, Some, None, Result, Ok, Err}
+-- The walk over frames: through the callers, and through the host's three return addresses at
+-- the records there.
+use Rattle.std.specs.Prelude.{ℕ, Bool, true, false, ◌==◌, nat_lt, Option, Some, None, Result, Ok, Err}
 use Rattle.seh_num.specs.declared.end.Reason.{Reason}
 use Rattle.seh_num.specs.declared.end.Reason.TheVariants as reasons
 use Rattle.flat_memory.specs.Memory.{Memory}
-use Rattle.host_layout.specs.declared.service.Service.TheVariants.{FilterReturn, FinallyReturn}
+use Rattle.host_layout.specs.declared.service.Service.TheVariants.{FilterReturn, FinallyReturn, VectoredReturn}
 use Rattle.x64_machine.specs.Contexts.{context_of}
 use Rattle.host_layout.specs.Services.{address_of}
 use Rattle.virtual_unwind.specs.declared.refusal.UnwindErr.{UnwindErr}
@@ -13,7 +13,7 @@ use Rattle.virtual_unwind.specs.Contexts.{rsp}
 use Rattle.virtual_unwind.specs.Undone.{Answer}
 use Rattle.virtual_unwind.specs.CallerOf.{Functions, CallerFrame, caller_in}
 use Rattle.seh_records.specs.declared.dispatch.Kind.{Kind}
-use Rattle.seh_records.specs.declared.dispatch.Kind.TheVariants.{Search, ExceptionUnwind, LocalUnwind}
+use Rattle.seh_records.specs.declared.dispatch.Kind.TheVariants.{Search, ExceptionUnwind, LocalUnwind, Vectored}
 use Rattle.seh_records.specs.declared.dispatch.DispatchRecord.{DispatchRecord}
 use Rattle.seh_records.specs.Record.{fetched}
 use Rattle.seh_walk.specs.declared.walk.WalkState.{WalkState}
@@ -25,6 +25,9 @@ filter_return = address_of FilterReturn
 abbrev pub finally_return : ℕ
 finally_return = address_of FinallyReturn
 
+abbrev pub vectored_return : ℕ
+vectored_return = address_of VectoredReturn
+
 abbrev pub stop_cause : Reason → ℕ → StopCause
 stop_cause r a = record { reason = r; address = a }
 
@@ -35,11 +38,26 @@ pub data Visited : Type 0 where
   Frame : CallerFrame → WalkState → Visited  -- a frame, and what is above it
   Broken : StopCause → Visited
 
--- a record's kind is that of a return
+-- the kinds of records that wait at each of the host's return addresses: a filter's answer ...
 abbrev pub is_search : Kind → Bool
 is_search Search = true
 is_search ExceptionUnwind = false
 is_search LocalUnwind = false
+is_search Vectored = false
+
+-- ... the end of a `__finally` block ...
+abbrev pub is_unwinding : Kind → Bool
+is_unwinding Search = false
+is_unwinding ExceptionUnwind = true
+is_unwinding LocalUnwind = true
+is_unwinding Vectored = false
+
+-- ... and a vectored handler's answer
+abbrev pub is_vectored : Kind → Bool
+is_vectored Search = false
+is_vectored ExceptionUnwind = false
+is_vectored LocalUnwind = false
+is_vectored Vectored = true
 
 abbrev pub saved_in : DispatchRecord → WalkState
 saved_in r = record { context = context_of r.saved; row = 0 }
@@ -57,17 +75,22 @@ above at w = if_above at w (nat_lt at (rsp w.context))
 abbrev pub bad : ℕ → Visited
 bad at = Broken (stop_cause reasons.BadRecord at)
 
-abbrev pub if_search : ℕ → Visited → Bool → Visited
-if_search at i true = i
-if_search at i false = bad at
+-- a record of another kind is bad
+abbrev pub if_kind : ℕ → Visited → Bool → Visited
+if_kind at i true = i
+if_kind at i false = bad at
 
 abbrev pub past_filter : ℕ → Option DispatchRecord → Visited
 past_filter at None = bad at
-past_filter at (Some r) = if_search at (above at (saved_in r)) (is_search r.kind)
+past_filter at (Some r) = if_kind at (above at (saved_in r)) (is_search r.kind)
+
+abbrev pub past_vectored : ℕ → Option DispatchRecord → Visited
+past_vectored at None = bad at
+past_vectored at (Some r) = if_kind at (above at (saved_in r)) (is_vectored r.kind)
 
 abbrev pub past_finally : ℕ → Option DispatchRecord → Visited
 past_finally at None = bad at
-past_finally at (Some r) = if_search at (above at (walk_in r)) (not (is_search r.kind))
+past_finally at (Some r) = if_kind at (above at (walk_in r)) (is_unwinding r.kind)
 
 abbrev pub refusal : UnwindErr → StopCause
 refusal (Unreadable a) = stop_cause reasons.Unreadable a
@@ -77,10 +100,14 @@ abbrev pub framed : Answer CallerFrame → Visited
 framed (Ok f) = Frame f (record { context = f.context; row = 0 })
 framed (Err e) = Broken (refusal e)
 
--- by RIP: at the finally return, at the filter return, at the end
+-- by RIP: at the vectored return, at the finally return, at the filter return, at the end
+abbrev pub if_vectored : Functions → Memory → WalkState → Bool → Visited
+if_vectored t m w true = past_vectored (rsp w.context) (fetched m (rsp w.context))
+if_vectored t m w false = framed (caller_in t m w.context)
+
 abbrev pub if_finally : Functions → Memory → WalkState → Bool → Visited
 if_finally t m w true = past_finally (rsp w.context) (fetched m (rsp w.context))
-if_finally t m w false = framed (caller_in t m w.context)
+if_finally t m w false = if_vectored t m w (w.context.rip == vectored_return)
 
 abbrev pub if_filter : Functions → Memory → WalkState → Bool → Visited
 if_filter t m w true = past_filter (rsp w.context) (fetched m (rsp w.context))

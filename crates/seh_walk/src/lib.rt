@@ -1,4 +1,4 @@
-//! The walk over frames: through the callers of frames, and past the host's two return addresses
+//! The walk over frames: through the callers of frames, and past the host's three return addresses
 //! by the dispatch records there; and the scope records that are asked at a frame.
 //!
 //! Proved: what a walk finds at a frame and which scope record is asked first are those of the

@@ -6,11 +6,19 @@ ghost use Rattle.eh_tables.specs.Tables.{TablesAreWhole};
 ghost use Rattle.virtual_unwind.specs.CallerOf.{functions_of, entry_of};
 ghost use Rattle.seh_records.specs.Record.{fetched, fetch_answer};
 ghost use Rattle.seh_walk.specs.Walk as spec;
-ghost use Rattle.seh_walk.specs.Seen.{seen, item_of, bad_item, above_item, filter_item, finally_item};
+ghost use Rattle.seh_walk.specs.Seen.{
+  seen,
+  item_of,
+  bad_item,
+  above_item,
+  filter_item,
+  finally_item,
+  vectored_return_item,
+};
 
 use crate::stop_cause::StopCause;
 use eh_tables::{FunctionEntry, Tables};
-use host_layout::service::{FILTER_RETURN_AT, FINALLY_RETURN_AT};
+use host_layout::service::{FILTER_RETURN_AT, FINALLY_RETURN_AT, VECTORED_RETURN_AT};
 use seh_num::end::Reason;
 use seh_records::dispatch::Kind;
 use seh_records::{BadRecord, DispatchRecord, fetch};
@@ -88,14 +96,32 @@ fn past_finally(at: u64, answer: Result<DispatchRecord, BadRecord>) -> WalkItem
     match answer {
         Err(_) => bad(at),
         Ok(dispatch) => match dispatch.kind {
-            Kind::Search => bad(at),
-            _ => above(
+            Kind::Search | Kind::Vectored => bad(at),
+            Kind::ExceptionUnwind | Kind::LocalUnwind => above(
                 at,
                 WalkState {
                     context: dispatch.walk,
                     row: dispatch.row,
                 },
             ),
+        },
+    }
+}
+
+fn past_vectored(at: u64, answer: Result<DispatchRecord, BadRecord>) -> WalkItem
+    ensures { result ≡ vectored_return_item at answer }
+{
+    match answer {
+        Err(_) => bad(at),
+        Ok(dispatch) => match dispatch.kind {
+            Kind::Vectored => above(
+                at,
+                WalkState {
+                    context: Context::of(&dispatch.saved),
+                    row: 0,
+                },
+            ),
+            _ => bad(at),
         },
     }
 }
@@ -150,6 +176,7 @@ fn item<S: AddressSpace>(
         0 => WalkItem::Over,
         FILTER_RETURN_AT => past_filter(rsp, fetch(space, rsp)),
         FINALLY_RETURN_AT => past_finally(rsp, fetch(space, rsp)),
+        VECTORED_RETURN_AT => past_vectored(rsp, fetch(space, rsp)),
         _ => framed(caller_found(tables, found, space, &at.context)),
     }
 }

@@ -64,11 +64,12 @@ store_and_collision | raise C0000005 0 write 0000000020000000 / filter 1 / answe
 
 /// No record is at the returns, or placed past the stack, or where it ends below address 0. A
 /// return address would be at 0x707FFFE0 + 40, above the stack's end. A service's return address
-/// can't be read in the guard: `put`, `protect`, `RaiseException` and `_local_unwind`, by the last
-/// byte of their addresses; none does anything else.
+/// can't be read in the guard: `put`, `protect`, `RaiseException`, `_local_unwind`, and those that
+/// add and remove vectored handlers, by the last byte of their addresses; none does anything else.
 const STACK: &str = r"
 plain RETURNS_AS_FILTER | stopped BadRecord 00000000707FFFD8
 plain RETURNS_AS_FINALLY | stopped BadRecord 00000000707FFFD8
+plain RETURNS_AS_VECTORED | stopped BadRecord 00000000707FFFD8
 plain RAISES_AT_THE_GUARD | raise E0000001 0 / stack limit 000000006FFFFFD8
 plain PUSHES_AT_ADDRESS_8 | raise C0000005 0 write 0000000000000000 / stack limit FFFFFFFFFFFFF9D8
 plain RAISES_AT_THE_TOP | raise E0000001 0 / stopped Unreadable 0000000070800008
@@ -77,6 +78,8 @@ service 10 | stopped Unreadable 000000006FFFFF00
 service 20 | stopped Unreadable 000000006FFFFF00
 service 30 | stopped Unreadable 000000006FFFFF00
 service 50 | stopped Unreadable 000000006FFFFF00
+service 80 | stopped Unreadable 000000006FFFFF00
+service 90 | stopped Unreadable 000000006FFFFF00
 ";
 
 /// An unwinding loses its frame. The walk from `main` reaches RIP 0 below the target frame, which
@@ -92,16 +95,19 @@ raising HARMS_SAVED_STATE | raise E0000001 0 / filter 1 / raise E0000002 0 / sto
 
 /// The record is at 0x707FF990. The search from the funclet that raises comes to the return address
 /// of the funclet, and the record after it has no mark, or not the kind of that return; kind 1 is
-/// not that of a `__finally` block's return. The row before index 2 is that of a `__finally` block;
-/// before index 2 of one row there is none; the answer's event is made before the row is looked at.
+/// not that of a `__finally` block's return, and kind 4 that of neither. The row before index 2 is
+/// that of a `__finally` block; before index 2 of one row there is none; the answer's event is made
+/// before the row is looked at.
 const HARMED: &str = r"
 raising HARMS_KIND | raise E0000001 0 / filter 1 / stopped BadRecord 00000000707FF990
+raising HARMS_KIND_BY_4 | raise E0000001 0 / filter 1 / stopped BadRecord 00000000707FF990
 raising HARMS_MARK | raise E0000001 0 / filter 1 / stopped BadRecord 00000000707FF990
 raising HARMS_ROW | raise E0000001 0 / filter 1 / answer 1 / stopped BadRecord 00000000707FF990
 raising HARMS_KIND_AND_RAISES | raise E0000001 0 / filter 1 / raise E0000002 0 / stopped BadRecord 00000000707FF990
 raising HARMS_MARK_AND_RAISES | raise E0000001 0 / filter 1 / raise E0000002 0 / stopped BadRecord 00000000707FF990
 unwinding BLOCK_HARMS_KIND_AND_RAISES | raise E0000001 0 / finally 1 1 / raise E0000002 0 / stopped BadRecord 00000000707FF990
 unwinding BLOCK_HARMS_KIND | raise E0000001 0 / finally 1 1 / stopped BadRecord 00000000707FF990
+unwinding BLOCK_HARMS_KIND_BY_4 | raise E0000001 0 / finally 1 1 / stopped BadRecord 00000000707FF990
 unwinding BLOCK_HARMS_MARK | raise E0000001 0 / finally 1 1 / stopped BadRecord 00000000707FF990
 both HARMS_ROW_BEFORE | raise E0000001 0 / filter 1 / answer 1 / stopped BadRecord 00000000707FF990
 raising HARMS_ROW_BEFORE | raise E0000001 0 / filter 1 / answer 1 / stopped BadRecord 00000000707FF990

@@ -9,12 +9,13 @@ use test_tables::code::{
     ACCEPTED_FAULT, CONTINUED_IN_VAIN, CONTINUED_RAISE, LOCAL_UNWIND, RAISE_IN_FILTER,
 };
 use test_tables::forged::{
-    BLOCK_HARMS_KIND, BLOCK_HARMS_KIND_AND_RAISES, BLOCK_HARMS_MARK, HARMS_KIND,
-    HARMS_KIND_AND_RAISES, HARMS_MARK, HARMS_MARK_AND_RAISES, HARMS_ROW, HARMS_ROW_BEFORE,
-    HARMS_SAVED_STATE, LOWERS_ITS_FRAME, PUSHES_AT_ADDRESS_8, RAISES_AT_THE_GUARD,
-    RAISES_AT_THE_TOP, RETURNS_AS_FILTER, RETURNS_AS_FINALLY, UNWINDS_AT_THE_TOP,
-    UNWINDS_PAST_MAIN, UNWINDS_TO_NO_FRAME, plain, plain_framed, raising, raising_and_unwinding,
-    record_in_code, record_into_code, service_in_the_guard, unwinding,
+    BLOCK_HARMS_KIND, BLOCK_HARMS_KIND_AND_RAISES, BLOCK_HARMS_KIND_BY_4, BLOCK_HARMS_MARK,
+    HARMS_KIND, HARMS_KIND_AND_RAISES, HARMS_KIND_BY_4, HARMS_MARK, HARMS_MARK_AND_RAISES,
+    HARMS_ROW, HARMS_ROW_BEFORE, HARMS_SAVED_STATE, LOWERS_ITS_FRAME, PUSHES_AT_ADDRESS_8,
+    RAISES_AT_THE_GUARD, RAISES_AT_THE_TOP, RETURNS_AS_FILTER, RETURNS_AS_FINALLY,
+    RETURNS_AS_VECTORED, UNWINDS_AT_THE_TOP, UNWINDS_PAST_MAIN, UNWINDS_TO_NO_FRAME, plain,
+    plain_framed, raising, raising_and_unwinding, record_in_code, record_into_code,
+    service_in_the_guard, unwinding,
 };
 use test_tables::handled::{continued_access, filter_and_finally, raise_in_finally};
 use test_tables::words::{bytes_of, number_of};
@@ -33,6 +34,7 @@ fn main_of(name: &str) -> &'static [u8] {
     match name {
         "RETURNS_AS_FILTER" => RETURNS_AS_FILTER,
         "RETURNS_AS_FINALLY" => RETURNS_AS_FINALLY,
+        "RETURNS_AS_VECTORED" => RETURNS_AS_VECTORED,
         "RAISES" => RAISES,
         "RAISES_AT_THE_GUARD" => RAISES_AT_THE_GUARD,
         "RAISES_AT_THE_TOP" => RAISES_AT_THE_TOP,
@@ -48,6 +50,7 @@ fn main_of(name: &str) -> &'static [u8] {
 fn funclet_of(name: &str) -> &'static [u8] {
     match name {
         "HARMS_KIND" => HARMS_KIND,
+        "HARMS_KIND_BY_4" => HARMS_KIND_BY_4,
         "HARMS_MARK" => HARMS_MARK,
         "HARMS_ROW" => HARMS_ROW,
         "HARMS_ROW_BEFORE" => HARMS_ROW_BEFORE,
@@ -55,6 +58,7 @@ fn funclet_of(name: &str) -> &'static [u8] {
         "HARMS_KIND_AND_RAISES" => HARMS_KIND_AND_RAISES,
         "HARMS_MARK_AND_RAISES" => HARMS_MARK_AND_RAISES,
         "BLOCK_HARMS_KIND" => BLOCK_HARMS_KIND,
+        "BLOCK_HARMS_KIND_BY_4" => BLOCK_HARMS_KIND_BY_4,
         "BLOCK_HARMS_MARK" => BLOCK_HARMS_MARK,
         _ => BLOCK_HARMS_KIND_AND_RAISES,
     }

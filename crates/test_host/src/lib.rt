@@ -14,4 +14,6 @@ mod records;
 #[cfg(test)]
 mod shown;
 #[cfg(test)]
+mod vectored;
+#[cfg(test)]
 mod walked;

@@ -216,7 +216,7 @@ const DAMAGED: &str = r"
 39 48 fetched
 39 68 refused
 40 0 refused
-40 4 refused
+40 5 refused
 47 1 refused
 124 1 fetched
 ";
@@ -235,6 +235,24 @@ fn fetches(rt: &impl Abort, alloc: Global, row: &str) {
         Err(BadRecord { address: AT })
     };
     assert!(rt; fetch(&space, AT) == answer, "{row}");
+}
+
+/// Places a record of a kind whose number this is, and fetches it again.
+fn has_number(rt: &impl Abort, alloc: Global, kind: Kind, number: u64) {
+    let mut space = space(rt, alloc);
+    let mut new = record();
+    new.kind = kind;
+    assert!(rt; place(&mut space, 0x7000_1620, &new) == Ok(AT), "{number}");
+    assert!(rt; space.load(AT.wrapping_add(40), Width::W64) == Ok(number));
+    assert!(rt; fetch(&space, AT) == Ok(new), "{number}");
+}
+
+#[test]
+fn kinds_have_their_numbers(rt: HostRuntime) {
+    has_number(&rt, rt.alloc(), Kind::Search, 1);
+    has_number(&rt, rt.alloc(), Kind::ExceptionUnwind, 2);
+    has_number(&rt, rt.alloc(), Kind::LocalUnwind, 3);
+    has_number(&rt, rt.alloc(), Kind::Vectored, 4);
 }
 
 #[test]

@@ -12,6 +12,13 @@ pub const HARMS_KIND: &[u8] = &[
     0xC3, // ret
 ];
 
+/// A filter that writes 4 over the kind of the record, and answers 1.
+pub const HARMS_KIND_BY_4: &[u8] = &[
+    0x48, 0xC7, 0x41, 0xD8, 0x04, 0x00, 0x00, 0x00, // mov QWORD PTR [rcx-0x28],0x4
+    0xB8, 0x01, 0x00, 0x00, 0x00, // mov eax,0x1
+    0xC3, // ret
+];
+
 /// A filter that writes 0 over the first byte of the record's mark, and answers 1.
 pub const HARMS_MARK: &[u8] = &[
     0xC6, 0x41, 0xD0, 0x00, // mov BYTE PTR [rcx-0x30],0x0
@@ -47,6 +54,12 @@ pub const RETURNS_AS_FILTER: &[u8] = &[
 /// A `main` that returns to the host's address of `__finally` blocks, where no record is.
 pub const RETURNS_AS_FINALLY: &[u8] = &[
     0xB8, 0x70, 0x00, 0xF0, 0x7F, // mov eax,0x7ff00070
+    0xFF, 0xE0, // jmp rax
+];
+
+/// A `main` that returns to the host's address of vectored handlers, where no record is.
+pub const RETURNS_AS_VECTORED: &[u8] = &[
+    0xB8, 0xA0, 0x00, 0xF0, 0x7F, // mov eax,0x7ff000a0
     0xFF, 0xE0, // jmp rax
 ];
 
@@ -102,6 +115,12 @@ pub const HARMS_MARK_AND_RAISES: &[u8] = &[
 /// A `__finally` block that writes 1 over the kind of the record.
 pub const BLOCK_HARMS_KIND: &[u8] = &[
     0x48, 0xC7, 0x44, 0x24, 0x30, 0x01, 0x00, 0x00, 0x00, // mov QWORD PTR [rsp+0x30],0x1
+    0xC3, // ret
+];
+
+/// A `__finally` block that writes 4 over the kind of the record.
+pub const BLOCK_HARMS_KIND_BY_4: &[u8] = &[
+    0x48, 0xC7, 0x44, 0x24, 0x30, 0x04, 0x00, 0x00, 0x00, // mov QWORD PTR [rsp+0x30],0x4
     0xC3, // ret
 ];
 

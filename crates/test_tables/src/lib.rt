@@ -7,8 +7,8 @@
 //! Images are made by hand: code with functions, scope records and funclets ([`code`]), whole
 //! images of functions that call each other ([`calls`]), code that harms the dispatcher's records
 //! ([`forged`]), and the images of such code ([`built`], [`handled`]), as the product's own writers
-//! write them; images of given unwind infos and entries ([`tables`]); and images of one section
-//! ([`one_section`]).
+//! write them; images of given unwind infos and entries ([`tables`]); images of one section
+//! ([`one_section`]); and images with vectored handlers ([`vectored`]).
 #![tactic(auto)]
 
 mod building;
@@ -20,6 +20,7 @@ pub mod named;
 pub mod one_section;
 pub mod rows;
 pub mod tables;
+pub mod vectored;
 pub mod words;
 
 pub use building::{Function, Parts, Prologue, built, every_service, fixed, framed, scope};

@@ -59,13 +59,12 @@ merged_of_low W32 old v = omega arith
 merged_of_low W64 old v = omega arith
 
 abbrev with_whole : State → Reg → ℕ → State
-with_whole s to n = record {
+with_whole s to n = record s {
   cpu = record {
     registers = set s.cpu.registers (number to) n;
     rip = s.cpu.rip;
     flags = s.cpu.flags;
   };
-  memory = s.memory;
 }
 
 pub lea_puts_address : LeaPutsAddress

@@ -14,13 +14,12 @@ use Rattle.x64_laws.proofs.AfterCompare.{difference_decides}
 -- ---- a register and the flags
 
 abbrev pub after : State → Width → Reg → ℕ → Flags → State
-after s w to v f = record {
+after s w to v f = record s {
   cpu = record {
     registers = set s.cpu.registers (number to) (merged w (register s.cpu to) v);
     rip = s.cpu.rip;
     flags = f;
   };
-  memory = s.memory;
 }
 
 pub merged_low : (w : Width) (old v : ℕ) → v < limit w → low w (merged w old v) ≡ v

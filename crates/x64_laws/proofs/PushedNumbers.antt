@@ -27,7 +27,7 @@ abbrev below_top : State → ℕ
 below_top s = (register s.cpu Rsp + (2 ^ 64 - 8)) % 2 ^ 64
 
 abbrev pushed : State → ℕ → State
-pushed s v = record {
+pushed s v = record s {
   cpu = with_register W64 s.cpu Rsp (below_top s);
   memory = after_store s.memory (below_top s) W64 v;
 }

@@ -77,9 +77,8 @@ abbrev popped_by : State → Answer ℕ → Answer (ℕ × State)
 popped_by s l = l >>= λ x. Ok (x, raised s)
 
 abbrev with_whole : State → Reg → ℕ → Flags → State
-with_whole s to k f = record {
+with_whole s to k f = record s {
   cpu = record { registers = set s.cpu.registers (number to) k; rip = s.cpu.rip; flags = f };
-  memory = s.memory;
 }
 
 pop_top : (s : State) (v : ℕ) → HasOnTop s v → pop s ≡ Ok (v, raised s)
@@ -203,7 +202,7 @@ HasStackPointerOf s u = register u.cpu Rsp ≡ register s.cpu Rsp
 
 -- a push is a store with RSP lowered
 abbrev pushed_over : State → State → State
-pushed_over s t = record { cpu = with_lower s; memory = t.memory }
+pushed_over s t = record t { cpu = with_lower s }
 
 push_over : (s : State) (v : ℕ) → push s v
     ≡ (store s (below_top s) W64 v >>= λ t. Ok (pushed_over s t))

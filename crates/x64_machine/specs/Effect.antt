@@ -1,5 +1,5 @@
 -- What one instruction does (Intel manual, volume 2, each instruction's page).
-use Rattle.std.specs.Prelude.{◌≡◌, ℕ, ◌+◌, ◌-◌, ◌*◌, ◌%◌, ◌^◌, Bool, true, false, nat_lt, if◌then◌else◌, Option, Some, None, Result, Ok, Err, slice_index, slice_set, bit_and, bit_or, bit_xor}
+use Rattle.std.specs.Prelude.{◌≡◌, ℕ, ◌+◌, ◌-◌, ◌*◌, ◌%◌, ◌^◌, Bool, true, false, nat_lt, if◌then◌else◌, List, [], Option, Some, None, Result, Ok, Err, slice_index, slice_set, bit_and, bit_or, bit_xor}
 use Rattle.seh_num.specs.declared.width.Width.{Width}
 use Rattle.seh_num.specs.declared.width.Width.TheVariants.{W8, W64}
 use Rattle.seh_num.specs.declared.division.DivFault.{DivFault}
@@ -54,10 +54,12 @@ use Rattle.x64_machine.specs.Shifts.{count_of, shifted, shift_flags}
 use Rattle.x64_machine.specs.Conditions.{holds}
 use Rattle.x64_machine.specs.Dividing.{joined, divided}
 
--- the registers and the memory
+-- the registers, the memory, and what the host keeps beside them: its vectored handlers, by their
+-- addresses, in the order in which it asks them. No instruction reads or writes the list
 pub record State : Type 0 where
   pub cpu : Cpu
   pub memory : Memory
+  pub vectored : List ℕ
 
 -- what a step gives: the state after it, or why there is none
 abbrev pub Answer : Type 0 → Type 0
@@ -324,7 +326,11 @@ step s =
 -- ---- what the code answers
 
 abbrev pub state : Cpu → Memory → State
-state c m = record { cpu = c; memory = m }
+state c m = record { cpu = c; memory = m; vectored = [] }
+
+-- with a host that has vectored handlers
+abbrev pub with_vectored : List ℕ → State → State
+with_vectored v s = record s { vectored = v }
 
 abbrev pub cpu_of : Answer State → Answer Cpu
 cpu_of (Ok s) = Ok s.cpu

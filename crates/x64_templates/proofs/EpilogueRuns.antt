@@ -101,9 +101,8 @@ module _ (p : FramePlan) (is_plan : IsPlan p) (old : ℕ → ℕ) (back : ℕ) (
       let w = (registers s 4 + 8) % 2 ^ 64 % 2 ^ 64 in
       let up : w ≡ old 4 + 8 = omega arith in
       record {
-        after = record {
+        after = record s {
           cpu = record { registers = set s.cpu.registers 4 w; rip = back; flags = s.cpu.flags };
-          memory = s.memory;
         };
         comes = one_reaches instrs.Return [] s _ refl refl code
             (return_effect s (s.cpu.rip + size instrs.Return) back
@@ -124,13 +123,12 @@ module _ (p : FramePlan) (is_plan : IsPlan p) (old : ℕ → ℕ) (back : ℕ) (
       let same = nonvolatile_number r nv in
       let a = s.cpu.rip + size (instrs.Pop q) in
       let w = (registers s 4 + 8) % 2 ^ 64 % 2 ^ 64 in
-      let t : State = record {
+      let t : State = record s {
         cpu = record {
           registers = set (set s.cpu.registers 4 w) (number q) (old r % 2 ^ 64);
           rip = a;
           flags = s.cpu.flags;
         };
-        memory = s.memory;
       } in
       let ef : effect (with_rip s a) (instrs.Pop q) ≡ Ok t = pop_effect s a (old r) q
       (load_at s.memory (registers s 4) (old r) h.stack.0) in
@@ -157,13 +155,12 @@ module _ (p : FramePlan) (is_plan : IsPlan p) (old : ℕ → ℕ) (back : ℕ) (
       let i = opening_by p true in
       let a = s.cpu.rip + size i in
       let x = added W64 (registers s 4 % 2 ^ 64) (p.size % 2 ^ 64) in
-      let t : State = record {
+      let t : State = record s {
         cpu = record {
           registers = set s.cpu.registers 4 (x.0 % 2 ^ 64);
           rip = a;
           flags = x.1;
         };
-        memory = s.memory;
       } in
       let ef : effect (with_rip s a) i ≡ Ok t = refl in
       let next = subst (λ ps. InPops f old back ps t) (pushes_plan p)
@@ -182,9 +179,8 @@ module _ (p : FramePlan) (is_plan : IsPlan p) (old : ℕ → ℕ) (back : ℕ) (
         displacement = (p.size + (2 ^ 64 - p.distance)) % 2 ^ 64;
       } in
       let w = address_of c m % 2 ^ 64 in
-      let t : State = record {
+      let t : State = record s {
         cpu = record { registers = set s.cpu.registers 4 w; rip = a; flags = s.cpu.flags };
-        memory = s.memory;
       } in
       let ef : effect (with_rip s a) i ≡ Ok t = refl in
       let next = subst (λ ps. InPops f old back ps t) (pushes_plan p)
@@ -236,13 +232,12 @@ module _ (p : FramePlan) (is_plan : IsPlan p) (old : ℕ → ℕ) (back : ℕ) (
       let c : Cpu = record { registers = s.cpu.registers; rip = a; flags = s.cpu.flags } in
       let lt : base + n < 2 ^ 64 = omega arith in
       record {
-        to = record {
+        to = record s {
           cpu = record {
             registers = set s.cpu.registers (number q) (old (number q) % 2 ^ 64);
             rip = a;
             flags = s.cpu.flags;
           };
-          memory = s.memory;
         };
         is = load_effect s a (base + n) (old (number q)) q (stack_place n)
             (stack_address c n (stack_place n) (eq-eqb n n refl) lt)

@@ -95,12 +95,14 @@ branch_effect v next d f c true e = ap (λ (t : Bool).
       cpu = cond t (machine v ((next + d) % 2 ^ 64) f).cpu
           (machine v next f).cpu;
       memory = v.memory;
+      vectored = v.vectored;
     } in Ok u) e
 branch_effect v next d f c false e = ap (λ (t : Bool).
     let u : State = record {
       cpu = cond t (machine v ((next + d) % 2 ^ 64) f).cpu
           (machine v next f).cpu;
       memory = v.memory;
+      vectored = v.vectored;
     } in Ok u) e
 
 branch_comes : (v : MachineView) (rip to : ℕ) (f : Flags) (z : Bool) → f.zero ≡ z

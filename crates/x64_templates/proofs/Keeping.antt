@@ -76,11 +76,11 @@ module _ (Kept : List ℕ → List ℕ → Type 0) (none : (xs : List ℕ) → K
 
     -- registers and flags alone changed
     same : (b : Bool) (s : State) (c : Cpu) (t : State) → Kept s.cpu.registers c.registers
-        → c.rip ≡ s.cpu.rip → ◌≡◌ {A = Answer State} (Ok (record { cpu = c; memory = s.memory }))
+        → c.rip ≡ s.cpu.rip → ◌≡◌ {A = Answer State} (Ok (record s { cpu = c }))
         (Ok t)
         → Leaves Kept b s t
     same b s c t k r e =
-        let u : State = record { cpu = c; memory = s.memory } in
+        let u : State = record s { cpu = c } in
         let at : u ≡ t = cc in
         subst (Leaves Kept b s) at (record { registers = k; rip = r; memory = λ z. refl })
 
@@ -175,7 +175,7 @@ module _ (Kept : List ℕ → List ℕ → Type 0) (none : (xs : List ℕ) → K
         let after = λ (b : ℕ). let p = multiplied w (low w (register s.cpu to)) b s.cpu.flags in
         record (with_register w s.cpu to p.0) { flags = p.1 } in
         let b = bound (read s w from) (λ b. let u : State =
-        record { cpu = after b; memory = s.memory } in Ok u) t e in
+        record s { cpu = after b } in Ok u) t e in
         same true s (after b.0) t (let p =
         multiplied w (low w (register s.cpu to)) b.0 s.cpu.flags in
         kept_register w s.cpu to p.0 q) refl b.1
@@ -187,7 +187,7 @@ module _ (Kept : List ℕ → List ℕ → Type 0) (none : (xs : List ℕ) → K
         let after = λ (a : ℕ). let p = multiplied w a (low w v) s.cpu.flags in
         record (with_register w s.cpu to p.0) { flags = p.1 } in
         let b = bound (read s w from) (λ a. let u : State =
-        record { cpu = after a; memory = s.memory } in Ok u) t e in
+        record s { cpu = after a } in Ok u) t e in
         same true s (after b.0) t (let p = multiplied w b.0 (low w v) s.cpu.flags in
         kept_register w s.cpu to p.0 q) refl b.1
 

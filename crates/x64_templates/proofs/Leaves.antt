@@ -26,10 +26,10 @@ bound (Err z) f t e = absurd cc
 
 -- registers and flags alone changed
 same : (s : State) (c : Cpu) (t : State) → c.rip ≡ s.cpu.rip
-    → ◌≡◌ {A = Answer State} (Ok (record { cpu = c; memory = s.memory })) (Ok t)
+    → ◌≡◌ {A = Answer State} (Ok (record s { cpu = c })) (Ok t)
     → Kept s.memory s.cpu.rip t
 same s c t r e =
-    let u : State = record { cpu = c; memory = s.memory } in
+    let u : State = record s { cpu = c } in
     let at : u ≡ t = cc in
     subst (Kept s.memory s.cpu.rip) at (record
     { left = record { protection = refl; byte = λ a fix. refl }; rip = r })
@@ -72,7 +72,7 @@ stored_kept s at w v t lt e = go (first_refused (may_write s.memory) (bytes_of w
         })) ≡ Ok t
         → Kept s.memory s.cpu.rip t
     go None f h =
-        let u : State = record {
+        let u : State = record s {
           cpu = s.cpu;
           memory = with_bytes s.memory (with_number s.memory.byte (bytes_of w) at v);
         } in
@@ -211,7 +211,7 @@ multiply_kept s w to from t e =
     let after = λ (b : ℕ). let p = multiplied w (low w (register s.cpu to)) b s.cpu.flags in
     record (with_register w s.cpu to p.0) { flags = p.1 } in
     let b = bound (read s w from) (λ b. let u : State =
-    record { cpu = after b; memory = s.memory } in Ok u) t e in
+    record s { cpu = after b } in Ok u) t e in
     same s (after b.0) t refl b.2
 
 multiply_by_kept : (s : State) (w : Width) (to : Reg) (from : RegisterOrMemory) (v : ℕ) (t : State)
@@ -220,7 +220,7 @@ multiply_by_kept s w to from v t e =
     let after = λ (a : ℕ). let p = multiplied w a (low w v) s.cpu.flags in
     record (with_register w s.cpu to p.0) { flags = p.1 } in
     let b = bound (read s w from) (λ a. let u : State =
-    record { cpu = after a; memory = s.memory } in Ok u) t e in
+    record s { cpu = after a } in Ok u) t e in
     same s (after b.0) t refl b.2
 
 pub leaves : (i : Instr) (s t : State) → effect s i ≡ Ok t → Leaves i s t

@@ -194,6 +194,7 @@ seen_with l = record {
   locals = l;
   rest = record { rsp = 0; rbp = 0; r8 = 0; r9 = 0; r10 = 0; r11 = 0 };
   memory = record { protection = λ a. UNMAPPED; byte = λ a. 0 };
+  vectored = [];
 }
 
 -- another one is as it was

@@ -60,10 +60,10 @@ seen s e = record {
     locals = local_registers s.cpu.registers;
     rest = other_registers s.cpu.registers;
     memory = s.memory;
+    vectored = s.vectored;
   };
-  is = ap (λ (rs : List ℕ). let u : State = record {
+  is = ap (λ (rs : List ℕ). let u : State = record s {
     cpu = record { registers = rs; rip = s.cpu.rip; flags = s.cpu.flags };
-    memory = s.memory;
   } in u) (registers_are s.cpu.registers e);
 }
 

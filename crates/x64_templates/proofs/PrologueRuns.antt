@@ -104,7 +104,7 @@ module _ (p : FramePlan) (is_plan : IsPlan p) (check : ℕ) (e : State)
         let may : (b : ℕ) → at ≤ b → b < at + 8 → may_write s.memory b ≡ true =
         λ b x y. room f offset back n e s done entry run b (omega arith) (omega arith) in
         record {
-          to = record {
+          to = record s {
             cpu = record { registers = set s.cpu.registers 4 at; rip = a; flags = s.cpu.flags };
             memory = with_bytes s.memory (with_number s.memory.byte 8 at v);
           };
@@ -135,13 +135,12 @@ module _ (p : FramePlan) (is_plan : IsPlan p) (check : ℕ) (e : State)
         let q = numbers.register f in
         let v = address_of c (stack_place offset) % 2 ^ 64 in
         record {
-          to = record {
+          to = record s {
             cpu = record {
               registers = set s.cpu.registers (number q) v;
               rip = a;
               flags = s.cpu.flags;
             };
-            memory = s.memory;
           };
           is = refl;
           rip = refl;
@@ -174,7 +173,7 @@ module _ (p : FramePlan) (is_plan : IsPlan p) (check : ℕ) (e : State)
         let may : (b : ℕ) → base + k ≤ b → b < base + k + 8 → may_write s.memory b ≡ true =
         λ b x y. room f offset back n e s done entry run b (omega arith) (omega arith) in
         record {
-          to = record {
+          to = record s {
             cpu = c;
             memory = with_bytes s.memory (with_number s.memory.byte 8 (base + k) v);
           };

@@ -58,9 +58,9 @@ sets_then : (a b c : List ℕ) → Sets a b → Sets b c → Sets a c
 sets_then a b c x y = record { count = y.count ∙ x.count; small = λ h. y.small (x.small h) }
 
 same : (s : State) (c : Cpu) (t : State) → Sets s.cpu.registers c.registers
-    → ◌≡◌ {A = Answer State} (Ok (record { cpu = c; memory = s.memory })) (Ok t) → Registers s t
+    → ◌≡◌ {A = Answer State} (Ok (record s { cpu = c })) (Ok t) → Registers s t
 same s c t r e =
-    let u : State = record { cpu = c; memory = s.memory } in
+    let u : State = record s { cpu = c } in
     let at : u ≡ t = cc in
     subst (Registers s) at (record { count = r.count; small = r.small })
 
@@ -75,7 +75,7 @@ stored_kept s at w v t e = go (first_refused (may_write s.memory) (bytes_of w) a
         })) ≡ Ok t
         → Registers s t
     go None h =
-        let u : State = record {
+        let u : State = record s {
           cpu = s.cpu;
           memory = with_bytes s.memory (with_number s.memory.byte (bytes_of w) at v);
         } in
@@ -203,7 +203,7 @@ multiply_kept s w to from t e =
     let after = λ (b : ℕ). let p = multiplied w (low w (register s.cpu to)) b s.cpu.flags in
     record (with_register w s.cpu to p.0) { flags = p.1 } in
     let b = bound (read s w from) (λ b. let u : State =
-    record { cpu = after b; memory = s.memory } in Ok u) t e in
+    record s { cpu = after b } in Ok u) t e in
     same s (after b.0) t (let q = multiplied w (low w (register s.cpu to)) b.0 s.cpu.flags in
     sets_one w s.cpu to q.0) b.2
 
@@ -213,7 +213,7 @@ multiply_by_kept s w to from v t e =
     let after = λ (a : ℕ). let p = multiplied w a (low w v) s.cpu.flags in
     record (with_register w s.cpu to p.0) { flags = p.1 } in
     let b = bound (read s w from) (λ a. let u : State =
-    record { cpu = after a; memory = s.memory } in Ok u) t e in
+    record s { cpu = after a } in Ok u) t e in
     same s (after b.0) t (let q = multiplied w b.0 (low w v) s.cpu.flags in sets_one w s.cpu to q.0)
     b.2
 

@@ -123,7 +123,7 @@ other_registers r =
     }
 
 -- what templates work on: RAX, RCX, RDX, the registers of locals, the rest of the registers, and
--- the memory
+-- the memory; beside them the host's vectored handlers, which none of them changes
 pub record MachineView : Type 0 where
   pub rax : ℕ
   pub rcx : ℕ
@@ -131,6 +131,7 @@ pub record MachineView : Type 0 where
   pub locals : LocalRegisters
   pub rest : OtherRegisters
   pub memory : Memory
+  pub vectored : List ℕ
 
 -- all registers, by their numbers
 abbrev pub registers_of : MachineView → List ℕ
@@ -144,6 +145,7 @@ machine v rip flags =
     record {
       cpu = record { registers = registers_of v; rip = rip; flags = flags };
       memory = v.memory;
+      vectored = v.vectored;
     }
 
 -- from any place, with any flags, the instructions lead from one view to another

@@ -140,7 +140,15 @@ const SERVICES: &str = r"
 7FF00061 | None
 7FF00070 | Some(FinallyReturn)
 7FF00071 | None
-7FF00080 | None
+7FF00080 | Some(AddVectored)
+7FF00081 | None
+7FF00090 | Some(RemoveVectored)
+7FF00091 | None
+7FF000A0 | Some(VectoredReturn)
+7FF000A1 | None
+7FF000B0 | Some(Walk)
+7FF000B1 | None
+7FF000C0 | None
 ";
 
 #[test]
@@ -316,6 +324,7 @@ const REFUSED: &str = r"
 0        1        70000000 | illegal 0
 7FF00010 1        70001000 | host 7FF00010
 7FF00070 1        70001000 | host 7FF00070
+7FF000A0 1        70001000 | host 7FF000A0
 7FF00040 1        70001000 | illegal 7FF00040       | the language handler isn't run as code
 7FF00011 1        70001000 | illegal 7FF00011       | between the services there is none
 ";

@@ -1,5 +1,5 @@
 use Rattle.std.proofs.Common.{◌≡◌, sym, ap, subst, ◌∙◌}
-use Rattle.seh_dispatch.specs.Words.{functions_of, State, state, step, shown_in, turn, after, left}
+use Rattle.seh_dispatch.specs.Words.{Machine, functions_of, State, state, state_of, step, shown_in, turn, after, left}
 use Rattle.seh_dispatch.proofs.TurnOutcomes.{left_over}
 use Rattle.seh_dispatch.proofs.QuietTurns.{kept_state, quiet_turn, coherent_after}
 use Rattle.seh_dispatch.proofs.advancing.advance.Goals as goal
@@ -8,37 +8,40 @@ pub returns-then-step : goal.returns-then-step
 returns-then-step g c =
     let t = functions_of c.args.tables.now in
     let fs = c.args.funclets.now in
+    let h = c.args.machine.now in
     let m = g.S.CodeSpace.memory c.args.space.now in
     let cpu = c.step.new.cpu in
+    let new : Machine = record h { cpu = cpu } in
     let n = g.S.CodeSpace.memory c.step.new.space in
-    let quiet = quiet_turn t fs c.args.cpu.now cpu m n (sym c.if-step.true ∙ c.step.ensures.answer)
+    let quiet = quiet_turn t fs h cpu m n (sym c.if-step.true ∙ c.step.ensures.answer)
     c.step.ensures.cpu c.step.ensures.memory in
-    let host : left cpu n c.arrive.result ≡ after (turn t fs (state c.args.cpu.now m)) =
-    ap (left cpu n) c.arrive.ensures.end ∙ left_over cpu n ∙ sym (ap after quiet) in
+    let host : left new n c.arrive.result ≡ after (turn t fs (state_of h m)) =
+    ap (left new n) c.arrive.ensures.end ∙ left_over new n ∙ sym (ap after quiet) in
     record {
       host = host;
       shown = subst (λ es. g.V.Events.took c.args.to.now es c.arrive.new.to)
           (sym (ap shown_in quiet)) c.arrive.ensures.shown;
-      coherent = coherent_after t fs (state c.args.cpu.now m) cpu n c.arrive.result
-          c.step.new.cache host c.step.ensures.before;
+      coherent = coherent_after t fs (state_of h m) new n c.arrive.result c.step.new.cache host
+          c.step.ensures.before;
     }
 
 pub returns : goal.returns
 returns g c =
     let t = functions_of c.args.tables.now in
     let fs = c.args.funclets.now in
+    let h = c.args.machine.now in
     let m = g.S.CodeSpace.memory c.args.space.now in
-    let s = state c.args.cpu.now m in
+    let s = state_of h m in
     let new = g.S.CodeSpace.memory c.dispatch.new.space in
-    let kept = kept_state c.args.cpu.now c.step.new.cpu m (g.S.CodeSpace.memory c.step.new.space)
-    (step s) (sym c.if-step.false ∙ c.step.ensures.answer) c.step.ensures.cpu
+    let kept = kept_state h c.step.new.cpu m (g.S.CodeSpace.memory c.step.new.space)
+    (step (state h.cpu m)) (sym c.if-step.false ∙ c.step.ensures.answer) c.step.ensures.cpu
     c.step.ensures.memory in
-    let host : left c.dispatch.new.cpu new c.dispatch.result ≡ after (turn t fs s) =
+    let host : left c.dispatch.new.machine new c.dispatch.result ≡ after (turn t fs s) =
     c.dispatch.ensures.host ∙ ap (λ (u : State). after (turn t fs u)) kept in
     record {
       host = host;
       shown = subst (λ es. g.V.Events.took c.args.to.now es c.dispatch.new.to)
           (ap (λ (u : State). shown_in (turn t fs u)) kept) c.dispatch.ensures.shown;
-      coherent = coherent_after t fs s c.dispatch.new.cpu new c.dispatch.result
+      coherent = coherent_after t fs s c.dispatch.new.machine new c.dispatch.result
           c.step.new.cache host c.step.ensures.before;
     }

@@ -5,13 +5,13 @@ use Rattle.seh_dispatch.proofs.advancing.conclude.Goals as goal
 
 pub returns-in-Ends-clause-host : goal.returns-in-Ends-clause-host
 returns-in-Ends-clause-host g c m =
-    sym (ap after (ends_turn (functions_of c.args.tables.now) c.args.funclets.now c.args.cpu.now m
-    c.args.made c.in-Ends.end c.in-Ends.is))
+    sym (ap after (ends_turn (functions_of c.args.tables.now) c.args.funclets.now
+    c.args.machine.now m c.args.made c.in-Ends.end c.in-Ends.is))
 
 pub returns-in-Ends-clause-shown : goal.returns-in-Ends-clause-shown
 returns-in-Ends-clause-shown g c m =
     let made = c.args.made in
-    let turned = ends_turn (functions_of c.args.tables.now) c.args.funclets.now c.args.cpu.now m
+    let turned = ends_turn (functions_of c.args.tables.now) c.args.funclets.now c.args.machine.now m
     made c.in-Ends.end c.in-Ends.is in
     subst (λ es. g.V.Events.took c.args.to.now es c.tell-2.new.to)
     (ap (λ es. listed made.first ++ es) (sym (append-nil (listed made.rest.first)))
@@ -21,15 +21,16 @@ returns-in-Ends-clause-shown g c m =
 
 pub returns-in-Continues-clause-host : goal.returns-in-Continues-clause-host
 returns-in-Continues-clause-host g c m =
-    let cpu = c.args.cpu.now in
-    ap (left cpu m) c.arrive.ensures.end
-    ∙ left_over cpu m
-    ∙ sym (ap after (goes_turn (functions_of c.args.tables.now) c.args.funclets.now cpu m
+    let machine = c.args.machine.now in
+    ap (left machine m) c.arrive.ensures.end
+    ∙ left_over machine m
+    ∙ sym (ap after (goes_turn (functions_of c.args.tables.now) c.args.funclets.now machine m
     c.args.made c.in-Continues.event c.in-Continues.is))
 
 pub returns-in-Continues-clause-shown : goal.returns-in-Continues-clause-shown
 returns-in-Continues-clause-shown g c m =
-    let cpu = c.args.cpu.now in
+    let machine = c.args.machine.now in
+    let cpu = machine.cpu in
     let made = c.args.made in
     let fs = c.args.funclets.now in
     let t = functions_of c.args.tables.now in
@@ -37,7 +38,7 @@ returns-in-Continues-clause-shown g c m =
     let second = listed made.rest.first in
     let event = listed c.in-Continues.event in
     let more = g.met.V.Events.more in
-    let turned = goes_turn t fs cpu m made c.in-Continues.event c.in-Continues.is in
+    let turned = goes_turn t fs machine m made c.in-Continues.event c.in-Continues.is in
     subst (λ es. g.V.Events.took c.args.to.now es c.arrive.new.to)
     (sym (ap shown_in turned))
     (more c.args.to.now c.tell-in-Continues.new.to c.arrive.new.to

@@ -1,6 +1,7 @@
 use Rattle.std.proofs.Common.{◌≡◌, ◌+◌, sym, ap, subst, ◌∙◌, w64, to_z, of_z}
 use Rattle.std.proofs.lemmas.Int.{to_z-of_z}
 use Rattle.seh_host.specs.Words.{memory_of, Functions, first_cpu, start, Live, host, over}
+use Rattle.x64_machine.specs.Effect.{State}
 use Rattle.host_model.specs.Funclets.{funclets}
 use Rattle.seh_dispatch.specs.Filters.{Admits}
 use Rattle.seh_host.proofs.AsLoaded.{place_above}
@@ -20,8 +21,13 @@ returns-clause-loaded c =
     (c.in_ok-tables.ensures.read).1 in
     let listed = c.in-Ok-funclets_in.ensures.items
     ∙ ap (λ (t : Functions). funclets t.entries) functions in
-    let going : Live (record { cpu = c.first_cpu.result; memory = memory_of c.in-Ok.space })
-    ≡ host (start image c.args.arg) = (λ i. Live (record { cpu = cpu i; memory = memory i }))
+    let first : State = record {
+      cpu = c.first_cpu.result;
+      memory = memory_of c.in-Ok.space;
+      vectored = c.new-3.result;
+    } in
+    let going : Live first ≡ host (start image c.args.arg) =
+    (λ i. Live (record { cpu = cpu i; memory = memory i; vectored = c.new-3.ensures i }))
     ∙ sym (ap (over (start image c.args.arg))
     (place_above image image.entry c.in_ok-names.ensures.place)) in
     λ i. record { functions = functions i; funclets = listed i; host = going i }

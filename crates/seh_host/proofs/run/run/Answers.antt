@@ -12,7 +12,7 @@ returns-in-Ok-clause-end g c =
     let host = c.write_turns.new.host in
     c.unwrap_or-end.ensures
     ∙ within c.args.turns host.end
-    ∙ ap (end_within c.args.turns) (end_left host.cpu (memory_of host.space) host.end
+    ∙ ap (end_within c.args.turns) (end_left host.machine (memory_of host.space) host.end
     ∙ end_answered c.args.turns c.new-lines.result.trace (running_of c.args.host.now)
     (running_of host) _ _ _ _ c.write_turns.ensures.written c.end.ensures.wrote
     c.in-Ok.ensures.outcome)
@@ -46,7 +46,7 @@ returns-clause-part g c =
     (part_of_text c.args.turns c.in-Err.fault.taken c.new-lines.result.trace r (running_of host)
     _ _ _ c.unwrap_or-end.result c.write_turns.ensures.written c.end.ensures.wrote
     (c.unwrap_or-end.ensures ∙ within c.args.turns host.end
-    ∙ ap (end_within c.args.turns) (end_left host.cpu (memory_of host.space) host.end))
+    ∙ ap (end_within c.args.turns) (end_left host.machine (memory_of host.space) host.end))
     c.new-lines.ensures.taken (c.in-Err.ensures.outcome).1)
 
 pub returns-clause-stopped : goal.returns-clause-stopped
@@ -63,7 +63,7 @@ returns-clause-stopped g c =
     _ _ _
     c.unwrap_or-end.result c.write_turns.ensures.written c.end.ensures.wrote
     (c.unwrap_or-end.ensures ∙ within c.args.turns host.end
-    ∙ ap (end_within c.args.turns) (end_left host.cpu (memory_of host.space) host.end))
+    ∙ ap (end_within c.args.turns) (end_left host.machine (memory_of host.space) host.end))
     c.new-lines.ensures.taken (c.in-Err.ensures.outcome).1)
 
 pub returns-in-Ok-clause-all_counted : goal.returns-in-Ok-clause-all_counted

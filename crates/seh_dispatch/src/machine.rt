@@ -1,0 +1,11 @@
+//! What a run has beside its memory.
+
+use vectored_list::VectoredList;
+use x64_machine::cpu::Cpu;
+
+/// The processor, and the vectored handlers that the host was given, by their addresses.
+#[derive(Drop)]
+pub struct Machine {
+    pub cpu: Cpu,
+    pub handlers: VectoredList,
+}
