@@ -31,15 +31,15 @@ use Rattle.match_bodies.proofs.ProgramKeeping.{KeepsImage}
 use Rattle.match_bodies.proofs.MemoryKeeping.{memory_stays}
 use Rattle.match_bodies.proofs.BodyViews.{is_machine, locals_small, arrived_small}
 use Rattle.match_turns.proofs.FunctionFrame.{function_begins}
-use Rattle.image_runs.proofs.FunctionEntry.{IsCalled}
-use Rattle.image_runs.proofs.FunctionEntry as entering
-use Rattle.image_runs.proofs.FrameEntries as entries
+use Rattle.match_turns.proofs.GivenFunction.{IsCalled}
+use Rattle.match_turns.proofs.GivenFunction as entering
+use Rattle.match_turns.proofs.GivenFrames as entries
 
 module _ (t : Functions) (fs : List Funclet) (program : LinearProgram) (p : ImagePlan) (q : Sites)
     (image : IsProgramImage t fs program p q) (s : State) (source : Memory) (f : ℕ)
     (fn : LinearFunction) (top : ℕ) (given : ℕ → ℕ)
     (h : IsCalled t fs program p q s source f fn top given)
-    (some : 0 < length fn.body.code) (well_formed : IsWellFormed s) (last : top + 40 ≡ STACK_END)
+    (some : 0 < length fn.body.code) (well_formed : IsWellFormed [] s) (last : top + 40 ≡ STACK_END)
     (returns_to : word s.memory top ≡ Ok 0) (arguments : List ℕ)
     (counted : length arguments ≡ fn.parameters)
     (same : (i v : ℕ) → slice_get arguments i ≡ Some v → given i ≡ v) where
@@ -88,7 +88,7 @@ module _ (t : Functions) (fs : List Funclet) (program : LinearProgram) (p : Imag
   beneath_main : Beneath t first nothing_owed top (top + 40) 0 (others_of first.cpu.registers) []
   beneath_main =
       let high = h.high in
-      let well_formed' = subst IsWellFormed first_is well_formed in
+      let well_formed' = subst (IsWellFormed []) first_is well_formed in
       let at : register first.cpu Rsp ≡ top = subst (λ (x : State). register x.cpu Rsp ≡ top)
       first_is h.stack in
       let flat : register first.cpu Rsp + 0 ≡ top = omega arith in
@@ -159,7 +159,7 @@ module _ (t : Functions) (fs : List Funclet) (program : LinearProgram) (p : Imag
   kept = others_of first.cpu.registers
 
   small_there : AllSmall kept
-  small_there = small_registers first (subst IsWellFormed first_is well_formed)
+  small_there = small_registers first (subst (IsWellFormed []) first_is well_formed)
 
   entry_run : EntryRan t fs program p q image (FunctionBody f) o there some top (top + 40) 0
       kept [] inside.turns first after (arguments_code program p (FunctionBody f))
@@ -167,7 +167,6 @@ module _ (t : Functions) (fs : List Funclet) (program : LinearProgram) (p : Imag
       let stored = arguments_stored (p.leaf (FunctionBody f))
       planned in
       let small = frame_small (p.leaf (FunctionBody f)) planned in
-      let light = h.light in
       let lo = h.low in
       let at : register first.cpu Rsp ≡ top = subst (λ (x : State). register x.cpu Rsp ≡ top)
       first_is h.stack in
@@ -195,11 +194,11 @@ module _ (t : Functions) (fs : List Funclet) (program : LinearProgram) (p : Imag
       h.memory.code silent_after)
 
   pub soon : inside.turns ≤ 29 + 8 * fn.surplus
-  soon = inside.soon
+  soon = let few = h.few in let n = inside.soon in omega arith
 
   well_formed_after : IsWellFormed after
   well_formed_after =
-      stays_well_formed first after keeps rip_small (subst IsWellFormed first_is well_formed)
+      stays_well_formed first after keeps rip_small (subst (IsWellFormed []) first_is well_formed)
 
   abbrev registers : LocalRegisters
   registers = local_registers after.cpu.registers
@@ -252,7 +251,7 @@ module _ (t : Functions) (fs : List Funclet) (program : LinearProgram) (p : Imag
   at_home false l e = absurd (let no : false ≡ true = e in cc)
 
   sp_low : STACK_START ≤ inside.sp
-  sp_low = let z = h.low in let light = h.light in let e = inside.place in
+  sp_low = let z = h.low in let e = inside.place in
       let n = frame_small (p.leaf (FunctionBody f)) planned in omega arith
 
   argument_there : (i v : ℕ) → slice_get arguments i ≡ Some v
@@ -288,7 +287,6 @@ module _ (t : Functions) (fs : List Funclet) (program : LinearProgram) (p : Imag
       (begun f (arguments ++ others) (0 + (fn.surplus + fn.data_surplus)) [] source [] [])
   begins =
       let small = frame_small (p.leaf (FunctionBody f)) planned in
-      let light = h.light in
       let shallow = h.shallow in
       let e = inside.place in
       let stack = inside.stack in

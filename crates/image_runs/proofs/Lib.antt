@@ -3,8 +3,6 @@ pub mod FuncletOwners
 pub mod FuncletRegions
 pub mod ImageCode
 pub mod SoundImages
-pub mod FunctionEntry
-pub mod FrameEntries
 pub mod FirstFunction
 pub mod MainStart
 pub mod FunctionDepths

@@ -7,7 +7,7 @@ use Rattle.seh_num.specs.Widths.{wrapped}
 use Rattle.seh_records.specs.Laws.{AllSmall}
 use Rattle.image_runs.proofs.Lemmas.{label_in}
 use Rattle.image_runs.specs.MainLaws.{MainIsBegun}
-use Rattle.image_runs.proofs.FunctionEntry.{IsCalled}
+use Rattle.match_turns.proofs.GivenFunction.{IsCalled}
 use Rattle.image_runs.proofs.FirstFunction as begun
 
 -- what the argument registers hold: the argument of the run, and zeros
@@ -103,7 +103,6 @@ module _ (t : Functions) (fs : List Funclet) (program : LinearProgram) (p : Imag
     function = is_main;
     rip = ap (λ (c : Cpu). c.rip) h.cpu;
     stack = ap (λ (c : Cpu). get_or c.registers 4 0) h.cpu;
-    light = light;
     shallow = shallow;
     low = omega arith;
     high = omega arith;

@@ -171,10 +171,14 @@ module _ (program : Program) (linear : LinearProgram) (rate body : ℕ)
         (runs n (length st.frames))))
 
     abbrev first_store : Store
-    first_store = record { memory = first_memory linear.globals; activations = [] }
+    first_store = record { memory = first_memory linear.globals; activations = []; vectored = [] }
 
     abbrev store' : Store
-    store' = record { memory = first_memory linear.globals; activations = locals ∷ [] }
+    store' = record {
+      memory = first_memory linear.globals;
+      activations = locals ∷ [];
+      vectored = [];
+    }
 
     abbrev c0 : Configuration
     c0 = begin_function program.main lf vs 0 [] first_store []
@@ -277,7 +281,7 @@ module _ (program : Program) (linear : LinearProgram) (rate body : ℕ)
           push_alike [] (first_memory program.globals) [] first_store new given locals alike
               nothing,
           kept_itself (below_slot 0 (own_locals fn)) (new ∷ []) store',
-          refl,
+          record { functions_are = refl; same_handlers = refl; are_called = tt },
         ) (ap (λ held. 0 + held) (sym weighs))
         (λ mid after left kept held.
         all_runs program linear rate body n bodies scope new (new ∷ []) inner csite store' fn.body

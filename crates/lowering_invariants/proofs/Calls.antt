@@ -3,8 +3,9 @@
 use Rattle.std.proofs.Common.{ℕ, ◌+◌, List, ◌++◌}
 use Rattle.std.specs.List.{AllByRecursion}
 use Rattle.std.specs.Prelude.{Bool}
-use Rattle.lowering_invariants.specs.Words.{Operation, Expression, Program, Temporary, Instruction, LinearProgram, BodyName, ExceptionSource, NoException, OfFilter, KeptIn, Names, code_code, expression_code, IsCalled, ExpressionFits, IsCallee, IsInstructionOf, ReadsWell}
+use Rattle.lowering_invariants.specs.Words.{BuiltIn, Put, Protect, RaiseException, Walk, AddVectored, RemoveVectored, Operation, Expression, Program, Temporary, Instruction, LinearProgram, BodyName, ExceptionSource, NoException, OfFilter, KeptIn, Names, code_code, expression_code, IsCalled, BuiltInFits, ExpressionFits, IsCallee, IsInstructionOf, ReadsWell}
 use Rattle.c_operations.specs.declared.operation.Operation.TheVariants as operations
+use Rattle.linear_code.specs.declared.instruction.Instruction.TheVariants as instructions
 use Rattle.lowering_invariants.proofs.Lemmas.{all_append}
 use Rattle.lowering_invariants.proofs.EveryExpression.{HoldsOfOperations, expression_every}
 
@@ -44,13 +45,23 @@ module _ (program : Program) (linear : LinearProgram)
     code_calls OfFilter d = tt
     code_calls (KeptIn x) d = tt
 
+    -- a vectored handler takes a code and flags
+    built_in_calls : (k : BuiltIn) (d : ℕ) → BuiltInFits program k
+        → IsInstructionOf linear name (instructions.CallBuiltIn k d)
+    built_in_calls Put d h = tt
+    built_in_calls Protect d h = tt
+    built_in_calls RaiseException d h = tt
+    built_in_calls Walk d h = tt
+    built_in_calls (AddVectored f) d h = callee f 2 h
+    built_in_calls (RemoveVectored f) d h = callee f 2 h
+
     pub expression_calls : (own : ℕ) (info : Bool) (names : Names) (e : Expression) (d at : ℕ)
         → ExpressionFits program own info e → AllCall (expression_code names e d at)
     expression_calls own info names e d at f =
         expression_every (IsInstructionOf linear name) operations_call program own info names
         (record {
           of_call = λ g first count h. callee g count h;
-          of_built_in = λ k first. tt;
+          of_built_in = built_in_calls;
           of_code = code_calls names.exception;
           of_information = λ field to h. tt;
         }) e d at f

@@ -9,10 +9,10 @@ use Rattle.seh_ir.specs.Lowered.{bring_code, open_code, close_code, body_start}
 use Rattle.seh_ir.specs.Funclets.{finally_begin}
 use Rattle.seh_ir.specs.Statements.{put_code, landed}
 use Rattle.lowering_invariants.specs.Words.{constant}
-use Rattle.lowering_invariants.specs.Words.{Expression, Program, Function, surplus, weight, Statements, Local, Temporary, Instruction, JumpIfZero, Separator, LinearBody, BodyName, body_of, statements_size, statements_notes, Owner, Names, Way, Nowhere, Jumps, LoweringContext, finally_scope, copy, expression_code, return_code, returned_code, repeated, statements_code, finally_funclet, first_separators, scope_of, lowered_function, lowered, depth_at, filter_funclet}
+use Rattle.lowering_invariants.specs.Words.{Expression, Program, Function, surplus, Statements, Local, Temporary, Instruction, JumpIfZero, Separator, LinearBody, BodyName, body_of, statements_size, statements_notes, Owner, Names, Way, Nowhere, Jumps, LoweringContext, finally_scope, copy, expression_code, return_code, returned_code, repeated, statements_code, finally_funclet, first_separators, scope_of, lowered_function, lowered, depth_at, filter_funclet}
 use Rattle.linear_code.specs.declared.instruction.Instruction.TheVariants as instructions
 use Rattle.lowering_expressions.specs.declared.scope.Way.TheVariants.{Unwinds}
-use Rattle.lowering_invariants.proofs.Lemmas.{length_first, statements_length, statements_have, WayHas, WaysHave, IsPlaced, HoldsOfPieces, statements_every, HoldsOfAnyPieces, statements_any, neutral_of}
+use Rattle.lowering_invariants.proofs.Lemmas.{statements_length, statements_have, WayHas, WaysHave, IsPlaced, HoldsOfPieces, statements_every, HoldsOfAnyPieces, statements_any, neutral_of}
 use Rattle.lowering_invariants.proofs.Scans.{past, past_to, past_both, Scans, scan_start, scan_front, scan_back, scan_end, scanned, AllLead, lead_both}
 use Rattle.lowering_invariants.proofs.FirstSeparators.{function_begin, function_body_code, function_end, begin_length, code_is}
 use Rattle.lowering_invariants.proofs.EveryBody.{every_body}

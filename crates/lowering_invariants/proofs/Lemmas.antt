@@ -11,6 +11,7 @@ pub use Rattle.seh_ir.proofs.Lowering.{length_first}
 pub use Rattle.seh_ir.proofs.StatementCodes.{statements_length, discarded_length, condition_length, all_declared_length, statement_length}
 pub use Rattle.seh_ir.proofs.StatementParts.{statements_have, OptionalHas, AllDeclaredHave, FilterHas, StatementHas, StatementsHave}
 pub use Rattle.lowering_follows.proofs.FuncletNumbers.{count_front, count_back, counted}
+pub use Rattle.lowering_follows.proofs.Handlers.{each_added, each_left}
 pub use Rattle.lowering_follows.proofs.ProgramLowering.{lowered_is_linked, lowered_shows_no_more}
 pub use Rattle.lowering_follows.proofs.Segments.{IsSegmentAt, front, back, whole_is_at}
 pub use Rattle.lowering_follows.proofs.SoundExpressions.{both_left, both_right, Knows, expression_fits}

@@ -1,13 +1,13 @@
 -- What the bodies of a lowered program name is there.
-use Rattle.std.proofs.Common.{◌≡◌, ℕ, ◌+◌, ◌<◌, ◌≤◌, List, [], ◌∷◌, ◌++◌, length, map, refl, sym, ap, subst, ◌∙◌, arith, length-append}
+use Rattle.std.proofs.Common.{◌≡◌, ℕ, ◌+◌, ◌<◌, ◌≤◌, List, [], ◌∷◌, length, map, refl, sym, ap, subst, ◌∙◌, arith, length-append}
 use Rattle.std.proofs.lemmas.List.{length-map}
 use Rattle.std.proofs.lemmas.Option.{slice_get-map, slice_get_within}
 use Rattle.std.specs.List.{AllByRecursion}
 use Rattle.std.specs.Prelude.{true, slice_get, option_map, Option, Some, None}
 use Rattle.seh_ir.specs.Lowered.{body_start}
-use Rattle.lowering_invariants.specs.Words.{Program, Function, weight, IsSound, funclets, count_up, function_sound, functions_sound, LinearBody, LinearFunction, LinearFunclet, FunctionBody, FuncletBody, function_body, funclet_body, body_of, Owner, statements_code, own_locals, all_locals, first_separators, scope_of, lowered_function, lowered_funclets, all_funclets, lowered, IsCalled, IsCallee, IsInstructionOf, IsBodyOf, AreBodies, LoweredIsWhole}
+use Rattle.lowering_invariants.specs.Words.{Program, Function, IsSound, funclets, count_up, function_sound, functions_sound, LinearBody, LinearFunction, LinearFunclet, FunctionBody, FuncletBody, function_body, funclet_body, body_of, Owner, own_locals, all_locals, scope_of, lowered_function, lowered_funclets, all_funclets, lowered, IsCalled, IsCallee, IsInstructionOf, IsBodyOf, AreBodies, LoweredIsWhole}
 use Rattle.c_checked.specs.Sound as sound
-use Rattle.lowering_invariants.proofs.Lemmas.{Range, part_of, both_parts, no_part, one_part, all_append, statements_count, count_front, count_back, IsSegmentAt, front, back, whole_is_at, both_left, both_right, lowered_is_linked}
+use Rattle.lowering_invariants.proofs.Lemmas.{Range, part_of, both_parts, no_part, one_part, statements_count, count_front, count_back, IsSegmentAt, front, back, whole_is_at, both_left, both_right, lowered_is_linked}
 use Rattle.lowering_invariants.proofs.FirstSeparators.{open_every, function_body_code, function_end, begin_every, end_every, code_every, body_at}
 use Rattle.lowering_invariants.proofs.StackTargets.{same_it, all_at}
 use Rattle.lowering_invariants.proofs.Wholes.{Fine}

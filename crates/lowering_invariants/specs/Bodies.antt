@@ -1,6 +1,7 @@
 -- What the regions and the calls of a body name.
 use Rattle.std.specs.Prelude.{◌≡◌, ℕ, ◌<◌, ◌≤◌, slice_get, Option, Some, None}
 use Rattle.std.specs.List.{AllByRecursion}
+use Rattle.c_operations.specs.declared.built_in.BuiltIn.TheVariants.{AddVectored, RemoveVectored}
 use Rattle.c_operations.specs.declared.operation.Operation.{Operation}
 use Rattle.c_operations.specs.declared.operation.Operation.TheVariants.{Pure, Allocate, SetPointer, Place, Clear}
 use Rattle.linear_code.specs.declared.slot.Slot.{Slot}
@@ -82,11 +83,14 @@ module _ (program : LinearProgram) where
     pub there : slice_get program.functions f ≡ Some function
     pub takes : count ≡ function.parameters
 
-  -- what an instruction of a body calls is there; an operation that may fault reads temporaries
+  -- what an instruction of a body calls is there, and a function that it puts among the vectored
+  -- handlers or takes out takes a code and flags; an operation that may fault reads temporaries
   -- alone, which no filter changes
   abbrev pub IsInstructionOf : BodyName → Instruction → Type 0
   IsInstructionOf name (instructions.Compute to o first second) = ReadsWell o first second
   IsInstructionOf name (instructions.Call f first count) = IsCallee f count
+  IsInstructionOf name (instructions.CallBuiltIn (AddVectored f) first) = IsCallee f 2
+  IsInstructionOf name (instructions.CallBuiltIn (RemoveVectored f) first) = IsCallee f 2
   IsInstructionOf name (instructions.CallFinally k) = IsFuncletOf name IsFinallyKind k
   IsInstructionOf name other = Unit {0}
 

@@ -89,7 +89,7 @@ module _ (setting : Setting) (s : State) (c : Configuration)
           rip_small = b.well_formed.rip_small;
           count = b.well_formed.count;
           small = b.well_formed.small;
-          no_handlers = b.well_formed.no_handlers;
+          listed = b.well_formed.listed;
         };
         memory = memory;
         body = record {

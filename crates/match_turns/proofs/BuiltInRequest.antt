@@ -2,9 +2,10 @@
 -- the list.
 use Rattle.std.proofs.Common.{◌≡◌, ℕ, ◌+◌, ◌-◌, ◌%◌, ◌^◌, ◌<◌, ◌≤◌, Some, List, [], ◌∷◌, Ok, refl, sym, ap, subst, ◌∙◌, arith, length-set}
 use Rattle.std.specs.Prelude.{◌==◌, false, slice_get, take}
-use Rattle.match_turns.specs.Words.{kept_of, W64, loaded, IMAGE_BASE, IMAGE_RANGE_END, STACK_START, STACK_END, address_of, Rsp, Instr, opcode_register, Cpu, State, register, BuiltIn, Put, Protect, RaiseException, Walk, Temporary, BodyState, LinearBody, Configuration, body_of, regions_of, waiting, instruction_at, Layout, size, sizes, put_back, keep, temporary_at, call, IsNear, return_at, begin_call, clear_result, template, template_size, MachineView, machine, pushed, HasCode, InCode, KeepsAbove, IsWellFormed, IsLive, Comes, links_of, service_of, CallsBuiltIn, IsWellMade, IsKnown, Setting, InBody, IsMachineMemory, IsResumed, RepresentsAt, arguments_code}
+use Rattle.match_turns.specs.Words.{kept_of, W64, loaded, IMAGE_BASE, IMAGE_RANGE_END, STACK_START, STACK_END, address_of, Rsp, Instr, opcode_register, Cpu, State, register, BuiltIn, Put, Protect, RaiseException, Walk, AddVectored, RemoveVectored, Temporary, BodyState, LinearBody, Configuration, body_of, regions_of, waiting, instruction_at, Layout, size, sizes, put_back, keep, temporary_at, call, IsNear, return_at, begin_call, clear_result, template, template_size, MachineView, machine, pushed, HasCode, InCode, KeepsAbove, IsWellFormed, IsLive, Comes, links_of, service_of, CallsBuiltIn, IsWellMade, IsKnown, Setting, InBody, IsMachineMemory, IsResumed, RepresentsAt, arguments_code, host_list}
 use Rattle.x64_templates.specs.Runs.{Reaches}
 use Rattle.linear_code.specs.declared.instruction.Instruction.TheVariants as instructions
+use Rattle.match_turns.proofs.BuiltInThunks.{IsDirect, direct_service}
 use Rattle.match_turns.proofs.Lemmas.{sizes_append, call_size, template_sizes, set_small, template_some, reaches_silently, counted_here, code_at, reaches_keeps, stays_well_formed, frame, slots, v, same_state, template_here, has_slots, label_near, end_near, code_end, sp_is, IsCounted, sp_low, frame_top, room_here, holds_here, others_of}
 use Rattle.match_turns.proofs.FunctionFrame.{same_itself}
 use Rattle.match_turns.proofs.CallResult.{caller_framed}
@@ -23,12 +24,16 @@ service_low Put = (omega arith, omega arith)
 service_low Protect = (omega arith, omega arith)
 service_low RaiseException = (omega arith, omega arith)
 service_low Walk = (omega arith, omega arith)
+service_low (AddVectored f) = (omega arith, omega arith)
+service_low (RemoveVectored f) = (omega arith, omega arith)
 
 service_live : (f : BuiltIn) → (address_of (service_of f) == 0) ≡ false
 service_live Put = refl
 service_live Protect = refl
 service_live RaiseException = refl
 service_live Walk = refl
+service_live (AddVectored f) = refl
+service_live (RemoveVectored f) = refl
 
 pub clear_size : size clear_result ≡ 5
 unfolding size opcode_register
@@ -42,7 +47,7 @@ module _ (setting : Setting) (made : IsWellMade setting.program setting.plan) wh
   open setting use {functions as t, funclets as fs, program, plan as p, sites as q, image}
 
   module _ (s : State) (c : Configuration) (b : RepresentsAt setting s c)
-      (known : IsKnown program c) (f : BuiltIn) (first : ℕ)
+      (known : IsKnown program c) (f : BuiltIn) (direct : IsDirect f) (first : ℕ)
       (at : instruction_at program c ≡ Some (instructions.CallBuiltIn f first)) where
     abbrev counted : IsCounted setting c
     counted = counted_here setting made c known
@@ -128,8 +133,8 @@ module _ (setting : Setting) (made : IsWellMade setting.program setting.plan) wh
         let n = back_near in
         let l = n.0 in
         let h = n.1 in
-        let a = (b.memory.code.thunks f called_here).inside.low in
-        let z = (b.memory.code.thunks f called_here).inside.high in
+        let a = (direct_service setting f s.memory direct (b.memory.code.built_in f called_here)).inside.low in
+        let z = (direct_service setting f s.memory direct (b.memory.code.built_in f called_here)).inside.high in
         (omega arith, omega arith, omega arith, omega arith)
 
     resumed : IsResumed setting c.frame.body body c.frame.next back
@@ -164,7 +169,7 @@ module _ (setting : Setting) (made : IsWellMade setting.program setting.plan) wh
         (sp_is setting made.room s c b counted) (holds_here setting s c b counted)
         (let l = low in let h = top in pushing.below view sp back (omega arith) (omega arith)
         b.memory.data_alone b.memory.stack)
-        near code_here (b.memory.code.thunks f called_here).thunk
+        near code_here (direct_service setting f s.memory direct (b.memory.code.built_in f called_here)).thunk
 
     -- with the arguments in their registers
     abbrev pub given : MachineView
@@ -178,14 +183,14 @@ module _ (setting : Setting) (made : IsWellMade setting.program setting.plan) wh
 
     pub comes : Comes t fs 7 s [] state
     comes = reaches_silently t fs program p q image 7 s state reaches
-        (built_in_keeps setting made.room s c b counted f first here state reaches refl near)
+        (built_in_keeps setting made.room s c b counted f direct first here state reaches refl near)
         b.memory.code (host_silent setting s.memory service state.cpu b.memory.code
         (service_low f).1)
 
     pub live : IsLive state
     live = service_live f
 
-    pub well_formed : IsWellFormed state
+    pub well_formed : IsWellFormed (host_list p c.store) state
     well_formed = let l = (service_low f).1 in stays_well_formed s state
         (reaches_keeps 7 s state reaches)
         (omega arith) b.well_formed
@@ -221,14 +226,14 @@ module _ (setting : Setting) (made : IsWellMade setting.program setting.plan) wh
     registers_saved : kept_of saved.registers ≡ kept_of s.cpu.registers
     registers_saved = ap (λ x. x ∷ others_of s.cpu.registers) sp_saved
 
-    pub well_formed_saved : IsWellFormed (record state { cpu = saved })
+    pub well_formed_saved : IsWellFormed (host_list p c.store) (record state { cpu = saved })
     well_formed_saved =
         let raised = (register state.cpu Rsp + 8) % 2 ^ 64 % 2 ^ 64 in
         record {
           rip_small = back_small;
           count = length-set state.cpu.registers 4 raised ∙ well_formed.count;
           small = set_small state.cpu.registers 4 raised well_formed.small (omega arith);
-          no_handlers = well_formed.no_handlers;
+          listed = well_formed.listed;
         }
 
     -- ---- memory, and the list

@@ -1,9 +1,10 @@
 -- Each turn of a call of a built-in function, up to its service, keeps the shadow.
 use Rattle.std.proofs.Common.{◌≡◌, ℕ, ◌+◌, ◌-◌, Option, Some, List, [], ◌∷◌, ◌++◌, refl, ap, ◌∙◌, arith, inl}
 use Rattle.std.specs.Prelude.{slice_get}
-use Rattle.match_turns.specs.Words.{address_of, Memory, Rsp, Instr, opcode_register, State, register, BuiltIn, Put, Protect, RaiseException, Walk, Temporary, LinearBody, Configuration, instruction_in, Layout, size, sizes, put_back, keep, temporary_at, IsNear, call, return_at, clear_result, AllKeep, HaveRoom, service_of, FindsReturn, CallsBuiltIn, Setting, IsResumed, RepresentsAt, arguments_code}
+use Rattle.match_turns.specs.Words.{address_of, Memory, Rsp, Instr, opcode_register, State, register, BuiltIn, Put, Protect, RaiseException, Walk, AddVectored, RemoveVectored, Temporary, LinearBody, Configuration, instruction_in, Layout, size, sizes, put_back, keep, temporary_at, IsNear, call, return_at, clear_result, AllKeep, HaveRoom, service_of, FindsReturn, CallsBuiltIn, Setting, IsResumed, RepresentsAt, arguments_code}
 use Rattle.x64_templates.specs.Runs.{Reaches}
 use Rattle.linear_code.specs.declared.instruction.Instruction.TheVariants as instructions
+use Rattle.match_turns.proofs.BuiltInThunks.{IsDirect, direct_service, direct_found}
 use Rattle.match_turns.proofs.Lemmas.{sizes_append, call_size, others_of, StepsTo, reaches_steps, steps_split, keeps_split, AllPlain, arguments_plain, calls_keep, CalleeBegins, callee_begins, thunk_keeps, IsCounted, sp_low, room_here, has_slots}
 use Rattle.match_turns.proofs.ReturnAddressPlace.{top_of, begins_beneath}
 
@@ -27,6 +28,12 @@ module _ (setting : Setting) (roomy : HaveRoom setting.program) where
   service_found Walk m = image.callers_outside.services m (address_of (service_of Walk))
       (omega arith) (omega arith) (λ e. absurd (omega arith)) (λ e. absurd (omega arith))
       (λ e. absurd (omega arith))
+  service_found (AddVectored f) m = image.callers_outside.services m (address_of (service_of (AddVectored f)))
+      (omega arith) (omega arith) (λ e. absurd (omega arith)) (λ e. absurd (omega arith))
+      (λ e. absurd (omega arith))
+  service_found (RemoveVectored f) m = image.callers_outside.services m (address_of (service_of (RemoveVectored f)))
+      (omega arith) (omega arith) (λ e. absurd (omega arith)) (λ e. absurd (omega arith))
+      (λ e. absurd (omega arith))
 
   -- the program calls it
   abbrev pub calls_it : (s : State) (c : Configuration) (b : RepresentsAt setting s c)
@@ -41,7 +48,7 @@ module _ (setting : Setting) (roomy : HaveRoom setting.program) where
   }
 
   module _ (s : State) (c : Configuration) (b : RepresentsAt setting s c)
-      (counted : IsCounted setting c) (f : BuiltIn) (first : ℕ)
+      (counted : IsCounted setting c) (f : BuiltIn) (direct : IsDirect f) (first : ℕ)
       (at : slice_get b.body.slots.code.code c.frame.next ≡ Some (instructions.CallBuiltIn f first))
       (w : State) (run : Reaches 7 s w) (there : w.cpu.rip ≡ address_of (service_of f))
       (near : IsNear (return_at (p.layout c.frame.body) first
@@ -98,14 +105,14 @@ module _ (setting : Setting) (roomy : HaveRoom setting.program) where
 
     called : CalleeBegins setting c.frame.body b.body.slots.code b.body.slots.body c.frame.next
         (instructions.CallBuiltIn f first) at (λ h. h) before after next (q.thunk f) refl next_is
-        near c.frame.next resumed (λ m. image.callers_outside.thunks m f called_here) s halves.0
+        near c.frame.next resumed (λ m. direct_found setting f m direct called_here) s halves.0
         (top_of setting s c b counted) b.body.back b.body.others b.body.is b.rip
         (begins_beneath setting s c b counted) refl
         (let l = sp_low setting s c b counted in omega arith) b.memory.code plain halves.1 sp
     called =
         callee_begins setting c.frame.body b.body.slots.code b.body.slots.body c.frame.next
         (instructions.CallBuiltIn f first) at (λ h. h) before after next (q.thunk f) refl next_is
-        near c.frame.next resumed (λ m. image.callers_outside.thunks m f called_here) s halves.0
+        near c.frame.next resumed (λ m. direct_found setting f m direct called_here) s halves.0
         (top_of setting s c b counted) b.body.back b.body.others b.body.is b.rip
         (begins_beneath setting s c b counted) refl
         (let l = sp_low setting s c b counted in omega arith) b.memory.code plain halves.1 sp
@@ -116,11 +123,11 @@ module _ (setting : Setting) (roomy : HaveRoom setting.program) where
         keeps_split t fs 6 1 s halves.0 halves.1
         (calls_keep setting c.frame.body b.body.slots.code b.body.slots.body c.frame.next
         (instructions.CallBuiltIn f first) at (λ h. h) before after next (q.thunk f) refl next_is
-        near c.frame.next resumed (λ m. image.callers_outside.thunks m f called_here) s halves.0
+        near c.frame.next resumed (λ m. direct_found setting f m direct called_here) s halves.0
         (top_of setting s c b counted) b.body.back b.body.others b.body.is b.rip
         (begins_beneath setting s c b counted) refl
         (let l = sp_low setting s c b counted in omega arith) b.memory.code plain halves.1)
         (thunk_keeps setting halves.0 w (sp - 8) sp next (others_of s.cpu.registers) _
         called.beneath_it (q.thunk f) (address_of (service_of f)) called.rip
-        (called.program_there.thunks f called_here).thunk halves.2 there
-        (λ m. image.callers_outside.thunks m f called_here) (service_found f))
+        (direct_service setting f halves.0.memory direct (called.program_there.built_in f called_here)).thunk halves.2 there
+        (λ m. direct_found setting f m direct called_here) (service_found f))

@@ -2,9 +2,10 @@
 use Rattle.std.proofs.Common.{◌≡◌, ℕ, ◌+◌, ◌^◌, ◌<◌, ◌≤◌, [], ◌∷◌, Some, Ok, refl, sym, subst, arith}
 use Rattle.std.specs.Prelude.{slice_get}
 use Rattle.std.proofs.lemmas.Bool.{ne_eqb}
-use Rattle.match_turns.specs.Words.{opcode_register, IMAGE_BASE, IMAGE_RANGE_END, STACK_START, STACK_END, address_of, W64, loaded, Rsp, Flags, State, register, BuiltIn, Put, Protect, RaiseException, Walk, Temporary, BodyState, Configuration, Layout, size, sizes, keep, IsNear, call, return_at, begin_call, call_code, clear_result, template_size, MachineView, machine, pushed, HasCode, IsLive, Comes, HaveRoom, service_of, CallsBuiltIn, Setting, RepresentsAt, arguments_code}
+use Rattle.match_turns.specs.Words.{opcode_register, IMAGE_BASE, IMAGE_RANGE_END, STACK_START, STACK_END, address_of, W64, loaded, Rsp, Flags, State, register, BuiltIn, Put, Protect, RaiseException, Walk, AddVectored, RemoveVectored, Temporary, BodyState, Configuration, Layout, size, sizes, keep, IsNear, call, return_at, begin_call, call_code, clear_result, template_size, MachineView, machine, pushed, HasCode, IsLive, Comes, HaveRoom, service_of, CallsBuiltIn, Setting, RepresentsAt, arguments_code}
 use Rattle.x64_templates.specs.Runs.{Reaches}
 use Rattle.linear_code.specs.declared.instruction.Instruction.TheVariants as instructions
+use Rattle.match_turns.proofs.BuiltInThunks.{IsDirect, direct_service}
 use Rattle.match_turns.proofs.Lemmas.{sizes_append, call_size, call_code_size, code_split, reaches_silently, IsCounted, room_here, holds_here, sp_low, frame_top, frame, slots, v, sp_is, same_state, has_slots, template_here, next_address, label_near, end_near}
 use Rattle.match_turns.proofs.BuiltInCall.{ServiceReached, with_arguments_of, service_reached}
 use Rattle.match_turns.proofs.BuiltInShadow.{calls_it, built_in_keeps}
@@ -21,6 +22,8 @@ service_low Put = (omega arith, omega arith)
 service_low Protect = (omega arith, omega arith)
 service_low RaiseException = (omega arith, omega arith)
 service_low Walk = (omega arith, omega arith)
+service_low (AddVectored f) = (omega arith, omega arith)
+service_low (RemoveVectored f) = (omega arith, omega arith)
 
 built_in_size : (y : Layout) (f : BuiltIn) (first : ℕ)
     → template_size y (instructions.CallBuiltIn f first)
@@ -33,7 +36,7 @@ module _ (setting : Setting) (roomy : HaveRoom setting.program) where
   open setting use {functions as t, funclets as fs, program, plan as p, sites as q, image}
 
   module _ (s : State) (c : Configuration) (b : RepresentsAt setting s c)
-      (counted : IsCounted setting c) (f : BuiltIn) (first : ℕ)
+      (counted : IsCounted setting c) (f : BuiltIn) (direct : IsDirect f) (first : ℕ)
       (at : slice_get b.body.slots.code.code c.frame.next ≡ Some (instructions.CallBuiltIn f first))
     where
       abbrev called_here : CallsBuiltIn program f
@@ -92,7 +95,7 @@ module _ (setting : Setting) (roomy : HaveRoom setting.program) where
           let n = back_near in
           let l = n.0 in
           let h = n.1 in
-          let inside = (b.memory.code.thunks f called_here).inside in
+          let inside = (direct_service setting f s.memory direct (b.memory.code.built_in f called_here)).inside in
           let k = inside.low in
           let z = inside.high in
           (omega arith, omega arith, omega arith, omega arith)
@@ -107,7 +110,7 @@ module _ (setting : Setting) (roomy : HaveRoom setting.program) where
           (below view sp back (let l = low in omega arith) top b.memory.data_alone b.memory.stack)
           near
           (template_here setting roomy s c b counted (instructions.CallBuiltIn f first) at)
-          (b.memory.code.thunks f called_here).thunk
+          (direct_service setting f s.memory direct (b.memory.code.built_in f called_here)).thunk
 
       pub flags_there : Flags
       flags_there = reached.flags
@@ -123,7 +126,7 @@ module _ (setting : Setting) (roomy : HaveRoom setting.program) where
 
       pub comes_there : Comes t fs 7 s [] at_service
       comes_there = reaches_silently t fs program p q image 7 s at_service reaches
-          (built_in_keeps setting roomy s c b counted f first at at_service reaches refl
+          (built_in_keeps setting roomy s c b counted f direct first at at_service reaches refl
           (subst (λ r. IsNear (return_at layout first (r + 5)) (q.thunk f)) b.rip near))
           b.memory.code
           (host_silent setting s.memory service at_service.cpu b.memory.code (service_low f).1)

@@ -7,6 +7,7 @@ use Rattle.std.proofs.lemmas.Option.{slice_get_within}
 use Rattle.match_turns.specs.Words.{Event, Memory, Rsp, Instr, Context, kept_of, State, register, distance, arrivals, Continues, turn, BuiltIn, Temporary, BodyState, with_slot, LinearBody, Configuration, Next, act, sizes, keep, call, return_at, begin_call, clear_result, MachineView, machine, AreSmall, sp_of, with_sp, ReachesBody, locals_of, KeepsAbove, KeepsStack, WalkGives, KeepsShadow, AllKeep, Comes, Moves, HaveRoom, turns_left, counts_of, with_values, OwnerHasFrame, Setting, HasProgram, IsMachineMemory, RepresentsAt, arguments_code, InCode, OtherRegisters, now_of, RegistersHold, leaf_values}
 use Rattle.linear_code.specs.declared.instruction.Instruction.TheVariants as instructions
 use Rattle.linear_machine.specs.Frames as linear
+use Rattle.match_turns.proofs.BuiltInThunks.{IsDirect}
 use Rattle.match_turns.proofs.Lemmas.{sizes_append, call_size, call_ends, keep_flow, comes_then, silent_here, first_in_code, reaches_silently, program_reaches, locals_count, same_activations, IsCounted, some_is, room_here, holds_here, locals_here, Keeps, reaches_keeps, stays_well_formed, Ran, represents_next, others_of, caller_here, beyond_here, is_here, is_after, ends_at, ends_gives, IsPast, one_piece, past_ends, frame, slots, has_slots, silent_at, Surroundings, one_more, label_small, leaves_stored}
 use Rattle.match_bodies.proofs.BodyViews.{placed}
 use Rattle.match_turns.proofs.BuiltInRequest.{clear_size}
@@ -32,23 +33,23 @@ module _ (setting : Setting) (roomy : HaveRoom setting.program) where
 
   module _ (s : State) (c : Configuration) (b : RepresentsAt setting s c)
       (counted : IsCounted setting c)
-      (around : Surroundings setting roomy s c b counted) (f : BuiltIn) (first : ℕ)
+      (around : Surroundings setting roomy s c b counted) (f : BuiltIn) (direct : IsDirect f) (first : ℕ)
       (at : slice_get b.body.slots.code.code c.frame.next ≡ Some (instructions.CallBuiltIn f first))
       (framed : p.leaf c.frame.body ≡ false)
       (within : c.frame.next + 1 < length b.body.slots.code.code)
       (held : length c.frame.temporaries ≤ b.body.slots.code.temporaries)
       (fits : first ≤ length c.frame.temporaries) (free : c.frame.landed ≡ None) where
     abbrev called_from : ℕ
-    called_from = sp setting roomy s c b counted f first at
+    called_from = sp setting roomy s c b counted f direct first at
 
     abbrev pub with_given : MachineView
-    with_given = given setting roomy s c b counted f first at
+    with_given = given setting roomy s c b counted f direct first at
 
     abbrev pub to : ℕ
-    to = back setting roomy s c b counted f first at
+    to = back setting roomy s c b counted f direct first at
 
     abbrev pub there : State
-    there = at_service setting roomy s c b counted f first at
+    there = at_service setting roomy s c b counted f direct first at
 
     -- the memory with the return address
     abbrev pub memory_there : Memory
@@ -67,7 +68,7 @@ module _ (setting : Setting) (roomy : HaveRoom setting.program) where
     }
 
     abbrev pub returned_to : ℕ → Memory → State
-    returned_to x m = machine (view_after x m) to (flags_there setting roomy s c b counted f first
+    returned_to x m = machine (view_after x m) to (flags_there setting roomy s c b counted f direct first
         at)
 
     -- linear code with the result
@@ -79,21 +80,21 @@ module _ (setting : Setting) (roomy : HaveRoom setting.program) where
             ++ x ∷ [];
       };
       below = c.below;
-      store = record { memory = source; activations = c.store.activations };
+      store = record c.store { memory = source };
       events = events;
     }
 
     above : KeepsAbove s.memory memory_there.byte called_from
     above = keeps_above with_given called_from to
-        (let l = low setting roomy s c b counted f first at in omega arith)
-        (top setting roomy s c b counted f first at) b.memory.data_alone b.memory.stack
+        (let l = low setting roomy s c b counted f direct first at in omega arith)
+        (top setting roomy s c b counted f direct first at) b.memory.data_alone b.memory.stack
 
     sp_is : (x : ℕ) (m : Memory) → sp_of (view_after x m) ≡ called_from
     sp_is x m = sp_saved with_given called_from to
-        (let l = low setting roomy s c b counted f first at in omega arith)
-        (top setting roomy s c b counted f first at) b.memory.data_alone b.memory.stack
+        (let l = low setting roomy s c b counted f direct first at in omega arith)
+        (top setting roomy s c b counted f direct first at) b.memory.data_alone b.memory.stack
         there.cpu.rip there.cpu.flags
-        (back_small setting roomy s c b counted f first at)
+        (back_small setting roomy s c b counted f direct first at)
 
     module _ (x : ℕ) (x_small : x < 2 ^ 64) (m source : Memory) (events : List Event)
         (keeps : KeepsStack memory_there m called_from)
@@ -132,7 +133,7 @@ module _ (setting : Setting) (roomy : HaveRoom setting.program) where
 
       given_small : AreSmall s.cpu.registers → AreSmall u.cpu.registers
       given_small h =
-          let k = (reaches_keeps 7 s there (reaches setting roomy s c b counted f first at)).small h
+          let k = (reaches_keeps 7 s there (reaches setting roomy s c b counted f direct first at)).small h
           in
           small_set (set there.cpu.registers 0 x) 4 sp_after
           (small_set there.cpu.registers 0 x k x_small) (omega arith)
@@ -219,10 +220,10 @@ module _ (setting : Setting) (roomy : HaveRoom setting.program) where
       run =
           let r = room_slots in
           call_ends (frame setting roomy earlier calling begins counted) (Temporary first)
-          (view_after x m) to (flags_there setting roomy s c b counted f first at) now
+          (view_after x m) to (flags_there setting roomy s c b counted f direct first at) now
           (room_here setting earlier calling begins counted) (omega arith) tt x_small refl
           (holds_here setting earlier calling begins counted)
-          (code_after setting roomy earlier calling begins counted f first at_earlier)
+          (code_after setting roomy earlier calling begins counted f direct first at_earlier)
 
       abbrev pub after : State
       after = machine run.after rip run.flags
@@ -237,7 +238,7 @@ module _ (setting : Setting) (roomy : HaveRoom setting.program) where
             small = k.small;
             handlers = k.handlers
                 ∙ (reaches_keeps 7 s there
-                (reaches setting roomy s c b counted f first at)).handlers;
+                (reaches setting roomy s c b counted f direct first at)).handlers;
           }
 
       abbrev values : List ℕ
@@ -256,7 +257,7 @@ module _ (setting : Setting) (roomy : HaveRoom setting.program) where
       }
 
       rip_is : rip ≡ p.address c.frame.body (c.frame.next + 1)
-      rip_is = sym (next_is setting roomy s c b counted f first at)
+      rip_is = sym (next_is setting roomy s c b counted f direct first at)
 
       rip_small : rip < 2 ^ 64
       rip_small = let n = label_small setting roomy s c b counted around (c.frame.next + 1) within
@@ -279,7 +280,7 @@ module _ (setting : Setting) (roomy : HaveRoom setting.program) where
           subst (λ (xs : List (List ℕ)). let o : Configuration = record {
             frame = record c.frame { next = c.frame.next + 1; temporaries = ts };
             below = c.below;
-            store = record { memory = source; activations = xs };
+            store = record c.store { memory = source; activations = xs };
             events = events;
           } in RepresentsAt setting after o) same_locals
           (represents_next setting earlier calling begins counted after d values ts ran
@@ -339,7 +340,7 @@ module _ (setting : Setting) (roomy : HaveRoom setting.program) where
       -- and so does the service's own turn
       program_there : HasProgram setting memory_there
       program_there = program_reaches t fs program p q 7 s there
-          (reaches setting roomy s c b counted f first at) b.memory.code
+          (reaches setting roomy s c b counted f direct first at) b.memory.code
 
       keeps_there : KeepsStack s.memory memory_there called_from
       keeps_there = record {
@@ -370,21 +371,21 @@ module _ (setting : Setting) (roomy : HaveRoom setting.program) where
       sp_there : register there.cpu Rsp ≡ called_from - 8
       sp_there =
           returned_sp with_given called_from to
-          (let l = low setting roomy s c b counted f first at in omega arith)
-          (top setting roomy s c b counted f first at) b.memory.data_alone b.memory.stack
-          there.cpu.rip there.cpu.flags (back_small setting roomy s c b counted f first at)
+          (let l = low setting roomy s c b counted f direct first at in omega arith)
+          (top setting roomy s c b counted f direct first at) b.memory.data_alone b.memory.stack
+          there.cpu.rip there.cpu.flags (back_small setting roomy s c b counted f direct first at)
 
       pub keeps_served : KeepsShadow t fs there u
       keeps_served =
-          let l = low setting roomy s c b counted f first at in
-          let h = top setting roomy s c b counted f first at in
+          let l = low setting roomy s c b counted f direct first at in
+          let h = top setting roomy s c b counted f direct first at in
           let z = sp_there in
           let e : register u.cpu Rsp ≡ called_from = sp_is x m in
           let up : called_from ≡ register there.cpu Rsp + 0 + 8 = omega arith in
           let same = ap (λ (ks : List ℕ). let k : Context = record { rip = to; kept = ks } in k)
           (ap (λ r. r ∷ others_of s.cpu.registers) (e ∙ up)) in
           service_keeps setting f there u to caller callers refl
-          (returns setting roomy s c b counted f first at) (omega arith) same
+          (returns setting roomy s c b counted f direct first at) (omega arith) same
           (gives_by memory_there keeps_there program_there) (gives_by m keeps_all memory.code)
           (omega arith) (omega arith) silent_back
 
@@ -402,7 +403,7 @@ module _ (setting : Setting) (roomy : HaveRoom setting.program) where
       served shown turns all acts =
           let one : Comes t fs 1 there shown u =
           record {
-            live = live_there setting roomy s c b counted f first at;
+            live = live_there setting roomy s c b counted f direct first at;
             state = u;
             first = shown;
             others = [];
@@ -420,7 +421,7 @@ module _ (setting : Setting) (roomy : HaveRoom setting.program) where
             state = after;
             events = [] ++ (shown ++ []);
             comes = comes_then t fs 7 (1 + 1) s there after [] (shown ++ [])
-                (comes_there setting roomy s c b counted f first at)
+                (comes_there setting roomy s c b counted f direct first at)
                 (comes_then t fs 1 1 there u after shown [] one comes_after);
             acts = acts;
             shown = all ∙ ap (λ es. c.events ++ es) (sym (append-nil shown));

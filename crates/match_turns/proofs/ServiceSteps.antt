@@ -100,7 +100,7 @@ module _ (setting : Setting) (made : IsWellMade setting.program setting.plan) (s
     open setting use {functions as t, funclets as fs, program, plan as p}
 
     abbrev given : MachineView
-    given = asking.given setting made s c b known Walk first e
+    given = asking.given setting made s c b known Walk tt first e
 
     -- the state at the service, where the call's code begins at an address
     abbrev to : ℕ → ℕ
@@ -111,14 +111,14 @@ module _ (setting : Setting) (made : IsWellMade setting.program setting.plan) (s
         s.cpu.flags
 
     abbrev stack : List StackItem
-    stack = (asking.asks setting made s c b known Walk first e).is
+    stack = (asking.asks setting made s c b known Walk tt first e).is
 
     abbrev OnAt : ℕ → Type 0
     OnAt a = On t fs program p (there a).memory (context_of (back (there a) (to a)).cpu) stack
         (Waits (waiting c first).frame ∷ c.below) b.body.acts
 
     on_top : OnAt s.cpu.rip
-    on_top = subst OnAt (sym b.rip) (asking.asks setting made s c b known Walk first e).asks.on
+    on_top = subst OnAt (sym b.rip) (asking.asks setting made s c b known Walk tt first e).asks.on
 
 pub walks_are_matched : WalksAreMatched
 walks_are_matched t fs program p q image made s c first b known e =

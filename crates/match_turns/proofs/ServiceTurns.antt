@@ -8,6 +8,7 @@ use Rattle.match_turns.specs.Words.{W32, W64, Event, signed, address_of, service
 use Rattle.seh_num.specs.declared.event.Event.TheVariants as events
 use Rattle.host_layout.specs.declared.service.Service.TheVariants as services
 use Rattle.linear_code.specs.declared.instruction.Instruction.TheVariants as instructions
+use Rattle.match_turns.proofs.BuiltInThunks.{IsDirect}
 use Rattle.match_turns.proofs.Lemmas.{IsCounted, slots_here, Surroundings}
 use Rattle.match_turns.proofs.DispatchMemory.{memory_untouched}
 use Rattle.match_turns.proofs.ReturnAddressPush.{pushed_untouched, pushed_data}
@@ -69,7 +70,7 @@ module _ (setting : Setting) (roomy : HaveRoom setting.program) where
 
   module _ (s : State) (c : Configuration) (b : RepresentsAt setting s c)
       (counted : IsCounted setting c)
-      (around : Surroundings setting roomy s c b counted) (f : BuiltIn) (first : ℕ)
+      (around : Surroundings setting roomy s c b counted) (f : BuiltIn) (direct : IsDirect f) (first : ℕ)
       (at : slice_get b.body.slots.code.code c.frame.next ≡ Some (instructions.CallBuiltIn f first))
       (framed : p.leaf c.frame.body ≡ false)
       (within : c.frame.next + 1 < length b.body.slots.code.code)
@@ -77,7 +78,7 @@ module _ (setting : Setting) (roomy : HaveRoom setting.program) where
       (fits : first ≤ length c.frame.temporaries) (free : c.frame.landed ≡ None) where
     -- the number of an argument, for templates and for linear code
     argument : (k : ℕ) → first + k < length c.frame.temporaries
-        → (numbers setting roomy s c b counted f first at).slots (Temporary (first + k)) ≡ get_or
+        → (numbers setting roomy s c b counted f direct first at).slots (Temporary (first + k)) ≡ get_or
         (drop first c.frame.temporaries) k 0
     argument k lt = (slots_here setting s c b counted).temporaries (first + k)
         (get_or c.frame.temporaries (first + k) 0)
@@ -85,18 +86,18 @@ module _ (setting : Setting) (roomy : HaveRoom setting.program) where
         ∙ sym (given_in c.frame.temporaries first k)
 
     pub pushed_memory : IsMachineMemory setting
-        (memory_there setting roomy s c b counted around f first at framed within held fits free)
+        (memory_there setting roomy s c b counted around f direct first at framed within held fits free)
         c.store.memory
     pushed_memory =
-        let v = with_given setting roomy s c b counted around f first at framed
+        let v = with_given setting roomy s c b counted around f direct first at framed
         within held fits free in
-        let from = sp setting roomy s c b counted f first at in
-        let ret = to setting roomy s c b counted around f first at framed within held
+        let from = sp setting roomy s c b counted f direct first at in
+        let ret = to setting roomy s c b counted around f direct first at framed within held
         fits free in
-        let l = low setting roomy s c b counted f first at in
-        let h = top setting roomy s c b counted f first at in
+        let l = low setting roomy s c b counted f direct first at in
+        let h = top setting roomy s c b counted f direct first at in
         memory_untouched t fs program p q s.memory
-        (memory_there setting roomy s c b counted around f first at framed within held fits free)
+        (memory_there setting roomy s c b counted around f direct first at framed within held fits free)
         c.store.memory
         (pushed_untouched v from ret (omega arith) h b.memory.data_alone b.memory.stack) b.memory
         (pushed_data v from ret (omega arith) h b.memory.data_alone b.memory.stack)
@@ -122,7 +123,7 @@ module _ (setting : Setting) (roomy : HaveRoom setting.program) where
     fits = omega arith
 
     abbrev here : State
-    here = there setting roomy s c b counted around Put first at framed within held fits free
+    here = there setting roomy s c b counted around Put tt first at framed within held fits free
 
     abbrev value : ℕ
     value = register here.cpu Rcx
@@ -133,41 +134,41 @@ module _ (setting : Setting) (roomy : HaveRoom setting.program) where
     value_is : value ≡ get_or (drop first c.frame.temporaries) 0 0
     value_is =
         let z : first + 0 ≡ first = omega arith in
-        ap (λ i. (numbers setting roomy s c b counted Put first at).slots (Temporary i)) (sym z)
-        ∙ argument s c b counted around Put first at framed within held fits free 0 (omega arith)
+        ap (λ i. (numbers setting roomy s c b counted Put tt first at).slots (Temporary i)) (sym z)
+        ∙ argument s c b counted around Put tt first at framed within held fits free 0 (omega arith)
 
     abbrev after_put : Configuration
-    after_put = answered setting roomy s c b counted around Put first at framed within held fits
+    after_put = answered setting roomy s c b counted around Put tt first at framed within held fits
         free 0 c.store.memory (c.events ++ shown)
 
     puts : (next : Next) → act program (instructions.CallBuiltIn Put first) next c ≡ next after_put
     puts next =
         calls_as program c Put first count next
-        ∙ ap (λ x. next (answered setting roomy s c b counted around Put first at framed within held
+        ∙ ap (λ x. next (answered setting roomy s c b counted around Put tt first at framed within held
         fits free 0 c.store.memory (c.events ++ events.Put (signed W64 x) ∷ []))) (sym value_is)
 
-    turns : turn t fs here ≡ Continues (returned_to setting roomy s c b counted around Put first at
+    turns : turn t fs here ≡ Continues (returned_to setting roomy s c b counted around Put tt first at
         framed within held fits free 0 here.memory) shown
     turns =
-        let u = returned_to setting roomy s c b counted around Put first at framed
+        let u = returned_to setting roomy s c b counted around Put tt first at framed
         within held fits free 0 here.memory in
-        let silent = silent_back setting roomy s c b counted around Put first at framed
+        let silent = silent_back setting roomy s c b counted around Put tt first at framed
         within held fits free 0 (omega arith) here.memory c.store.memory (c.events ++ shown)
-        (same_stack s c b counted around Put first at framed within held fits free here.memory
-        (sp setting roomy s c b counted Put first at))
-        (pushed_memory s c b counted around Put first at framed within held fits free) in
-        put_turns t fs here (to setting roomy s c b counted around Put first at framed within held
-        fits free) refl (returns setting roomy s c b counted Put first at)
+        (same_stack s c b counted around Put tt first at framed within held fits free here.memory
+        (sp setting roomy s c b counted Put tt first at))
+        (pushed_memory s c b counted around Put tt first at framed within held fits free) in
+        put_turns t fs here (to setting roomy s c b counted around Put tt first at framed within held
+        fits free) refl (returns setting roomy s c b counted Put tt first at)
         ∙ ap (λ es. Continues u (shown ++ es)) silent
 
     pub put_step : Moves t fs program 16 turns_left (RepresentsAt setting) s c
         (instructions.CallBuiltIn Put first)
     put_step =
-        served setting roomy s c b counted around Put first at framed within held fits free 0
+        served setting roomy s c b counted around Put tt first at framed within held fits free 0
         (omega arith) here.memory c.store.memory (c.events ++ shown)
-        (same_stack s c b counted around Put first at framed within held fits free here.memory
-        (sp setting roomy s c b counted Put first at))
-        (pushed_memory s c b counted around Put first at framed within held fits free)
+        (same_stack s c b counted around Put tt first at framed within held fits free here.memory
+        (sp setting roomy s c b counted Put tt first at))
+        (pushed_memory s c b counted around Put tt first at framed within held fits free)
         shown turns refl puts
 
   -- `protect`
@@ -183,7 +184,7 @@ module _ (setting : Setting) (roomy : HaveRoom setting.program) where
     enough = omega arith
 
     abbrev at_protect : State
-    at_protect = there setting roomy s c b counted around Protect first at framed within held enough
+    at_protect = there setting roomy s c b counted around Protect tt first at framed within held enough
         free
 
     abbrev page : ℕ
@@ -204,57 +205,57 @@ module _ (setting : Setting) (roomy : HaveRoom setting.program) where
     page_is : page ≡ get_or (drop first c.frame.temporaries) 0 0
     page_is =
         let z : first + 0 ≡ first = omega arith in
-        ap (λ i. (numbers setting roomy s c b counted Protect first at).slots (Temporary i)) (sym z)
-        ∙ argument s c b counted around Protect first at framed within held enough free 0
+        ap (λ i. (numbers setting roomy s c b counted Protect tt first at).slots (Temporary i)) (sym z)
+        ∙ argument s c b counted around Protect tt first at framed within held enough free 0
         (omega arith)
 
     number_is : register at_protect.cpu Rdx ≡ get_or (drop first c.frame.temporaries) 1 0
-    number_is = argument s c b counted around Protect first at framed within held enough free 1
+    number_is = argument s c b counted around Protect tt first at framed within held enough free 1
         (omega arith)
 
     abbrev after_protect : Configuration
-    after_protect = answered setting roomy s c b counted around Protect first at framed within held
+    after_protect = answered setting roomy s c b counted around Protect tt first at framed within held
         enough free result new_source c.events
 
     protects : (next : Next) → act program (instructions.CallBuiltIn Protect first) next c
         ≡ next after_protect
     protects next =
-        let arrive = λ (a n : ℕ). next (answered setting roomy s c b counted around Protect first at
+        let arrive = λ (a n : ℕ). next (answered setting roomy s c b counted around Protect tt first at
         framed within held enough free (of_test (is_some (rights_asked a (signed W32 n))))
         (protected c.store.memory a (signed W32 n)) c.events) in
         calls_as program c Protect first count next
         ∙ ap (λ a. arrive a (get_or (drop first c.frame.temporaries) 1 0)) (sym page_is)
         ∙ ap (arrive page) (sym number_is)
-        ∙ ap (λ x. next (answered setting roomy s c b counted around Protect first at framed within
+        ∙ ap (λ x. next (answered setting roomy s c b counted around Protect tt first at framed within
         held enough free x new_source c.events))
         (sym (numbered (is_some (rights_asked page rights))))
 
     kept_stack : KeepsStack at_protect.memory new_memory
-        (sp setting roomy s c b counted Protect first at)
+        (sp setting roomy s c b counted Protect tt first at)
     kept_stack = arena_stack setting at_protect.memory c.store.memory page rights
-        (pushed_memory s c b counted around Protect first at framed within held enough free)
-        (sp setting roomy s c b counted Protect first at)
+        (pushed_memory s c b counted around Protect tt first at framed within held enough free)
+        (sp setting roomy s c b counted Protect tt first at)
 
     kept_memory : IsMachineMemory setting new_memory new_source
     kept_memory = arena_memory setting at_protect.memory c.store.memory page rights
-        (pushed_memory s c b counted around Protect first at framed within held enough free)
+        (pushed_memory s c b counted around Protect tt first at framed within held enough free)
 
     protect_turn : turn t fs at_protect ≡ Continues
-        (returned_to setting roomy s c b counted around Protect first at framed within held enough
+        (returned_to setting roomy s c b counted around Protect tt first at framed within held enough
         free result new_memory) []
     protect_turn =
-        let u = returned_to setting roomy s c b counted around Protect first at
+        let u = returned_to setting roomy s c b counted around Protect tt first at
         framed within held enough free result new_memory in
-        let silent = silent_back setting roomy s c b counted around Protect first at
+        let silent = silent_back setting roomy s c b counted around Protect tt first at
         framed within held enough free result (omega arith) new_memory new_source c.events
         kept_stack kept_memory in
-        protect_turns t fs at_protect (to setting roomy s c b counted around Protect first at framed
-        within held enough free) refl (returns setting roomy s c b counted Protect first at)
+        protect_turns t fs at_protect (to setting roomy s c b counted around Protect tt first at framed
+        within held enough free) refl (returns setting roomy s c b counted Protect tt first at)
         ∙ ap (λ es. Continues u es) silent
 
     pub protect_step : Moves t fs program 16 turns_left (RepresentsAt setting) s c
         (instructions.CallBuiltIn Protect first)
     protect_step =
-        served setting roomy s c b counted around Protect first at framed within held enough free
+        served setting roomy s c b counted around Protect tt first at framed within held enough free
         result (omega arith) new_memory new_source c.events kept_stack kept_memory [] protect_turn
         (sym (append-nil c.events)) protects

@@ -45,11 +45,11 @@ module _ (setting : Setting) (roomy : HaveRoom setting.program) where
     fits = omega arith
 
     abbrev pub here : State
-    here = there setting roomy s c b counted around Walk first at framed within held fits free
+    here = there setting roomy s c b counted around Walk tt first at framed within held fits free
 
     -- where the service returns to
     abbrev pub after : State
-    after = returned_to setting roomy s c b counted around Walk first at framed within held fits
+    after = returned_to setting roomy s c b counted around Walk tt first at framed within held fits
         free 0 here.memory
 
     abbrev items : List Item
@@ -59,7 +59,7 @@ module _ (setting : Setting) (roomy : HaveRoom setting.program) where
     shown = walk_events (functions_in items)
 
     abbrev after_walk : Configuration
-    after_walk = answered setting roomy s c b counted around Walk first at framed within held fits
+    after_walk = answered setting roomy s c b counted around Walk tt first at framed within held fits
         free 0 c.store.memory (c.events ++ shown)
 
     walks : (next : Next) → act program (instructions.CallBuiltIn Walk first) next c
@@ -87,14 +87,14 @@ module _ (setting : Setting) (roomy : HaveRoom setting.program) where
 
       turns : turn t fs here ≡ Continues after shown
       turns =
-          let silent = silent_back setting roomy s c b counted around Walk first at framed within
+          let silent = silent_back setting roomy s c b counted around Walk tt first at framed within
           held fits free 0 (omega arith) here.memory c.store.memory (c.events ++ shown)
-          (same_stack setting roomy s c b counted around Walk first at framed within held fits free
-          here.memory (sp setting roomy s c b counted Walk first at))
-          (pushed_memory setting roomy s c b counted around Walk first at framed within held fits
+          (same_stack setting roomy s c b counted around Walk tt first at framed within held fits free
+          here.memory (sp setting roomy s c b counted Walk tt first at))
+          (pushed_memory setting roomy s c b counted around Walk tt first at framed within held fits
           free) in
-          walk_turns t fs here (to setting roomy s c b counted around Walk first at framed within
-          held fits free) refl (returns setting roomy s c b counted Walk first at)
+          walk_turns t fs here (to setting roomy s c b counted around Walk tt first at framed within
+          held fits free) refl (returns setting roomy s c b counted Walk tt first at)
           ∙ ap (λ x. arrived t fs (walked after x)) printed_there
           ∙ ap (λ es. Continues after (shown ++ es)) silent
           ∙ ap (Continues after) (append-nil shown)
@@ -102,10 +102,10 @@ module _ (setting : Setting) (roomy : HaveRoom setting.program) where
       pub walk_step : Moves t fs program 16 turns_left (RepresentsAt setting) s c
           (instructions.CallBuiltIn Walk first)
       walk_step =
-          served setting roomy s c b counted around Walk first at framed within held fits free 0
+          served setting roomy s c b counted around Walk tt first at framed within held fits free 0
           (omega arith) here.memory c.store.memory (c.events ++ shown)
-          (same_stack setting roomy s c b counted around Walk first at framed within held fits free
-          here.memory (sp setting roomy s c b counted Walk first at))
-          (pushed_memory setting roomy s c b counted around Walk first at framed within held fits
+          (same_stack setting roomy s c b counted around Walk tt first at framed within held fits free
+          here.memory (sp setting roomy s c b counted Walk tt first at))
+          (pushed_memory setting roomy s c b counted around Walk tt first at framed within held fits
           free)
           shown turns refl walks

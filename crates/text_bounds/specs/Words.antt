@@ -19,7 +19,7 @@ pub use Rattle.c_checked.specs.Sound.{IsSound, funclets}
 pub use Rattle.c_checked.specs.declared.expression.Conversion.{Conversion}
 pub use Rattle.c_checked.specs.declared.expression.Conversion.TheVariants.{Kept, Extend, Scale}
 pub use Rattle.c_checked.specs.declared.expression.Fixity.{Fixity}
-pub use Rattle.c_resolved.specs.Expressions.{Entity, LocalVariable, LocalArray, GlobalVariable, GlobalArray, UserFunction, BuiltInFunction, CodeFunction, AbnormalFunction, BuiltInConstant, Names, FaultAt, ResolvedExpression, ruled, rule_1, rule_2, rule_3, given_that, literal, name, field, Wanted, built_in_wants, fits, passed, Argument, Passed, before, spoiled, pass, pass_all, called, call_with, only_where, call, changed, resolve_expression, resolve_arguments, OfType, ZeroLiteral, good}
+pub use Rattle.c_resolved.specs.Expressions.{Entity, LocalVariable, LocalArray, GlobalVariable, GlobalArray, UserFunction, BuiltInFunction, CodeFunction, AbnormalFunction, AddingFunction, RemovingFunction, BuiltInConstant, Names, FaultAt, ResolvedExpression, ruled, rule_1, rule_2, rule_3, given_that, literal, name, field, Wanted, built_in_wants, fits, passed, Argument, Passed, before, spoiled, pass, pass_all, called, call_with, handler_after, call_naming, call_with_handler, unsigned, only_where, call, changed, resolve_expression, resolve_arguments, OfType, ZeroLiteral, good}
 pub use Rattle.c_resolved.specs.Operators.{TypedNode, compound_assigned, assigned, comma_of, int, only_if, as_is, as_type, can_become, is_additive, right_operand, on_integers, sum, difference, arithmetic_of, comparison_of, binary_of, lvalue_of, with_lvalue, address, unary_of, cast_of, element_of, incremented, branch_type, as_branch, chosen, conditional_of, is_shift, working_type, typed, as_index, operation_in, long_operation, moved, compared, void_pointer, increment_operator}
 pub use Rattle.c_resolved.specs.Program.{resolve, file_of, empty_file, with_parameters, around, parameter_variable, function_of, functions_of}
 pub use Rattle.c_resolved.specs.Layout.{Layout, layout_of, base_local}

@@ -78,3 +78,11 @@ returns-in-Search c =
     c.args.self.now c.search.new.self _ _ c.search.result
     c.silently-in-Search.result c.in-Search.is c.silently-in-Search.ensures
     c.search.ensures
+
+pub returns-in-OfVectored : goal.returns-in-OfVectored
+returns-in-OfVectored c =
+    let program = whole.program c.args._program.now in
+    unshown (λ n m. model.done program m (views.action_of n))
+    c.args.self.now c.act_vectored.new.self _ _ c.act_vectored.result
+    c.silently-in-OfVectored.result c.in-OfVectored.is c.silently-in-OfVectored.ensures
+    (c.act_vectored.ensures program)

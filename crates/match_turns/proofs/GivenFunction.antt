@@ -1,11 +1,13 @@
 -- A function with at most four parameters is entered from its first byte: once its frame is made,
 -- the parameters go to their locals.
 use Rattle.std.proofs.Common.{◌≡◌, ℕ, ◌+◌, ◌*◌, ◌^◌, ◌<◌, ◌≤◌, true, Some, List, length, ap, subst, ◌∙◌, arith, inl, inr, refl}
+use Rattle.match_bodies.specs.ProgramImages.{IsMachineMemory}
 use Rattle.std.specs.Prelude.{◌⊎◌, slice_get}
-use Rattle.image_runs.specs.Words.{STACK_START, STACK_END, Memory, may_write, Protection, Rsp, State, register, Functions, Funclet, Local, LinearProgram, depth_weight, DEEPEST, LinearBody, LinearFunction, FunctionBody, body_of, function_body, Layout, sizes, spelled, parameters_code, stack_parameter, MachineView, InRegisters, with_arguments, OnStack, IsFunctionFrame, body_in_memory, HasCode, Enters, ReachesBody, ImagePlan, Sites, arguments_code, IsMachineMemory, IsProgramImage, OtherRegisters, seen_by_templates, counts_of, FRAME_BY_WEIGHT, MOST_WEIGHT, weight, is_hidden, machine}
+use Rattle.match_turns.specs.Words.{STACK_START, STACK_END, Memory, may_write, Protection, Rsp, State, register, Functions, Funclet, Local, LinearProgram, depth_weight, LinearBody, LinearFunction, FunctionBody, body_of, function_body, Layout, sizes, spelled, parameters_code, stack_parameter, MachineView, InRegisters, with_arguments, OnStack, IsFunctionFrame, body_in_memory, HasCode, Enters, ReachesBody, ImagePlan, Sites, IsProgramImage, OtherRegisters, seen_by_templates, counts_of, FRAME_BY_WEIGHT, MOST_WEIGHT, weight, is_hidden, machine}
+use Rattle.source_meaning.specs.declared.depth.TheConstants.{DEEPEST}
 use Rattle.flat_memory.specs.Protections.{is_writable}
 use Rattle.x64_templates.specs.CallStates.{sp_of}
-use Rattle.match_bodies.specs.CodeSites.{body_plan, making_size}
+use Rattle.match_bodies.specs.CodeSites.{arguments_code, body_plan, making_size}
 use Rattle.seh_records.specs.Laws.{AllSmall}
 use Rattle.x64_templates.specs.Frames.{InTemporaries, InLocals, IsBytes, Agrees}
 use Rattle.x64_instr.specs.declared.register.Reg.{Reg}
@@ -17,7 +19,10 @@ use Rattle.match_bodies.specs.BodyViews.{arrived_in}
 use Rattle.match_bodies.proofs.BodyViews.{locals_small}
 use Rattle.x64_templates.proofs.PrologueParts.{registers_are}
 use Rattle.match_bodies.proofs.ChainKeeping.{all_are, are_all}
-use Rattle.image_runs.proofs.Lemmas.{bytes_kept, enters_then, making_steps, stack_is_hidden, Keeps, enters_keeps, own_frame, IsOwn, roomy_own, fresh_own, parameters_soon, number_unarrived, argument_is, Made}
+use Rattle.match_turns.proofs.Lemmas.{bytes_kept, enters_then, making_steps, stack_is_hidden, Keeps, enters_keeps}
+use Rattle.match_turns.proofs.FunctionParameters.{own_frame, IsOwn, roomy_own, fresh_own, parameters_soon, number_unarrived}
+use Rattle.match_turns.proofs.FunctionLocals.{argument_is}
+use Rattle.match_turns.proofs.FunctionPrologue.{Made}
 use Rattle.x64_templates.proofs.Ranges.{within_agrees}
 use Rattle.x64_templates.proofs.Entering.{fresh_holds, parameters_run}
 
@@ -29,9 +34,8 @@ pub record IsCalled (t : Functions) (fs : List Funclet) (program : LinearProgram
   pub function : slice_get program.functions f ≡ Some fn
   pub rip : s.cpu.rip ≡ q.function f
   pub stack : register s.cpu Rsp ≡ top
-  pub light : weight fn ≤ MOST_WEIGHT
   pub shallow : depth_weight fn ≤ DEEPEST
-  pub low : STACK_START + FRAME_BY_WEIGHT * MOST_WEIGHT + 8192 ≤ top
+  pub low : STACK_START + FRAME_BY_WEIGHT * weight fn + 8192 ≤ top
   pub high : top + 40 ≤ STACK_END
   pub count : length s.cpu.registers ≡ 16
   pub numbers : AllSmall s.cpu.registers
@@ -70,9 +74,10 @@ module _ (t : Functions) (fs : List Funclet) (program : LinearProgram) (p : Imag
   pub view_stack : sp_of view ≡ top
   view_stack = h.stack
 
-  -- what is outside of the function's slots: all but the stack, and the return address
+  -- what is outside of the function's slots: all but the stack, and the return address and what is
+  -- above it
   abbrev pub Outside : ℕ → Type 0
-  Outside a = (a < STACK_START) ⊎ ((STACK_END ≤ a) ⊎ ((top ≤ a) × (a < top + 8)))
+  Outside a = (a < STACK_START) ⊎ ((STACK_END ≤ a) ⊎ (top ≤ a))
 
   pub record InFunction : Type 0 where
     pub sp : ℕ
@@ -81,7 +86,7 @@ module _ (t : Functions) (fs : List Funclet) (program : LinearProgram) (p : Imag
     pub turns : ℕ
     pub exact : turns ≡ making_steps (p.leaf (FunctionBody f)) (body_plan p q (FunctionBody f))
         + length (arguments_code program p (FunctionBody f))
-    pub soon : turns ≤ 29 + 8 * fn.surplus
+    pub soon : turns ≤ 21 + fn.parameters + 8 * fn.surplus
     pub comes : Enters target (target + making_size p q (FunctionBody f)) turns first state
     pub rip : state.cpu.rip ≡ p.address (FunctionBody f) 0
     pub stack : register state.cpu Rsp ≡ sp
@@ -205,6 +210,6 @@ module _ (t : Functions) (fs : List Funclet) (program : LinearProgram) (p : Imag
                 | inl x ↦ inl (omega arith)
                 | inr (inl x) ↦ inr (omega arith)
                 | inr
-                    (inr x) ↦ (let g = x.0 in inr (omega arith))
+                    (inr x) ↦ (let g = x in inr (omega arith))
               ]);
         }

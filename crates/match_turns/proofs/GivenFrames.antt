@@ -1,7 +1,7 @@
 -- The function is entered, whatever its frame is.
 use Rattle.std.proofs.Common.{◌≡◌, ℕ, ◌+◌, ◌-◌, ◌*◌, ◌<◌, ◌≤◌, Bool, true, false, Some, List, [], length, refl, sym, ap, subst, ◌∙◌, arith, inl, inr}
 use Rattle.std.specs.Prelude.{slice_get, slice_index}
-use Rattle.image_runs.specs.Words.{weight, weight_of, Memory, State, Functions, Funclet, LinearProgram, LinearBody, LinearFunction, FunctionBody, body_of, Layout, sizes, parameters_code, MachineView, ImagePlan, Sites, IsLayoutIf, IsFunctionLayout, IsLeafLayout, IsProgramImage, seen_by_templates, Enters}
+use Rattle.match_turns.specs.Words.{weight, weight_of, Memory, State, Functions, Funclet, LinearProgram, LinearBody, LinearFunction, FunctionBody, body_of, Layout, sizes, parameters_code, MachineView, ImagePlan, Sites, IsLayoutIf, IsFunctionLayout, IsLeafLayout, IsProgramImage, seen_by_templates, Enters}
 use Rattle.match_bodies.specs.CodeSites.{body_plan, making_size}
 use Rattle.match_bodies.specs.BodyViews.{arrived_in}
 use Rattle.x64_templates.specs.Frames.{number_placed}
@@ -16,10 +16,12 @@ use Rattle.match_bodies.proofs.BodyViews.{is_machine}
 use Rattle.match_bodies.proofs.FrameCode.{few_turns, plan_depth}
 use Rattle.match_bodies.proofs.PlannedPrologues.{body_planned, body_probed}
 use Rattle.match_bodies.proofs.PrologueSteps.{small_at}
-use Rattle.image_runs.proofs.Lemmas.{may_read_written, parameters_stay, arguments_arrive, Made, planned_frame}
+use Rattle.match_turns.proofs.Lemmas.{may_read_written}
+use Rattle.match_turns.proofs.FunctionParameters.{parameters_stay, arguments_arrive}
+use Rattle.match_turns.proofs.FunctionPrologue.{Made, planned_frame}
 use Rattle.match_turns.proofs.FunctionEntryCode.{making_frame, HasEntry, has_entry}
-use Rattle.image_runs.proofs.FunctionEntry as entering
-use Rattle.image_runs.proofs.FunctionEntry.{IsCalled}
+use Rattle.match_turns.proofs.GivenFunction as entering
+use Rattle.match_turns.proofs.GivenFunction.{IsCalled}
 
 module _ (t : Functions) (fs : List Funclet) (program : LinearProgram) (p : ImagePlan) (q : Sites)
     (image : IsProgramImage t fs program p q) (s : State) (source : Memory) (f : ℕ)
@@ -109,6 +111,7 @@ module _ (t : Functions) (fs : List Funclet) (program : LinearProgram) (p : Imag
     begins : IsEntry frame (entering.first t fs program p q image s source f fn top arguments h)
     begins =
         let x = h.low in
+        let weight_is = weighs_so in
         let z = h.high in
         let k = l.small in
         let light = l.light in
@@ -149,6 +152,7 @@ module _ (t : Functions) (fs : List Funclet) (program : LinearProgram) (p : Imag
     framed_entered : Goal
     framed_entered =
         let x = h.low in
+        let weight_is = weighs_so in
         let z = h.high in
         let a = l.temporaries in
         let m = l.locals in
@@ -179,15 +183,13 @@ module _ (t : Functions) (fs : List Funclet) (program : LinearProgram) (p : Imag
               elim out [
                 | inl o1 ↦ absurd (omega arith)
                 | inr (inl o1) ↦ absurd (omega arith)
-                | inr
-                    (inr o1) ↦ (let o2 = o1.0 in let o3 = o1.1 in absurd (omega arith))
+                | inr (inr o1) ↦ absurd (omega arith)
               ])
           | inr w ↦ (let g = w.0 in let u = w.1 in
               elim out [
                 | inl o1 ↦ absurd (omega arith)
                 | inr (inl o1) ↦ absurd (omega arith)
-                | inr
-                    (inr o1) ↦ (let o2 = o1.0 in let o3 = o1.1 in absurd (omega arith))
+                | inr (inr o1) ↦ absurd (omega arith)
               ])
         ])
         (entry false leaf).turns (ap (λ x. target + sizes (making_frame p q f x)) (sym leaf))
