@@ -2,12 +2,53 @@
  *
  * RaiseException, __C_specific_handler and _local_unwind are Windows' own, forwarded by sehhost.def.
  * put and protect are the two services that Windows lacks, and the arena is memory that protect
- * opens page by page. */
+ * opens page by page. The two services of vectored handlers are Windows' own but for their answers.
+ * The data stack is memory that images read and write, with their pointer in its first bytes. */
 #include <windows.h>
 
 #define ARENA ((char *)0x20000000)
 #define ARENA_SIZE 0x100000
 #define PAGE_SIZE 0x1000
+#define DATA_STACK ((char *)0x30000000)
+#define DATA_STACK_SIZE 0x400000
+#define FIRST_PART (DATA_STACK + 16)
+#define MOST_HANDLERS 16
+
+/* The vectored handlers that are there: the name thunk of each, and Windows' handle of it. */
+static struct {
+  PVECTORED_EXCEPTION_HANDLER thunk;
+  PVOID handle;
+} handlers[MOST_HANDLERS];
+static int handler_count;
+
+/* The index of a handler, or the number of handlers where it is none of them. */
+static int index_of(PVECTORED_EXCEPTION_HANDLER thunk) {
+  int index = 0;
+  while (index < handler_count && handlers[index].thunk != thunk) index++;
+  return index;
+}
+
+/* Makes a name thunk a vectored handler, in front of the others where first isn't 0, else behind
+ * them. Answers 1; answers 0 and changes nothing where it is one already or 16 are there. */
+int add_vectored_handler(unsigned first, PVECTORED_EXCEPTION_HANDLER thunk) {
+  PVOID handle;
+  if (index_of(thunk) < handler_count || handler_count == MOST_HANDLERS) return 0;
+  handle = AddVectoredExceptionHandler(first, thunk);
+  if (handle == NULL) return 0;
+  handlers[handler_count].thunk = thunk;
+  handlers[handler_count].handle = handle;
+  handler_count++;
+  return 1;
+}
+
+/* Makes a name thunk a vectored handler no more. Answers 1, or 0 where it was none. */
+int remove_vectored_handler(PVECTORED_EXCEPTION_HANDLER thunk) {
+  int index = index_of(thunk);
+  if (index == handler_count) return 0;
+  RemoveVectoredExceptionHandler(handlers[index].handle);
+  handlers[index] = handlers[--handler_count];
+  return 1;
+}
 
 /* Writes a number in decimal digits and a line feed to standard output. */
 __declspec(dllexport) void put(long long number) {
@@ -36,10 +77,19 @@ __declspec(dllexport) int protect(void *address, int mode) {
   return VirtualProtect(at, PAGE_SIZE, rights[mode], &old) != 0;
 }
 
-/* Takes the memory of the arena, with no rights. An image whose arena can't be had isn't started. */
+/* Takes memory of a size at an address, with these rights: whether it could be had there. */
+static BOOL take(char *address, SIZE_T size, DWORD rights) {
+  return VirtualAlloc(address, size, MEM_RESERVE | MEM_COMMIT, rights) == address;
+}
+
+/* Takes the memory of the arena, with no rights, and that of the data stack, whose pointer is where
+ * the first part begins. An image whose memory can't be had isn't started. */
 BOOL WINAPI DllMain(HINSTANCE self, DWORD reason, LPVOID reserved) {
   (void)self;
   (void)reserved;
   if (reason != DLL_PROCESS_ATTACH) return TRUE;
-  return VirtualAlloc(ARENA, ARENA_SIZE, MEM_RESERVE | MEM_COMMIT, PAGE_NOACCESS) == ARENA;
+  if (!take(ARENA, ARENA_SIZE, PAGE_NOACCESS)) return FALSE;
+  if (!take(DATA_STACK, DATA_STACK_SIZE, PAGE_READWRITE)) return FALSE;
+  *(char **)DATA_STACK = FIRST_PART;
+  return TRUE;
 }
