@@ -19,7 +19,7 @@ use Rattle.c_operations.specs.declared.operation.Size.TheVariants.{Int, Long}
 use Rattle.c_checked.specs.declared.expression.Conversion.{Conversion}
 use Rattle.c_checked.specs.declared.expression.Conversion.TheVariants.{Kept, Extend, Scale}
 use Rattle.c_operations.specs.declared.built_in.BuiltIn.{BuiltIn}
-use Rattle.c_operations.specs.declared.built_in.BuiltIn.TheVariants.{Put, Protect, RaiseException, Walk}
+use Rattle.c_operations.specs.declared.built_in.BuiltIn.TheVariants.{Put, Protect, RaiseException, Walk, AddVectored, RemoveVectored}
 use Rattle.c_checked.specs.Expression as nodes
 use Rattle.c_checked.specs.Expression.{Expression, On, Node, Lvalue, Local, Global, Stacked}
 use Rattle.c_checked.specs.Expression.{Indirection}
@@ -123,12 +123,16 @@ built_in_takes Put = Long ∷ []
 built_in_takes Protect = Long ∷ Int ∷ []
 built_in_takes RaiseException = Int ∷ Int ∷ Int ∷ Int ∷ []
 built_in_takes Walk = []
+built_in_takes (AddVectored f) = Int ∷ []
+built_in_takes (RemoveVectored f) = []
 
 abbrev pub built_in_gives : BuiltIn → Option Size
 built_in_gives Put = None
 built_in_gives Protect = Some Int
 built_in_gives RaiseException = None
 built_in_gives Walk = None
+built_in_gives (AddVectored f) = Some Int
+built_in_gives (RemoveVectored f) = Some Int
 
 -- a parameter of an exception is an `unsigned long long`, and the other fields are `unsigned`
 abbrev pub information_size : Field → Size
@@ -150,6 +154,23 @@ call_fits (Some f) sizes = are_sizes f.parameters sizes
 abbrev pub result_size : Option Function → Option Size
 result_size None = None
 result_size (Some f) = f.returns
+
+-- ---- vectored handlers
+
+abbrev pub is_pair_of_ints : List Size → Bool
+is_pair_of_ints (Int ∷ Int ∷ []) = true
+is_pair_of_ints zs = false
+
+-- a function that can be a vectored handler: it takes a code and flags, and gives an answer
+abbrev pub can_handle : Option Function → Bool
+can_handle None = false
+can_handle (Some f) = is_pair_of_ints f.parameters && is_size Int f.returns
+
+-- the vectored handler that a call names is one
+abbrev pub handler_fits : List Function → BuiltIn → Bool
+handler_fits fs (AddVectored f) = can_handle (slice_get fs f)
+handler_fits fs (RemoveVectored f) = can_handle (slice_get fs f)
+handler_fits fs k = true
 
 -- ---- expressions: their sizes
 
@@ -259,7 +280,8 @@ abbrev mutual
   node_sound s (nodes.Call f es) =
       arguments_sound s es && call_fits (slice_get s.functions f) (argument_sizes s es)
   node_sound s (nodes.CallBuiltIn k es) =
-      arguments_sound s es && are_sizes (built_in_takes k) (argument_sizes s es)
+      arguments_sound s es && are_sizes (built_in_takes k) (argument_sizes s es) && handler_fits
+      s.functions k
   node_sound s nodes.ExceptionCode = s.code
   node_sound s (nodes.Information f) = s.information
   node_sound s nodes.AbnormalTermination = s.abnormal

@@ -107,12 +107,13 @@ pass_on s w0 whole done w w1 w2 x e ws es found one is kept_first puts adds h =
     }
 
 pub all_passed : (s : Names) (w0 : Option FaultAt) (whole : Passed)
-    (done : Option (List nodes.Expression)) (w : Option FaultAt)
-    → StillToPass s w0 whole done w [] [] → (option_map nodes.arguments done ≡ whole.found)
+    (done : Option (List nodes.Expression)) (w : Option FaultAt) (more : List Expr)
+    → StillToPass s w0 whole done w [] more → (option_map nodes.arguments done ≡ whole.found)
     × (w ≡ kept w0 whole.faults)
 unfolding joined onto
-all_passed s w0 whole None w h = (sym h.found, sym h.faults)
-all_passed s w0 whole (Some es) w h = (ap Some (onto_done es) ∙ sym h.found, sym h.faults)
+all_passed s w0 whole None w more h = (sym h.found, sym h.faults)
+all_passed s w0 whole (Some es) w more h =
+    (ap Some (onto_done es) ∙ sym h.found, sym h.faults)
 
 -- the node of a call by its arguments, if they are good
 pub called_for : {V : Type 0} (t : CType) (make : nodes.Arguments → nodes.Node)
@@ -166,13 +167,12 @@ fused g f (Some x) = refl
 
 pub all_passed_at : (s : Names) (w0 : Option FaultAt) (whole : Passed)
     (done : Option (List nodes.Expression)) (w : Option FaultAt) (wants : List Wanted')
-    (given : List Expr) (i : ℕ) → length wants ≤ i → length given ≤ i
+    (given : List Expr) (i : ℕ) → length wants ≤ i
     → StillToPass s w0 whole done w (drop i wants) (drop i given)
     → (option_map nodes.arguments done ≡ whole.found) × (w ≡ kept w0 whole.faults)
-all_passed_at s w0 whole done w wants given i pw pg h =
-    all_passed s w0 whole done w (subst (λ k. StillToPass s w0 whole done w k [])
-    (drop_all i wants pw) (subst (λ k. StillToPass s w0 whole done w (drop i wants) k)
-    (drop_all i given pg) h))
+all_passed_at s w0 whole done w wants given i past h =
+    all_passed s w0 whole done w (drop i given)
+    (subst (λ k. StillToPass s w0 whole done w k (drop i given)) (drop_all i wants past) h)
 
 pub pass_next_to : (s : Names) (w0 : Option FaultAt) (whole : Passed)
     (done done' : Option (List nodes.Expression)) (w w1 w2 : Option FaultAt) (wants : List Wanted')

@@ -5,4 +5,5 @@ pub mod Valued
 pub mod Passing
 pub mod Calling
 pub mod Ruled
+pub mod Naming
 pub mod Tables

@@ -4,7 +4,7 @@ use Rattle.std.specs.Prelude.{codes, drop}
 use Rattle.std.specs.Option.{option_or}
 use Rattle.std.specs.Cmp.{nat_eq_equiv}
 use Rattle.std.specs.Cmp.Lexicographic.{pointwise, lists_equiv}
-use Rattle.c_expressions.specs.Words.{built_in_functions, built_in_constants, Entity, BuiltInFunction, CodeFunction, AbnormalFunction, BuiltInConstant}
+use Rattle.c_expressions.specs.Words.{built_in_functions, built_in_constants, Entity, BuiltInFunction, CodeFunction, AbnormalFunction, AddingFunction, RemovingFunction, BuiltInConstant}
 use Rattle.c_operations.specs.declared.built_in.BuiltIn.TheVariants.{Put, Protect, RaiseException, Walk}
 use Rattle.c_resolved.specs.Scopes.{Scope, same_bytes, meaning_in, built_ins}
 
@@ -51,15 +51,20 @@ unknown_next n ys h = meaning_append built_ins ys n
 pub no_function : (n : List ℕ) → same_bytes (codes "put") n ≡ false
     → same_bytes (codes "protect") n ≡ false → same_bytes (codes "RaiseException") n ≡ false
     → same_bytes (codes "walk") n ≡ false → same_bytes (codes "GetExceptionCode") n ≡ false
-    → same_bytes (codes "AbnormalTermination") n ≡ false → None ≡ meaning_in built_in_functions n
-no_function n a b c d e f = sym (ap (λ x. cond x (Some (BuiltInFunction Put))
+    → same_bytes (codes "AbnormalTermination") n ≡ false
+    → same_bytes (codes "AddVectoredExceptionHandler") n ≡ false
+    → same_bytes (codes "RemoveVectoredExceptionHandler") n ≡ false
+    → None ≡ meaning_in built_in_functions n
+no_function n a b c d e f g h = sym (ap (λ x. cond x (Some (BuiltInFunction Put))
     (meaning_in (drop 1 built_in_functions) n)) a
     ∙ ap (λ x. cond x (Some (BuiltInFunction Protect)) (meaning_in (drop 2 built_in_functions) n)) b
     ∙ ap (λ x. cond x (Some (BuiltInFunction RaiseException))
     (meaning_in (drop 3 built_in_functions) n)) c
     ∙ ap (λ x. cond x (Some (BuiltInFunction Walk)) (meaning_in (drop 4 built_in_functions) n)) d
     ∙ ap (λ x. cond x (Some (CodeFunction)) (meaning_in (drop 5 built_in_functions) n)) e
-    ∙ ap (λ x. cond x (Some (AbnormalFunction)) (meaning_in (drop 6 built_in_functions) n)) f)
+    ∙ ap (λ x. cond x (Some (AbnormalFunction)) (meaning_in (drop 6 built_in_functions) n)) f
+    ∙ ap (λ x. cond x (Some (AddingFunction)) (meaning_in (drop 7 built_in_functions) n)) g
+    ∙ ap (λ x. cond x (Some (RemovingFunction)) (meaning_in (drop 8 built_in_functions) n)) h)
 
 pub no_constant : (n : List ℕ) → same_bytes (codes "EXCEPTION_EXECUTE_HANDLER") n ≡ false
     → same_bytes (codes "EXCEPTION_CONTINUE_SEARCH") n ≡ false

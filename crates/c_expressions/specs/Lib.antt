@@ -8,4 +8,5 @@ pub mod Views
 pub mod Calls
 pub mod Values
 pub mod Resolved
+pub mod Handlers
 pub mod Words

@@ -4,7 +4,7 @@ use Rattle.c_expressions.specs.declared.least.Least.{Least}
 use Rattle.c_expressions.specs.declared.rules.TwoOperands.{TwoOperands}
 use Rattle.c_expressions.specs.declared.rules.TwoOperands.TheVariants as operators
 use Rattle.c_expressions.specs.Kept.{least_of, kept}
-use Rattle.c_resolved.specs.Expressions.{Entity, UserFunction, BuiltInFunction, FaultAt, Names, ResolvedExpression, only_where, given_that, rule_1, rule_2, rule_3, is_lvalue, operand_is_lvalue}
+use Rattle.c_resolved.specs.Expressions.{Entity, UserFunction, BuiltInFunction, CodeFunction, AbnormalFunction, FaultAt, Names, ResolvedExpression, only_where, given_that, rule_1, rule_2, rule_3, is_lvalue, operand_is_lvalue}
 use Rattle.c_resolved.specs.Operators.{TypedNode, assigned, compound_assigned, incremented, unary_of, binary_of, element_of, comma_of}
 use Rattle.c_syntax.specs.declared.operator.Arithmetic.{Arithmetic}
 use Rattle.c_syntax.specs.declared.operator.Increment.{Increment}
@@ -92,6 +92,12 @@ abbrev pub is_special : Option Entity → Bool
 is_special (Some (UserFunction f t ps)) = false
 is_special (Some (BuiltInFunction k)) = false
 is_special meaning = true
+
+-- nor one whose arguments are values
+abbrev pub is_handler_function : Option Entity → Bool
+is_handler_function (Some CodeFunction) = false
+is_handler_function (Some AbnormalFunction) = false
+is_handler_function meaning = is_special meaning
 
 -- ---- kinds of expressions
 

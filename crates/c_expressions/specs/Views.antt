@@ -10,10 +10,10 @@ pub use Rattle.c_expressions.specs.Entities.{entity}
 
 -- the functions among the built-in names, and the constants
 abbrev pub built_in_functions : Scope
-built_in_functions = take 6 built_ins
+built_in_functions = take 8 built_ins
 
 abbrev pub built_in_constants : Scope
-built_in_constants = drop 6 built_ins
+built_in_constants = drop 8 built_ins
 
 abbrev pub names_of : Context → Names
 names_of c =

@@ -1,13 +1,15 @@
 //! Expressions: the type and the node of each, or the rules that it breaks.
 
-ghost use Rattle.std.specs.Prelude.{◌≡◌, true, IfOk, OnOk, length, option_map};
+ghost use Rattle.std.specs.Prelude.{◌≡◌, ◌≤◌, true, IfOk, OnOk, length, option_map};
 ghost use Rattle.c_resolved.specs.Expressions.{faults_of};
 ghost use Rattle.c_syntax.specs.Expression.{expression};
 ghost use Rattle.c_expressions.specs.Calls.{passed_of, resolved_all, AddsCall, FindsCall};
+ghost use Rattle.c_expressions.specs.Handlers.{AddsNaming, FindsNaming, called_naming, named_by};
 ghost use Rattle.c_expressions.specs.Kept.{AddsFaults};
 ghost use Rattle.c_expressions.specs.Resolved.{all_passed, called, called_with, resolved};
 ghost use Rattle.c_expressions.specs.Resolved.{resolved_with};
 ghost use Rattle.c_expressions.specs.Rules.{has_prefix_or_several, has_several, is_special};
+ghost use Rattle.c_expressions.specs.Rules.{is_handler_function};
 ghost use Rattle.c_expressions.specs.Rules.{is_conditional_or_assignment, FindsByRule, Adds};
 ghost use Rattle.c_expressions.specs.Views.{entity, names_of};
 ghost use Rattle.c_types.specs.Views.{FindsTyped};
@@ -17,6 +19,9 @@ use crate::calls::{
     want_at, with_one,
 };
 use crate::context::{Context, named};
+use crate::handlers::{
+    NamingCall, adding_call, handler_at, has_one_more, name_of, naming, no_handler, removing_call,
+};
 use crate::least::Least;
 use crate::places::{assign, place_of, step, unary};
 use crate::primary::{information, literal, name};
@@ -25,11 +30,12 @@ use crate::scopes::Entity;
 use crate::wanted::{Wanted, built_in_wants, wanted_by};
 use c_checked::expression::{Expr as Checked, Fixity};
 use c_resolved::fault::Fault;
-use c_syntax::expression::Expr;
+use c_syntax::expression::{Base, Expr};
 use c_types::typed::TypedNode;
+use c_types::types::plain;
 use std::alloc::{AllocError, Global};
 
-/// Arguments as they are passed, if each is what is wanted; there are as many of both.
+/// The first arguments as they are passed, if each is what is wanted at its place.
 #[cycle(expressions)]
 fn pass_all(
     alloc: Global,
@@ -38,15 +44,19 @@ fn pass_all(
     wants: &[Wanted],
     given: &[Expr],
 ) -> Result<Option<Vec<Checked>>, AllocError>
-    requires same { length wants.now ≡ length given.now }
+    requires enough { length wants.now ≤ length given.now }
     ensures found { IfOk result (λ r. option_map (λ v. passed_of v.items) r ≡
         (all_passed context.now wants.now given.now).found) }
     ensures faults { OnOk result (AddsFaults worst.old worst.new
         (all_passed context.now wants.now given.now).faults) }
 {
     let mut passed = no_arguments(alloc);
+    let count = wants.len();
     let mut i = 0;
     for e in given {
+        if i == count {
+            return Ok(passed);
+        }
         let found = resolve(alloc, context, worst, e)?;
         let want = want_at(wants, i);
         let one = pass(worst, want, e, found);
@@ -96,8 +106,92 @@ fn call_with(
     Ok(None)
 }
 
-/// A call of a function that means something in some places alone, or of a name that is no
+/// The vectored handler that an argument names.
+#[cycle(expressions)]
+fn handler(
+    alloc: Global,
+    context: &Context<'_, '_>,
+    worst: &mut Least,
+    e: &Expr,
+) -> Result<Option<u64>, AllocError>
+    ensures found { IfOk result (λ r. r ≡ (named_by context.now e.now).found) }
+    ensures faults { OnOk result (AddsFaults worst.old worst.new
+        (named_by context.now e.now).faults) }
+{
+    match name_of(e) {
+        Some(name) => Ok(handler_at(context, worst, e.start(), name)),
+        None => {
+            let found = resolve(alloc, context, worst, e)?;
+            no_handler(worst, e.start(), found);
+            Ok(None)
+        }
+    }
+}
+
+/// The arguments of a call whose last one names a vectored handler, if they are as many as are
+/// wanted and each is good.
+#[cycle(expressions)]
+fn call_naming(
+    alloc: Global,
+    context: &Context<'_, '_>,
+    worst: &mut Least,
+    at: u64,
+    wants: &[Wanted],
+    given: &[Expr],
+) -> Result<Option<NamingCall>, AllocError>
+    ensures found { IfOk result (λ r. FindsNaming r
+        (called_naming context.now at wants.now given.now)) }
+    ensures faults { OnOk result (AddsNaming worst.old worst.new
+        (called_naming context.now at wants.now given.now)) }
+{
+    if has_one_more(wants, given) {
+        let passed = pass_all(alloc, context, worst, wants, given)?;
+        let count = wants.len();
+        let named = handler(alloc, context, worst, &given[count])?;
+        return Ok(naming(passed, named));
+    }
+    resolve_all(alloc, context, worst, given)?;
+    worst.add(at, Fault::ArgCount);
+    Ok(None)
+}
+
+/// A call of a function that takes the name of a vectored handler, or of a name that is no
 /// function.
+#[cycle(expressions)]
+fn handler_call(
+    alloc: Global,
+    context: &Context<'_, '_>,
+    worst: &mut Least,
+    at: u64,
+    meaning: Option<Entity<'_>>,
+    given: &[Expr],
+) -> Result<Option<TypedNode>, AllocError>
+    requires { is_handler_function (option_map entity meaning) ≡ true }
+    ensures found { IfOk result (λ r. FindsTyped r
+        (called context.now at meaning.entry given.now).found) }
+    ensures faults { OnOk result (AddsFaults worst.old worst.new
+        (called context.now at meaning.entry given.now).faults) }
+{
+    match meaning {
+        Some(Entity::AddingFunction) => {
+            let wants = [Wanted::OfType(plain(Base::Unsigned))];
+            let named = call_naming(alloc, context, worst, at, &wants, given)?;
+            Ok(adding_call(named))
+        }
+        Some(Entity::RemovingFunction) => {
+            let named = call_naming(alloc, context, worst, at, &[], given)?;
+            Ok(removing_call(named))
+        }
+        _ => {
+            worst.add(at, Fault::UnknownName);
+            resolve_all(alloc, context, worst, given)?;
+            Ok(None)
+        }
+    }
+}
+
+/// A call of a function that means something in some places alone, that takes the name of a
+/// vectored handler, or of a name that is no function.
 #[cycle(expressions)]
 fn special_call(
     alloc: Global,
@@ -130,11 +224,7 @@ fn special_call(
                 found,
             ))
         }
-        _ => {
-            worst.add(at, Fault::UnknownName);
-            resolve_all(alloc, context, worst, given)?;
-            Ok(None)
-        }
+        _ => handler_call(alloc, context, worst, at, meaning, given),
     }
 }
 

@@ -3,7 +3,8 @@
 //! `symbol_table` has the names of open blocks and of the file, `scopes` what they mean, and
 //! `context` what a name means where an expression is; `primary` what has no operands; `rules` the
 //! rules on the types of operands, whose operators are those of `c_types`; `places` the operands
-//! that have to be lvalues; `calls` the arguments of calls; `expressions::resolve` walks an
+//! that have to be lvalues; `calls` the arguments of calls, and `handlers` those that name vectored
+//! handlers; `expressions::resolve` walks an
 //! expression (C11, 6.5; Microsoft C reference, "try-except statement"); `values` has the rules on
 //! an expression in a statement. The walk equals the definition `resolve_expression` of
 //! `c_resolved`, and keeps the least fault in `least`.
@@ -14,6 +15,7 @@
 pub mod calls;
 pub mod context;
 pub mod expressions;
+pub mod handlers;
 pub mod least;
 pub mod places;
 pub mod primary;

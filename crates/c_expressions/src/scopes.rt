@@ -43,6 +43,10 @@ pub enum Entity<'a> {
     CodeFunction,
     /// `AbnormalTermination`
     AbnormalFunction,
+    /// `AddVectoredExceptionHandler`
+    AddingFunction,
+    /// `RemoveVectoredExceptionHandler`
+    RemovingFunction,
     /// One of the constants of filters, as a number of 32 bits.
     BuiltInConstant(u64),
 }
@@ -92,6 +96,12 @@ fn built_in_function(name: &[u8]) -> Option<Entity<'static>>
     }
     if same(name, b"AbnormalTermination") {
         return Some(Entity::AbnormalFunction);
+    }
+    if same(name, b"AddVectoredExceptionHandler") {
+        return Some(Entity::AddingFunction);
+    }
+    if same(name, b"RemoveVectoredExceptionHandler") {
+        return Some(Entity::RemovingFunction);
     }
     None
 }

@@ -62,7 +62,8 @@ pub fn built_in_wants(alloc: Global, function: BuiltIn) -> Result<Vec<Wanted>, A
             wants.push(Wanted::ZeroLiteral)?;
             wants.push(Wanted::ZeroLiteral)?;
         }
-        BuiltIn::Walk => {}
+        BuiltIn::AddVectored(_) => wants.push(Wanted::OfType(plain(Base::Unsigned)))?,
+        BuiltIn::Walk | BuiltIn::RemoveVectored(_) => {}
     }
     Ok(wants)
 }
@@ -76,6 +77,7 @@ pub fn built_in_result(function: BuiltIn) -> CType
         BuiltIn::Protect => plain(Base::Int),
         BuiltIn::RaiseException => plain(Base::Void),
         BuiltIn::Walk => plain(Base::Void),
+        BuiltIn::AddVectored(_) | BuiltIn::RemoveVectored(_) => plain(Base::Int),
     }
 }
 

@@ -31,6 +31,7 @@ use source_steps::calls::low_signed;
 use source_steps::functions::LiveFunctions;
 use source_steps::machine::{Machine, MachineStep, StepEvents};
 use std::alloc::{AllocError, Global};
+use vectored_list::VectoredList;
 
 /// Why a run ended before its end.
 #[derive(Clone, Copy)]
@@ -143,6 +144,7 @@ fn first_machine<'p>(
         activations: Activations::new(alloc),
         functions: LiveFunctions::new(alloc),
         held: 0,
+        vectored: VectoredList::new(),
         handlers: Vec::new(alloc),
         stack: Vec::new(alloc),
     })

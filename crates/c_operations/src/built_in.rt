@@ -10,4 +10,10 @@ pub enum BuiltIn {
     RaiseException,
     /// `void walk(void)`: shows the live activations, innermost first (own).
     Walk,
+    /// `int AddVectoredExceptionHandler(unsigned, NAME)`, with the number of the function that NAME
+    /// names: it becomes a vectored handler (Windows headers, `errhandlingapi.h`; the name in place
+    /// of a pointer is own).
+    AddVectored(u64),
+    /// `int RemoveVectoredExceptionHandler(NAME)`, likewise: it is one no more.
+    RemoveVectored(u64),
 }

@@ -1,9 +1,9 @@
 -- How many bytes the variables of a function take at most: those of its arrays, which the text
 -- limits, and so many for each variable.
-use Rattle.std.proofs.Common.{◌≡◌, ◌≤◌, ℕ, ◌+◌, ◌*◌, refl, ap, sym, ◌∙◌, arith, subst}
+use Rattle.std.proofs.Common.{◌≡◌, ◌≤◌, ℕ, ◌+◌, ◌*◌, refl, ap, sym, arith, subst}
 use Rattle.std.proofs.lemmas.Bool.{lt-ltb}
-use Rattle.std.specs.Prelude.{zero, suc, Bool, true, false, if◌then◌else◌, List, [], ◌∷◌, ◌++◌, map, length, Option, Some, None}
-use Rattle.c_resolved.specs.Words.{is_scalar, size_of_base, size, aligned, Base, Void, Char, UnsignedChar, Short, UnsignedShort, Int, Unsigned, LongLong, UnsignedLongLong, CType, Length, Parameter, Local, ForInitialiser, Declaring, Evaluating, Statement, Statements, Scope, Near, Beyond, past_finally, with_number, Environment, Numbering, inside, declare, declare_all, resolve_filter, resolve_for_initialiser, resolve_statement, resolve_statements, variable_of, elements_of, Variable, stored_bytes, element_count, begin_of, end_of, locals_of_for_initialiser, parameter_variable}
+use Rattle.std.specs.Prelude.{zero, suc, true, List, [], ◌∷◌, ◌++◌, map, length, Option, Some, None}
+use Rattle.c_resolved.specs.Words.{is_scalar, size_of_base, size, aligned, Base, Void, Char, UnsignedChar, Short, UnsignedShort, Int, Unsigned, LongLong, UnsignedLongLong, CType, Length, Parameter, Local, ForInitialiser, Declaring, Evaluating, Statement, Statements, Scope, Near, Beyond, past_finally, with_number, Environment, Numbering, inside, declare, declare_all, resolve_filter, resolve_for_initialiser, resolve_statement, resolve_statements, variable_of, elements_of, Variable, stored_bytes, element_count, end_of, locals_of_for_initialiser, parameter_variable}
 use Rattle.c_syntax.specs.Limits as limits
 use Rattle.c_syntax.specs.Statement as statements
 use Rattle.c_resolved.proofs.Globals.{stored}

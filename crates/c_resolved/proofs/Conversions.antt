@@ -1,6 +1,6 @@
 -- A conversion takes a number of its source's size, and makes one of its target's.
 use Rattle.std.proofs.Common.{◌≡◌, ℕ, refl, ap, ◌∙◌}
-use Rattle.std.proofs.lemmas.Bool.{eqb-true}
+use Rattle.std.proofs.lemmas.Bool.{eqb-true, and_parts}
 use Rattle.std.specs.Prelude.{Bool, true, false, ◌&&◌, nat_eq, nat_lt, if◌then◌else◌, Some}
 use Rattle.c_resolved.specs.Words.{Width, W8, W16, W32, W64, Signedness, Conversion, Kept, Scale, can_convert, size_after, Base, Void, Char, UnsignedChar, Short, UnsignedShort, Int, Unsigned, LongLong, UnsignedLongLong, CType, base_width, width_of, sort_of, same_base, same_type, size_of_width, to_width, conversion, index_width, scaled}
 
@@ -30,7 +30,7 @@ to_width_makes W32 s W64 t = (refl, refl)
 to_width_makes W64 s W64 t = (refl, refl)
 
 -- where `same_base` holds, the bases are equal
-pub same_base_is : (a b : Base) → same_base a b ≡ true → a ≡ b
+same_base_is : (a b : Base) → same_base a b ≡ true → a ≡ b
 same_base_is Void Void h = refl
 same_base_is Char Char h = refl
 same_base_is UnsignedChar UnsignedChar h = refl
@@ -41,6 +41,14 @@ same_base_is Unsigned Unsigned h = refl
 same_base_is LongLong LongLong h = refl
 same_base_is UnsignedLongLong UnsignedLongLong h = refl
 same_base_is a b h = absurd (cc)
+
+-- where `same_type` holds, the types are equal
+pub same_type_is : (a b : CType) → same_type a b ≡ true → a ≡ b
+same_type_is a b h =
+    let parts = and_parts (nat_eq a.pointers b.pointers) (same_base a.base b.base) h in
+    let p : a.pointers ≡ b.pointers = eqb-true a.pointers b.pointers parts.0 in
+    let q : a.base ≡ b.base = same_base_is a.base b.base parts.1 in
+    λ i. record { base = q i; pointers = p i }
 
 kept_makes : (from to : Width) → from ≡ to → Makes Kept from to
 kept_makes from to e = (refl, ap (λ w. Some (size_of_width w)) e)

@@ -2,7 +2,7 @@
 use Rattle.std.proofs.Common.{◌≡◌, ℕ, refl, sym, subst}
 use Rattle.std.specs.Prelude.{Bool, true, false, if◌then◌else◌, List, [], ◌∷◌, ◌++◌, length, Option, Some, None}
 use Rattle.c_checked.specs.Statement as checked
-use Rattle.c_resolved.specs.Words.{Length, local_entity, local_value, without_initialiser, Base, CType, Expression, start, Local, ForInitialiser, Declaring, Evaluating, is_void, TypedNode, LocalVariable, Names, FaultAt, resolve_expression, Scope, spelled, Environment, Numbering, ResolvedStatements, names_at, filter_names, any, condition, to_type, to_answer, Value, Optional, optional, with_name, declare, declare_all, follow, only, returned, always, ResolvedFilter, resolve_filter, names_only, ResolvedForInitialiser, resolve_for_initialiser, SeenNames, with_local, IsPart, expression_within, optional_within, after_declared, after_all_declared, declared_within, all_declared_within, after_statement, filter_within, statement_within, statements_within}
+use Rattle.c_resolved.specs.Words.{Length, local_entity, local_value, without_initialiser, Base, CType, Expression, start, Local, ForInitialiser, Declaring, Evaluating, is_void, TypedNode, Names, FaultAt, resolve_expression, Scope, spelled, Environment, Numbering, ResolvedStatements, names_at, filter_names, any, condition, to_type, to_answer, Value, Optional, optional, with_name, declare, declare_all, follow, only, returned, always, ResolvedFilter, resolve_filter, names_only, ResolvedForInitialiser, resolve_for_initialiser, SeenNames, with_local, IsPart, expression_within, optional_within, after_declared, after_all_declared, declared_within, all_declared_within, after_statement, filter_within, statement_within, statements_within}
 use Rattle.c_resolved.proofs.Operands.{and_true}
 use Rattle.c_checked.proofs.ScopeTests.{both_left, both_right, sees_own, sees_before, after_before, itself, within}
 use Rattle.c_resolved.proofs.OperatorScopes.{WithinIf}

@@ -1,8 +1,10 @@
 -- An expression is resolved to one that names locals that are seen alone.
-use Rattle.std.proofs.Common.{◌≡◌, ℕ, refl, sym, subst}
+use Rattle.std.proofs.Common.{◌≡◌, ℕ, ◌+◌, refl, sym, subst}
 use Rattle.std.specs.Prelude.{Bool, true, false, nat_le, nat_eq, if◌then◌else◌, List, [], ◌∷◌, length, map, Option, Some, None}
+use Rattle.c_operations.specs.declared.built_in.BuiltIn.{BuiltIn}
+use Rattle.c_operations.specs.declared.built_in.BuiltIn.TheVariants.{AddVectored, RemoveVectored}
 use Rattle.c_checked.specs.Expression as nodes
-use Rattle.c_resolved.specs.Words.{Node, CType, Field, Literal, Arithmetic, Expression, start, Fault, TypeClash, TypedNode, compound_assigned, assigned, comma_of, Entity, LocalVariable, LocalArray, GlobalVariable, GlobalArray, UserFunction, BuiltInFunction, CodeFunction, AbnormalFunction, BuiltInConstant, Names, FaultAt, ResolvedExpression, ruled, rule_1, rule_2, rule_3, given_that, literal, name, field, Wanted, built_in_wants, fits, passed, Argument, Passed, before, spoiled, pass, pass_all, called, call_with, call, changed, resolve_expression, resolve_arguments, OfType, ZeroLiteral, SeenNames, expression_within, node_within, arguments_within}
+use Rattle.c_resolved.specs.Words.{Node, CType, Field, Literal, Arithmetic, Expression, start, Fault, TypeClash, TypedNode, compound_assigned, assigned, comma_of, Entity, LocalVariable, LocalArray, GlobalVariable, GlobalArray, UserFunction, BuiltInFunction, CodeFunction, AbnormalFunction, AddingFunction, RemovingFunction, handler_after, call_naming, call_with_handler, unsigned, BuiltInConstant, Names, FaultAt, ResolvedExpression, ruled, rule_1, rule_2, rule_3, given_that, literal, name, field, Wanted, built_in_wants, fits, passed, Argument, Passed, before, spoiled, pass, pass_all, called, call_with, call, changed, resolve_expression, resolve_arguments, OfType, ZeroLiteral, SeenNames, expression_within, node_within, arguments_within}
 use Rattle.c_syntax.specs.declared.expression.Field.TheVariants as record_fields
 use Rattle.c_syntax.specs.declared.expression.Literal.TheVariants as literals
 use Rattle.c_syntax.specs.Expression as trees
@@ -126,6 +128,23 @@ with_within seen at ws t make args h go =
     (called_within seen t make (pass_all ws args).found (pass_all ws args).faults
     (pass_all_within seen ws args h) go)
 
+named_within : (seen : SeenNames) (of : ℕ → BuiltIn) (o : Option nodes.Arguments)
+    (fs : List FaultAt) (h : Option ℕ) (gs : List FaultAt) → AreWithin seen o
+    → WithinIf seen (call_naming (λ f. nodes.CallBuiltIn (of f))
+    (record { found = o; faults = fs }) (record { found = h; faults = gs })).found
+named_within seen of None fs h gs k = tt
+named_within seen of (Some es) fs None gs k = tt
+named_within seen of (Some es) fs (Some f) gs k = k
+
+naming_within : (seen : SeenNames) (at : ℕ) (ws : List Wanted) (of : ℕ → BuiltIn)
+    (args : List Argument) → EachWithin seen args
+    → WithinIf seen (call_with_handler at ws of args).found
+naming_within seen at ws of args h =
+    given_that_within seen (nat_eq (length ws + 1) (length args)) at _ _ _
+    (named_within seen of (pass_all ws args).found (pass_all ws args).faults
+    (handler_after ws args).found (handler_after ws args).faults
+    (pass_all_within seen ws args h))
+
 call_within : (seen : SeenNames) (s : Names) (at : ℕ) (e : Option Entity) (args : List Argument)
     → EachWithin seen args → WithinIf seen (call s at e args).found
 call_within seen s at (Some (UserFunction f t ps)) args h = with_within seen at (map OfType ps) t
@@ -136,6 +155,10 @@ call_within seen s at (Some CodeFunction) args h = given_that_within seen s.code
     (with_within seen at [] _ (λ es. nodes.ExceptionCode) args h (λ es k. refl))
 call_within seen s at (Some AbnormalFunction) args h = given_that_within seen s.abnormal at _ _ _
     (with_within seen at [] _ (λ es. nodes.AbnormalTermination) args h (λ es k. refl))
+call_within seen s at (Some AddingFunction) args h = naming_within seen at
+    (OfType unsigned ∷ []) (λ f. AddVectored f) args h
+call_within seen s at (Some RemovingFunction) args h = naming_within seen at []
+    (λ f. RemoveVectored f) args h
 call_within seen s at other args h = tt
 
 -- ---- expressions

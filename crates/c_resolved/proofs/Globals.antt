@@ -6,7 +6,7 @@ use Rattle.std.proofs.lemmas.List.{length-append, length-replicate, length-take-
 use Rattle.std.specs.Prelude.{zero, suc, true, not, nat_lt, if◌then◌else◌, List, [], ◌∷◌, ◌++◌, length, replicate, Option, Some, None}
 use Rattle.c_resolved.specs.Words.{W64, bytes_of, Size, Length, Base, Void, Char, UnsignedChar, Short, UnsignedShort, Int, Unsigned, LongLong, UnsignedLongLong, CType, size_of_base, size, elements, aligned, end_of_globals, bytes_from, Initialiser, Single, Several, Global, ExternalDeclaration, Globals, Function, Duplicate, TypeClash, is_scalar, base_width, bytes_in, stored_bytes, UserFunction, spelled, unless_holds, is_taken, first_data, constant_value, bytes_of_number, bytes_of_all, filled, initial_value, length_faults, global_entity, File, padded, with_global, with_globals, parameter_types, with_external_declaration, file_of, Layout}
 use Rattle.c_checked.specs.Program as checked_program
-use Rattle.c_resolved.proofs.ResolvedExpressions.{EntityFits, FunctionFits}
+use Rattle.c_resolved.proofs.SettledRules.{EntityFits, FunctionFits}
 use Rattle.c_resolved.proofs.SoundDeclarations.{none_in_both, holds, ScopeFits, with_name_fits}
 
 -- ---- lengths

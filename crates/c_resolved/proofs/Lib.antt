@@ -5,6 +5,8 @@ pub mod Settings
 pub mod Operands
 pub mod Results
 pub mod ConditionalResults
+pub mod SettledRules
+pub mod SettledCalls
 pub mod ResolvedExpressions
 pub mod Numbers
 pub mod SoundDeclarations

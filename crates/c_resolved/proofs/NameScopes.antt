@@ -39,7 +39,8 @@ seen_append seen [] b h k = k
 seen_append seen (x ∷ a) b h k = (h.0, seen_append seen a b h.1 k)
 
 built_ins_seen : (seen : SeenNames) → ScopeSeen seen built_ins
-built_ins_seen seen = (tt, (tt, (tt, (tt, (tt, (tt, (tt, (tt, (tt, tt)))))))))
+built_ins_seen seen =
+    (tt, (tt, (tt, (tt, (tt, (tt, (tt, (tt, (tt, (tt, (tt, tt)))))))))))
 
 found_seen : (seen : SeenNames) (b : Bool) (x y : Option Entity) → MeaningSeen seen x
     → MeaningSeen seen y → MeaningSeen seen (if b then x else y)

@@ -4,7 +4,7 @@ use Rattle.std.proofs.lemmas.Bool.{eq-eqb, and_parts, and_from, both_ways}
 use Rattle.std.proofs.lemmas.Slice.Eq.{bytes_eq-Decides}
 use Rattle.std.proofs.lemmas.List.{append-nil, append_assoc, length-append}
 use Rattle.std.specs.Prelude.{suc, Bool, true, false, ◌&&◌, cond, nat_eq, if◌then◌else◌, List, [], ◌∷◌, ◌++◌, length, slice_get, Some, codes, zero}
-use Rattle.c_resolved.specs.Words.{Size, filter_funclet, funclets_in, funclets, count_up, Base, Expression, accepts, numbered, funclets_of_all, locals_of_for_initialiser, Statement, Statements, Local, ForInitialiser, Declaring, Evaluating, Scope, built_ins, spelled, meaning_in, size_of, Environment, Numbering, ResolvedStatements, Near, Beyond, past_finally, inside, is_accepting, always, only, declare, declare_all, ResolvedFilter, resolve_filter, with_number, resolve_for_initialiser, resolve_statement, resolve_statements, variable_of, elements_of, CType}
+use Rattle.c_resolved.specs.Words.{filter_funclet, funclets_in, funclets, count_up, Base, Expression, accepts, numbered, funclets_of_all, locals_of_for_initialiser, Statement, Statements, Local, ForInitialiser, Declaring, Evaluating, Scope, built_ins, spelled, meaning_in, size_of, Environment, Numbering, ResolvedStatements, Near, Beyond, past_finally, inside, is_accepting, always, only, declare, declare_all, ResolvedFilter, resolve_filter, with_number, resolve_for_initialiser, resolve_statement, resolve_statements, variable_of, elements_of, CType}
 use Rattle.c_checked.specs.Statement as checked
 use Rattle.c_syntax.specs.declared.expression.Literal.TheVariants as literals
 use Rattle.c_syntax.specs.Expression as trees

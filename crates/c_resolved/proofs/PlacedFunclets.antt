@@ -1,6 +1,6 @@
 -- Filters and `__finally` blocks keep their numbers where variables are placed.
-use Rattle.std.proofs.Common.{◌≡◌, ℕ, refl, ap, ◌∙◌}
-use Rattle.std.specs.Prelude.{List, ◌∷◌, ◌++◌}
+use Rattle.std.proofs.Common.{◌≡◌, refl, ap, ◌∙◌}
+use Rattle.std.specs.Prelude.{◌∷◌, ◌++◌}
 use Rattle.c_checked.specs.Statement as checked
 use Rattle.c_resolved.specs.Words.{Layout, place_filter, place_statement, place_statements, filter_funclet, funclets_in, funclets}
 

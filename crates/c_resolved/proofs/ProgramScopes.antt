@@ -2,7 +2,7 @@
 use Rattle.std.proofs.Common.{◌≡◌, ℕ, refl, arith, sym, subst}
 use Rattle.std.proofs.lemmas.Bool.{or_left, or_right, eq-eqb, lt-ltb}
 use Rattle.std.proofs.lemmas.List.{length-map}
-use Rattle.std.specs.Prelude.{true, List, [], ◌∷◌, length, map, None, Option, Some, nat_lt, nat_eq, ◌||◌, Bool, slice_get}
+use Rattle.std.specs.Prelude.{true, List, [], ◌∷◌, length, map, None, Option, Some, nat_lt, nat_eq, ◌||◌, slice_get}
 use Rattle.c_checked.specs.Statement as checked
 use Rattle.c_resolved.specs.Words.{Size, Parameter, CType, ExternalDeclaration, Globals, Function, Statements, size_of, file_of, empty_file, with_parameters, around, function_of, functions_of, Scope, Numbering, resolve_statements, SeenNames, first_seen, statements_within, functions_within, Variable, Layout, Place, parameter_variable, is_placed, any_placed, only_place, place_of, layout_of, data_frame_of, hold_try, ResolvedStatements, place_statements}
 use Rattle.c_resolved.proofs.Operands.{and_true}

@@ -1,6 +1,6 @@
 -- What operators make of good operands is good.
 use Rattle.std.proofs.Common.{◌≡◌, ℕ, refl, ap, sym, ◌∙◌}
-use Rattle.std.specs.Prelude.{Bool, true, false, not, ◌&&◌, ◌||◌, if◌then◌else◌, Option, Some, None}
+use Rattle.std.specs.Prelude.{Bool, true, false, not, ◌&&◌, ◌||◌, if◌then◌else◌, Option, Some}
 use Rattle.c_resolved.specs.Words.{Operation, Signedness, Size, Conversion, Kept, Fixity, Lvalue, is_number, both, can_convert, size_after, constant_fits, amount_fits, change_fits, unary_takes, takes, LongLong, CType, Arithmetic, BinaryOperator, Comparison, Increment, UnaryOperator, plain, pointer_to, pointed, is_pointer, is_integer, is_scalar, is_void_pointer, is_sized_pointer, same_type, sort_of, width_of, access_of, size_of, bytes_in, promoted, common, conversion, TypedNode, typed, only_if, int, void_pointer, as_is, as_type, as_index, can_become, operation_of, operation_in, is_shift, working_type, right_operand, on_integers, long_operation, moved, sum, difference, arithmetic_of, relation_of, compared, are_comparable, comparison_of, binary_of, lvalue_of, with_lvalue, address, unary_of, cast_of, element_of, assigned, is_additive, compound_assigned, increment_operator, incremented, address_of, place_lvalue}
 use Rattle.c_resolved.proofs.Settings.{node_size, node_sound, lvalue_size, expression_size, expression_sound, Setting}
 use Rattle.c_operations.specs.declared.operation.Operation.TheVariants as operations

@@ -3,7 +3,7 @@ use Rattle.std.proofs.Common.{◌≡◌, ℕ, refl, ◌+◌, ◌*◌, ◌^◌, �
 use Rattle.std.proofs.lemmas.Bool.{and_parts, lt-ltb}
 use Rattle.std.proofs.lemmas.Option.{slice_get_within}
 use Rattle.std.specs.Prelude.{Bool, true, false, not, List, [], ◌∷◌, ◌++◌, length, slice_get, Option, Some, None, zero, suc, if◌then◌else◌}
-use Rattle.c_resolved.specs.Words.{Size, Base, CType, Expression, start, Local, ForInitialiser, Declaring, Evaluating, Fault, Duplicate, TypeClash, is_integer, is_scalar, size_of, TypedNode, int, as_is, can_become, Entity, LocalVariable, Names, FaultAt, ResolvedExpression, resolve_expression, result_size, Scope, same_bytes, spelled, meaning_in, built_ins, Reach, Nowhere, Beyond, Near, Environment, Numbering, ResolvedStatements, names_at, filter_names, unless_holds, any, condition, to_type, to_answer, optional, is_taken, with_name, declare, declare_all, follow, only, names_only, ResolvedForInitialiser, resolve_for_initialiser, Layout, Variable, Place, place_of, place_optional, stacked_at, stored_bytes, element_count, elements_of, variable_of, local_entity, local_value, without_initialiser, length_faults, Length, Width, W8, bytes_of, bytes_in, width_of, fault_at}
+use Rattle.c_resolved.specs.Words.{Size, Base, CType, Expression, start, Local, ForInitialiser, Declaring, Evaluating, Fault, Duplicate, TypeClash, is_integer, is_scalar, size_of, TypedNode, int, as_is, can_become, Entity, Names, FaultAt, ResolvedExpression, resolve_expression, result_size, Scope, same_bytes, spelled, meaning_in, built_ins, Reach, Nowhere, Beyond, Near, Environment, Numbering, ResolvedStatements, names_at, filter_names, unless_holds, any, condition, to_type, to_answer, optional, is_taken, with_name, declare, declare_all, follow, only, names_only, ResolvedForInitialiser, resolve_for_initialiser, Layout, Variable, Place, place_of, place_optional, stacked_at, stored_bytes, elements_of, variable_of, local_entity, local_value, without_initialiser, length_faults, Length, Width, W8, bytes_of, bytes_in, width_of}
 use Rattle.c_resolved.proofs.Settings.{Inside, expression_size, expression_sound, optional_sound, condition_sound, test_sound, value_fits, declared_sound, all_declared_sound, statement_sound, statements_sound, Setting, scope_in}
 use Rattle.c_operations.specs.declared.operation.Size.TheVariants as sizes
 use Rattle.c_checked.specs.Program.{Function}
@@ -11,7 +11,8 @@ use Rattle.c_checked.specs.Statement as checked
 use Rattle.c_checked.specs.Sound as sound
 use Rattle.c_resolved.proofs.TypeFacts.{integer_scalar, can_become_scalar}
 use Rattle.c_resolved.proofs.Operands.{HasSize, and_true, as_is_has, as_type_has, as_is_sound, has_number, alike_sizes}
-use Rattle.c_resolved.proofs.ResolvedExpressions.{no_fault, FoundOr, EntityFits, MeaningFits, NamesFit, settled, PlaceFits}
+use Rattle.c_resolved.proofs.SettledRules.{no_fault, FoundOr, EntityFits, MeaningFits, NamesFit, PlaceFits}
+use Rattle.c_resolved.proofs.ResolvedExpressions.{settled}
 use Rattle.c_resolved.proofs.Numbers.{IsFront, front_through, front_get, if_both, declare_all_counted, Grows, front_has, front_itself}
 
 -- ---- no faults
@@ -53,7 +54,8 @@ fits_append fs zs layout [] b h k = k
 fits_append fs zs layout (x ∷ a) b h k = (h.0, fits_append fs zs layout a b h.1 k)
 
 built_ins_fit : (fs : List Function) (zs : List Size) (layout : Layout) → ScopeFits fs zs layout built_ins
-built_ins_fit fs zs layout = (tt, (tt, (tt, (tt, (tt, (tt, (tt, (tt, (tt, tt)))))))))
+built_ins_fit fs zs layout =
+    (refl, (refl, (refl, (refl, (tt, (tt, (tt, (tt, (tt, (tt, (tt, tt)))))))))))
 
 pub meaning_fits : (fs : List Function) (zs : List Size) (layout : Layout) (scope : Scope) → ScopeFits fs zs layout scope
     → (name : List ℕ) → MeaningFits fs zs layout (meaning_in scope name)

@@ -1,17 +1,17 @@
 -- What an accepted text within the limits is resolved to is sound.
 use Rattle.std.proofs.Common.{◌-◌, ◌≡◌, ◌≤◌, ℕ, ◌+◌, refl, ap, sym, subst, ◌∙◌, arith, ◌<◌, ◌^◌}
-use Rattle.std.proofs.lemmas.Bool.{le-leb, eqb-true, and_parts, or_left}
+use Rattle.std.proofs.lemmas.Bool.{le-leb, and_parts, or_left}
 use Rattle.std.proofs.lemmas.List.{append_assoc, length-append, length-map, length-drop, length_push, drop_at}
-use Rattle.std.specs.Prelude.{suc, true, false, not, ◌&&◌, ◌||◌, nat_eq, List, [], ◌∷◌, ◌++◌, length, map, drop, slice_get, Option, Some, None, Bool, replicate}
-use Rattle.c_resolved.specs.Words.{Size, Inside, some_sizes, are_sizes, is_size, statements_sound, funclets, count_up, all_funclets, function_sound, functions_sound, main_sound, IsSound, Parameter, LongLong, CType, Identifier, every_limit, FunctionWithinFirst, EachWithinFirst, Within, funclets_of_all, ExternalDeclaration, Globals, Function, Statements, Duplicate, TypeClash, plain, is_scalar, size_of, same_base, same_type, int, Entity, LocalVariable, UserFunction, Scope, spelled, meaning_in, unless_holds, is_taken, with_name, Numbering, ResolvedStatements, resolve_statements, file_of, empty_file, parameter_types, with_parameters, parameter_faults, result_size, around, function_of, functions_of, main_name, are_main_parameters, place_of_function, main_of, resolve, Accepted, AcceptedIsSound, Layout, Place, Variable, layout_of, base_local, data_frame_of, place_statements, place_of, any_placed, is_placed, mark_statements, hold_try, parameter_variable}
+use Rattle.std.specs.Prelude.{suc, true, false, not, ◌&&◌, ◌||◌, List, [], ◌∷◌, ◌++◌, length, map, drop, slice_get, Option, Some, None, Bool, replicate}
+use Rattle.c_resolved.specs.Words.{Size, Inside, some_sizes, are_sizes, is_size, statements_sound, funclets, count_up, all_funclets, function_sound, functions_sound, main_sound, IsSound, Parameter, LongLong, CType, Identifier, every_limit, FunctionWithinFirst, EachWithinFirst, Within, funclets_of_all, ExternalDeclaration, Globals, Function, Statements, Duplicate, TypeClash, plain, is_scalar, size_of, same_type, int, Entity, LocalVariable, UserFunction, Scope, spelled, meaning_in, unless_holds, is_taken, with_name, Numbering, ResolvedStatements, resolve_statements, file_of, empty_file, parameter_types, with_parameters, parameter_faults, result_size, around, function_of, functions_of, main_name, are_main_parameters, place_of_function, main_of, resolve, Accepted, AcceptedIsSound, Layout, Place, Variable, layout_of, base_local, data_frame_of, place_statements, place_of, any_placed, is_placed, mark_statements, hold_try, parameter_variable}
 use Rattle.seh_num.specs.declared.limit.TheConstants.{MOST_LOCALS}
 use Rattle.c_operations.specs.declared.operation.Size.TheVariants as sizes
 use Rattle.c_checked.specs.Statement as checked
 use Rattle.c_checked.specs.Program as checked_program
 use Rattle.c_syntax.specs.Limits as limits
-use Rattle.c_resolved.proofs.Conversions.{same_base_is}
+use Rattle.c_resolved.proofs.Conversions.{same_type_is}
 use Rattle.c_resolved.proofs.Operands.{and_true}
-use Rattle.c_resolved.proofs.ResolvedExpressions.{MeaningFits, PlaceFits}
+use Rattle.c_resolved.proofs.SettledRules.{MeaningFits, PlaceFits}
 use Rattle.c_resolved.proofs.Numbers.{IsFront, front_itself, front_get, Counted, count_up_append, statements_counted, front_has}
 use Rattle.c_resolved.proofs.SoundDeclarations.{none_in_both, holds, ScopeFits, meaning_fits, with_name_fits, Reaches, reaches_through}
 use Rattle.c_resolved.proofs.SoundStatements.{statements_resolve}
@@ -350,13 +350,6 @@ functions_from text file (Function t n ps body ∷ xs) number front =
     )
 
 -- ---- main
-
-same_type_is : (a b : CType) → same_type a b ≡ true → a ≡ b
-same_type_is a b h =
-    let parts = and_parts (nat_eq a.pointers b.pointers) (same_base a.base b.base) h in
-    let p : a.pointers ≡ b.pointers = eqb-true a.pointers b.pointers parts.0 in
-    let q : a.base ≡ b.base = same_base_is a.base b.base parts.1 in
-    λ i. record { base = q i; pointers = p i }
 
 main_takes : (ps : List CType) → are_main_parameters ps ≡ true
     → (are_sizes [] (some_sizes (map size_of ps))

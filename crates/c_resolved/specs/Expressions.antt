@@ -1,7 +1,7 @@
 -- Expressions: the type and the node of each, or the rules that it breaks (C11, 6.5; Microsoft C
 -- reference, "try-except statement"). An expression that holds a fault has no type, and no rule on
 -- types fails for it.
-use Rattle.std.specs.Prelude.{ℕ, Bool, true, false, nat_eq, nat_le, if◌then◌else◌, List, [], ◌∷◌, ◌++◌, length, map, Option, Some, None, ◌-◌}
+use Rattle.std.specs.Prelude.{ℕ, Bool, true, false, ◌&&◌, ◌+◌, nat_eq, nat_le, if◌then◌else◌, List, [], ◌∷◌, ◌++◌, length, map, Option, Some, None, ◌-◌}
 use Rattle.seh_num.specs.declared.width.Width.TheVariants.{W32}
 use Rattle.seh_num.specs.Widths.{low, wrapped}
 use Rattle.seh_num.specs.declared.size.TheConstants.{EXCEPTION_MAXIMUM_PARAMETERS}
@@ -9,7 +9,7 @@ use Rattle.c_lex.specs.declared.token.IntegerType.{IntegerType}
 use Rattle.c_lex.specs.declared.token.IntegerType.TheVariants as integers
 use Rattle.c_operations.specs.declared.field.Field.TheVariants as fields
 use Rattle.c_operations.specs.declared.built_in.BuiltIn.{BuiltIn}
-use Rattle.c_operations.specs.declared.built_in.BuiltIn.TheVariants.{Put, Protect, RaiseException, Walk}
+use Rattle.c_operations.specs.declared.built_in.BuiltIn.TheVariants.{Put, Protect, RaiseException, Walk, AddVectored, RemoveVectored}
 use Rattle.c_operations.specs.Numbers.{width}
 use Rattle.c_checked.specs.declared.expression.Fixity.TheVariants.{Postfix, Prefix}
 use Rattle.c_checked.specs.Expression as nodes
@@ -29,7 +29,7 @@ use Rattle.c_syntax.specs.Expression as trees
 use Rattle.c_syntax.specs.Expression.{Expression, start}
 use Rattle.c_resolved.specs.declared.fault.Fault.{Fault}
 use Rattle.c_resolved.specs.declared.fault.Fault.TheVariants.{UnknownName, NotLvalue, TypeClash, ArgCount, CodeOutsideFilter, InfoOutsideFilter, AbnormalOutsideFinally}
-use Rattle.c_resolved.specs.Types.{plain, pointer_to, access_of, size_of}
+use Rattle.c_resolved.specs.Types.{plain, pointer_to, access_of, size_of, same_type}
 use Rattle.c_resolved.specs.Operators.{TypedNode, typed, int, void_pointer, can_become, as_type, binary_of, unary_of, cast_of, element_of, assigned, compound_assigned, incremented, conditional_of, comma_of}
 
 -- ---- names
@@ -47,6 +47,9 @@ pub data Entity : Type 0 where
   BuiltInFunction : BuiltIn → Entity
   CodeFunction : Entity
   AbnormalFunction : Entity
+  -- AddVectoredExceptionHandler and RemoveVectoredExceptionHandler
+  AddingFunction : Entity
+  RemovingFunction : Entity
   -- as a number of 32 bits
   BuiltInConstant : ℕ → Entity
 
@@ -182,12 +185,16 @@ built_in_wants Put = OfType (plain LongLong) ∷ []
 built_in_wants Protect = OfType void_pointer ∷ OfType int ∷ []
 built_in_wants RaiseException = OfType unsigned ∷ OfType unsigned ∷ ZeroLiteral ∷ ZeroLiteral ∷ []
 built_in_wants Walk = []
+built_in_wants (AddVectored f) = OfType unsigned ∷ []
+built_in_wants (RemoveVectored f) = []
 
 abbrev pub built_in_result : BuiltIn → CType
 built_in_result Put = plain Void
 built_in_result Protect = int
 built_in_result RaiseException = plain Void
 built_in_result Walk = plain Void
+built_in_result (AddVectored f) = int
+built_in_result (RemoveVectored f) = int
 
 abbrev pub fits : Wanted → TypedNode → Bool
 fits (OfType t) a = can_become t a
@@ -197,10 +204,16 @@ abbrev pub passed : Wanted → TypedNode → nodes.Expression
 passed (OfType t) a = as_type t a
 passed ZeroLiteral a = as_type int a
 
--- an argument, with the place of its first token
+-- a function that an argument names as a vectored handler, by its number
+pub record NamedHandler : Type 0 where
+  pub found : Option ℕ
+  pub faults : List FaultAt
+
+-- an argument, with the place of its first token; as a value, and as the name of a vectored handler
 pub record Argument : Type 0 where
   pub at : ℕ
   pub resolved : ResolvedExpression
+  pub handler : NamedHandler
 
 pub record Passed : Type 0 where
   pub found : Option Arguments
@@ -242,6 +255,68 @@ call_with at ws t make args =
     given_that (nat_eq (length ws) (length args)) at ArgCount (faults_of args)
     (called t make (pass_all ws args))
 
+-- ---- names of vectored handlers
+
+-- `int (unsigned code, unsigned flags)`
+abbrev pub is_handler_type : CType → List CType → Bool
+is_handler_type t (a ∷ b ∷ []) = same_type t int && same_type a unsigned && same_type b unsigned
+is_handler_type t ps = false
+
+abbrev pub handler_if : (at f : ℕ) → Bool → NamedHandler
+handler_if at f true = record { found = Some f; faults = [] }
+handler_if at f false = record { found = None; faults = fault_at at TypeClash }
+
+-- by what the name of the argument means: at the name where it is no function, at the argument
+-- where the function is of another type
+abbrev pub handler_named : (at name_at : ℕ) → Option Entity → NamedHandler
+handler_named at name_at (Some (UserFunction f t ps)) = handler_if at f (is_handler_type t ps)
+handler_named at name_at (Some (BuiltInFunction k)) = handler_if at 0 false
+handler_named at name_at (Some CodeFunction) = handler_if at 0 false
+handler_named at name_at (Some AbnormalFunction) = handler_if at 0 false
+handler_named at name_at (Some AddingFunction) = handler_if at 0 false
+handler_named at name_at (Some RemovingFunction) = handler_if at 0 false
+handler_named at name_at other = record { found = None; faults = fault_at name_at UnknownName }
+
+-- an argument that is no name breaks that rule where it holds no other fault
+abbrev pub no_handler : ℕ → ResolvedExpression → NamedHandler
+no_handler at r =
+    record {
+      found = None;
+      faults = elim r.found [ Some t ↦ r.faults ++ fault_at at TypeClash | None ↦ r.faults ];
+    }
+
+-- the name that an argument is, parentheses aside
+abbrev pub name_of : Expression → Option Identifier
+name_of (trees.Variable n) = Some n
+name_of (trees.Parentheses at e) = name_of e
+name_of other = None
+
+abbrev pub resolve_handler : Names → ℕ → Option Identifier → ResolvedExpression → NamedHandler
+resolve_handler s at (Some n) r = handler_named at n.start (s.entity n)
+resolve_handler s at None r = no_handler at r
+
+-- the handler that comes after the arguments that are passed
+abbrev pub handler_after : List Wanted → List Argument → NamedHandler
+handler_after ws [] = record { found = None; faults = [] }
+handler_after [] (a ∷ more) = a.handler
+handler_after (w ∷ ws) (a ∷ more) = handler_after ws more
+
+abbrev pub call_naming : (ℕ → Arguments → nodes.Node) → Passed → NamedHandler → ResolvedExpression
+call_naming make p h =
+    record {
+      found = elim p.found [
+        | Some es ↦ elim h.found [ Some f ↦ Some (typed int (make f es)) | None ↦ None ]
+        | None ↦ None
+      ];
+      faults = p.faults ++ h.faults;
+    }
+
+-- a call whose last argument names a vectored handler
+abbrev pub call_with_handler : ℕ → List Wanted → (ℕ → BuiltIn) → List Argument → ResolvedExpression
+call_with_handler at ws of args =
+    given_that (nat_eq (length ws + 1) (length args)) at ArgCount (faults_of args)
+    (call_naming (λ f. nodes.CallBuiltIn (of f)) (pass_all ws args) (handler_after ws args))
+
 -- a call that is right in itself, but has a meaning in some places alone
 abbrev pub only_where : Bool → ℕ → Fault → ResolvedExpression → ResolvedExpression
 only_where allowed at fault r = given_that allowed at fault r.faults r
@@ -256,6 +331,10 @@ call s at (Some CodeFunction) args =
 call s at (Some AbnormalFunction) args =
     only_where s.abnormal at AbnormalOutsideFinally
     (call_with at [] int (λ es. nodes.AbnormalTermination) args)
+call s at (Some AddingFunction) args =
+    call_with_handler at (OfType unsigned ∷ []) (λ f. AddVectored f) args
+call s at (Some RemovingFunction) args =
+    call_with_handler at [] (λ f. RemoveVectored f) args
 call s at other args = bad (fault_at at UnknownName ++ faults_of args)
 
 -- ---- expressions
@@ -308,4 +387,8 @@ abbrev mutual
   pub resolve_arguments : Names → trees.Arguments → List Argument
   resolve_arguments s trees.Done = []
   resolve_arguments s (trees.Next e es) =
-      record { at = start e; resolved = resolve_expression s e } ∷ resolve_arguments s es
+      record {
+        at = start e;
+        resolved = resolve_expression s e;
+        handler = resolve_handler s (start e) (name_of e) (resolve_expression s e);
+      } ∷ resolve_arguments s es

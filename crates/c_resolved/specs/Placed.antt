@@ -1,7 +1,7 @@
 -- What a function is once it is known where its variables stand: the uses of those on the data
 -- stack become places above the base. While it isn't known, each variable is named by its number,
 -- and the address of an array by an offset of 0 above it.
-use Rattle.std.specs.Prelude.{ℕ, List, [], ◌∷◌, slice_get, Option, Some, None, option_map}
+use Rattle.std.specs.Prelude.{ℕ, List, [], ◌∷◌, slice_get, Option, Some, None}
 use Rattle.c_operations.specs.declared.operation.Size.TheVariants as sizes
 use Rattle.c_checked.specs.Expression as nodes
 use Rattle.c_checked.specs.Expression.{Expression, On, Node, Lvalue, Local, Global, Stacked, Indirection, Element, Arguments, Done, Next}

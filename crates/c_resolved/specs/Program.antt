@@ -1,6 +1,6 @@
 -- Programs: what each is resolved to, and all rules that it breaks (C11, 6.9). Every function and
 -- global is visible in the whole text.
-use Rattle.std.specs.Prelude.{ℕ, zero, suc, ◌+◌, ◌-◌, ◌*◌, ◌/◌, ◌%◌, ◌^◌, Bool, true, false, not, ◌&&◌, nat_lt, if◌then◌else◌, List, [], ◌∷◌, ◌++◌, length, map, take, drop, replicate, Option, Some, None}
+use Rattle.std.specs.Prelude.{ℕ, zero, suc, ◌+◌, ◌-◌, ◌*◌, ◌/◌, ◌%◌, ◌^◌, Bool, true, false, not, ◌&&◌, if◌then◌else◌, List, [], ◌∷◌, ◌++◌, length, map, take, drop, replicate, Option, Some, None}
 use Rattle.seh_num.specs.declared.width.Width.TheVariants.{W32, W64}
 use Rattle.seh_num.specs.Widths.{low, wrapped}
 use Rattle.host_layout.specs.declared.range.TheConstants.{FIRST_DATA}

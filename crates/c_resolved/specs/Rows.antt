@@ -2,6 +2,7 @@
 use Rattle.std.specs.Prelude.{◌≡◌, ℕ, false, List, [], ◌∷◌, Some, None}
 use Rattle.seh_num.specs.declared.width.Width.TheVariants.{W8, W32}
 use Rattle.c_lex.specs.declared.token.IntegerType.TheVariants as integers
+use Rattle.c_operations.specs.declared.built_in.BuiltIn.TheVariants.{AddVectored}
 use Rattle.c_operations.specs.declared.operation.Operation.TheVariants as operations
 use Rattle.c_operations.specs.declared.operation.Pure.TheVariants as pures
 use Rattle.c_operations.specs.declared.operation.Relation.TheVariants as relations
@@ -11,7 +12,7 @@ use Rattle.c_checked.specs.declared.expression.Conversion.TheVariants.{Kept, Ext
 use Rattle.c_checked.specs.declared.expression.Fixity.TheVariants.{Postfix}
 use Rattle.c_checked.specs.Expression as nodes
 use Rattle.c_checked.specs.Expression.{On, Done, Next}
-use Rattle.c_syntax.specs.declared.expression.Base.TheVariants.{Char, Int}
+use Rattle.c_syntax.specs.declared.expression.Base.TheVariants.{Char, Int, Unsigned}
 use Rattle.c_syntax.specs.declared.expression.CType.{CType}
 use Rattle.c_syntax.specs.declared.expression.Literal.TheVariants as literals
 use Rattle.c_syntax.specs.declared.expression.Identifier.{Identifier}
@@ -24,13 +25,13 @@ use Rattle.c_syntax.specs.Expression as trees
 use Rattle.c_syntax.specs.Expression.{Expression}
 use Rattle.c_resolved.specs.declared.fault.Fault.TheVariants.{UnknownName, NotLvalue, TypeClash, ArgCount}
 use Rattle.c_resolved.specs.Types.{plain, pointer_to}
-use Rattle.c_resolved.specs.Expressions.{Names, LocalVariable, GlobalVariable, UserFunction, ResolvedExpression, resolve_expression}
+use Rattle.c_resolved.specs.Expressions.{Names, LocalVariable, GlobalVariable, UserFunction, AddingFunction, ResolvedExpression, resolve_expression}
 use Rattle.c_resolved.specs.Scopes.{Scope, names_in}
 
--- the text `c p i f q`, in which the names are: a char, an int *, a char, a function int f(char
--- *), and nothing
+-- the text `c p i f q v a`, in which the names are: a char, an int *, a char, a function int f(char
+-- *), nothing, a function int v(unsigned, unsigned), and AddVectoredExceptionHandler
 abbrev pub text : List ℕ
-text = 99 ∷ 32 ∷ 112 ∷ 32 ∷ 105 ∷ 32 ∷ 102 ∷ 32 ∷ 113 ∷ []
+text = 99 ∷ 32 ∷ 112 ∷ 32 ∷ 105 ∷ 32 ∷ 102 ∷ 32 ∷ 113 ∷ 32 ∷ 118 ∷ 32 ∷ 97 ∷ []
 
 abbrev pub char : CType
 char = plain Char
@@ -42,7 +43,9 @@ abbrev pub scope : Scope
 scope =
     ((99 ∷ []), LocalVariable 0 char) ∷ ((112 ∷ []), LocalVariable 1 int_pointer)
     ∷ ((105 ∷ []), GlobalVariable 0x140001000 char)
-    ∷ ((102 ∷ []), UserFunction 3 (plain Int) (pointer_to char ∷ [])) ∷ []
+    ∷ ((102 ∷ []), UserFunction 3 (plain Int) (pointer_to char ∷ []))
+    ∷ ((118 ∷ []), UserFunction 4 (plain Int) (plain Unsigned ∷ plain Unsigned ∷ []))
+    ∷ ((97 ∷ []), AddingFunction) ∷ []
 
 abbrev pub names : Names
 names = names_in text scope
@@ -59,8 +62,14 @@ p = trees.Variable (at 2 3)
 abbrev pub i : Expression
 i = trees.Variable (at 4 5)
 
+abbrev pub f : Expression
+f = trees.Variable (at 6 7)
+
 abbrev pub q : Expression
 q = trees.Variable (at 8 9)
+
+abbrev pub v : Expression
+v = trees.Variable (at 10 11)
 
 abbrev pub number : ℕ → Expression
 number n = trees.Constant 50 (literals.Integer n integers.Int)
@@ -130,6 +139,27 @@ Calls =
     ≡ record { found = None; faults = record { at = 2; fault = TypeClash } ∷ [] })
     × (resolve_expression names (trees.Call (at 6 7) trees.Done)
     ≡ record { found = None; faults = record { at = 6; fault = ArgCount } ∷ [] })
+
+-- `a(1, h)`
+abbrev pub adding : Expression → Expression
+adding h = trees.Call (at 12 13) (trees.Next (number 1) (trees.Next h trees.Done))
+
+-- `a(1, v)` and `a(1, (v))` name the function; `f` is of another type, `q` is no function, and
+-- `(c)` is no function's name
+abbrev pub Handlers : Type 0
+Handlers =
+    let named = nodes.CallBuiltIn (AddVectored 4) (Next (On (nodes.Constant sizes.Int 1) Kept) Done)
+    in
+    (resolve_expression names (adding v) ≡ found (plain Int) named)
+    × (resolve_expression names (adding (trees.Parentheses 9 v)) ≡ found (plain Int) named)
+    × (resolve_expression names (adding f)
+    ≡ record { found = None; faults = record { at = 6; fault = TypeClash } ∷ [] })
+    × (resolve_expression names (adding q)
+    ≡ record { found = None; faults = record { at = 8; fault = UnknownName } ∷ [] })
+    × (resolve_expression names (adding (trees.Parentheses 9 c))
+    ≡ record { found = None; faults = record { at = 0; fault = UnknownName } ∷ [] })
+    × (resolve_expression names (adding (add c (number 1)))
+    ≡ record { found = None; faults = record { at = 0; fault = TypeClash } ∷ [] })
 
 -- `&c` is a char *, and `&(c)` too
 abbrev pub AddressOfLocal : Type 0

@@ -2,7 +2,7 @@
 use Rattle.std.specs.Prelude.{ℕ, ◌-◌, Bool, true, false, ◌&&◌, nat_eq, if◌then◌else◌, List, [], ◌∷◌, take, drop, Option, Some, None}
 use Rattle.c_syntax.specs.declared.expression.Identifier.{Identifier}
 use Rattle.c_operations.specs.declared.built_in.BuiltIn.TheVariants.{Put, Protect, RaiseException, Walk}
-use Rattle.c_resolved.specs.Expressions.{Entity, BuiltInFunction, CodeFunction, AbnormalFunction, BuiltInConstant, Names}
+use Rattle.c_resolved.specs.Expressions.{Entity, BuiltInFunction, CodeFunction, AbnormalFunction, AddingFunction, RemovingFunction, BuiltInConstant, Names}
 
 abbrev pub spelled : List ℕ → Identifier → List ℕ
 spelled text n = take (n.end - n.start) (drop n.start text)
@@ -29,8 +29,9 @@ names_in text scope =
       abnormal = false;
     }
 
--- put, protect, RaiseException, walk, GetExceptionCode, AbnormalTermination, and the three
--- constants of filters, the accepting one first
+-- put, protect, RaiseException, walk, GetExceptionCode, AbnormalTermination,
+-- AddVectoredExceptionHandler, RemoveVectoredExceptionHandler, and the three constants of filters,
+-- the accepting one first
 abbrev pub built_ins : Scope
 built_ins =
     ((112 ∷ 117 ∷ 116 ∷ []), BuiltInFunction Put)
@@ -49,6 +50,17 @@ built_ins =
       (65 ∷ 98 ∷ 110 ∷ 111 ∷ 114 ∷ 109 ∷ 97 ∷ 108 ∷ 84 ∷ 101 ∷ 114 ∷ 109 ∷ 105 ∷ 110 ∷ 97 ∷ 116
           ∷ 105 ∷ 111 ∷ 110 ∷ []),
       AbnormalFunction,
+    )
+    ∷ (
+      (65 ∷ 100 ∷ 100 ∷ 86 ∷ 101 ∷ 99 ∷ 116 ∷ 111 ∷ 114 ∷ 101 ∷ 100 ∷ 69 ∷ 120 ∷ 99 ∷ 101
+          ∷ 112 ∷ 116 ∷ 105 ∷ 111 ∷ 110 ∷ 72 ∷ 97 ∷ 110 ∷ 100 ∷ 108 ∷ 101 ∷ 114 ∷ []),
+      AddingFunction,
+    )
+    ∷ (
+      (82 ∷ 101 ∷ 109 ∷ 111 ∷ 118 ∷ 101 ∷ 86 ∷ 101 ∷ 99 ∷ 116 ∷ 111 ∷ 114 ∷ 101 ∷ 100 ∷ 69
+          ∷ 120 ∷ 99 ∷ 101 ∷ 112 ∷ 116 ∷ 105 ∷ 111 ∷ 110 ∷ 72 ∷ 97 ∷ 110 ∷ 100 ∷ 108 ∷ 101
+          ∷ 114 ∷ []),
+      RemovingFunction,
     )
     ∷ (
       (69 ∷ 88 ∷ 67 ∷ 69 ∷ 80 ∷ 84 ∷ 73 ∷ 79 ∷ 78 ∷ 95 ∷ 69 ∷ 88 ∷ 69 ∷ 67 ∷ 85 ∷ 84 ∷ 69 ∷ 95 ∷ 72

@@ -29,7 +29,7 @@ pub use Rattle.c_checked.specs.declared.expression.Conversion.{Conversion}
 pub use Rattle.c_checked.specs.declared.expression.Conversion.TheVariants.{Kept, Scale}
 pub use Rattle.c_checked.specs.declared.expression.Fixity.{Fixity}
 pub use Rattle.c_resolved.specs.Accepted.{rank, is_earlier, earlier, least, Accepted}
-pub use Rattle.c_resolved.specs.Expressions.{LocalVariable, Names, FaultAt, resolve_expression, Entity, GlobalVariable, GlobalArray, UserFunction, BuiltInFunction, CodeFunction, AbnormalFunction, BuiltInConstant, ResolvedExpression, ruled, rule_1, rule_2, rule_3, given_that, literal, name, field, Wanted, built_in_wants, fits, passed, Argument, Passed, before, spoiled, pass, pass_all, called, call_with, call, changed, resolve_arguments, OfType, ZeroLiteral, fault_at, integer_base, constant, is_lvalue, LocalArray, operand_is_lvalue, unsigned, built_in_result, faults_of, only_where}
+pub use Rattle.c_resolved.specs.Expressions.{LocalVariable, Names, FaultAt, resolve_expression, Entity, GlobalVariable, GlobalArray, UserFunction, BuiltInFunction, CodeFunction, AbnormalFunction, AddingFunction, RemovingFunction, NamedHandler, is_handler_type, handler_if, handler_named, no_handler, name_of, resolve_handler, handler_after, call_naming, call_with_handler, BuiltInConstant, ResolvedExpression, ruled, rule_1, rule_2, rule_3, given_that, literal, name, field, Wanted, built_in_wants, fits, passed, Argument, Passed, before, spoiled, pass, pass_all, called, call_with, call, changed, resolve_arguments, OfType, ZeroLiteral, fault_at, integer_base, constant, is_lvalue, LocalArray, operand_is_lvalue, unsigned, built_in_result, faults_of, only_where}
 pub use Rattle.c_resolved.specs.Operators.{TypedNode, typed, void_pointer, as_is, as_type, branch_type, as_branch, chosen, conditional_of, comma_of, compound_assigned, assigned, only_if, as_index, lvalue_of, with_lvalue, can_become, is_additive, right_operand, on_integers, sum, difference, arithmetic_of, comparison_of, binary_of, address, unary_of, cast_of, element_of, incremented, is_shift, working_type, int, operation_of, operation_in, long_operation, moved, relation_of, compared, are_comparable, increment_operator}
 pub use Rattle.c_resolved.specs.Program.{parameter_variable, first_data, constant_value, bytes_of_number, bytes_of_all, filled, initial_value, global_entity, File, padded, with_global, with_globals, parameter_types, with_external_declaration, file_of, empty_file, with_parameters, result_size, around, function_of, functions_of, parameter_faults, main_name, are_main_parameters, place_of_function, main_of, resolve}
 pub use Rattle.c_resolved.specs.ResolutionLaws.{IsNoLater, IsLeast, LeastIsReported, AcceptedIsSound}

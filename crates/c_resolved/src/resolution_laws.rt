@@ -1,7 +1,7 @@
 //! Laws, and worked expressions.
 
 ghost use Rattle.c_resolved.specs.ResolutionLaws.{AcceptedIsSound, LeastIsReported};
-ghost use Rattle.c_resolved.specs.Rows.{CharAndInt, PointerAndIndex, PointerAndZero, Changes, Calls, Faults};
+ghost use Rattle.c_resolved.specs.Rows.{CharAndInt, PointerAndIndex, PointerAndZero, Changes, Calls, Handlers, AddressOfLocal, Faults};
 
 /// Types, conversions and scaling of small expressions, and the places of faults in others.
 pub fn rows()
@@ -10,6 +10,8 @@ pub fn rows()
     ensures pointer_and_zero { PointerAndZero }
     ensures changes { Changes }
     ensures calls { Calls }
+    ensures handlers { Handlers }
+    ensures address_of_local { AddressOfLocal }
     ensures faults { Faults }
 {}
 

@@ -1,5 +1,5 @@
--- The dispatcher: what is done between two funclets. All suspended work is in records in the
--- machine's stack.
+-- The dispatcher: what is done between funclets and vectored handlers. All suspended work is in
+-- records in the machine's stack.
 use Rattle.std.specs.Prelude.{ℕ, zero, suc, ◌+◌, ◌%◌, ◌^◌, Bool, true, false, ◌==◌, nat_le, List, [], ◌∷◌, replicate, Option, Some, None, slice_get, slice_index, slice_set, ◌-◌}
 use Rattle.seh_num.specs.declared.width.Width.TheVariants.{W32, W64}
 use Rattle.seh_num.specs.declared.event.Code.{Code}
@@ -98,7 +98,8 @@ landed c rax target = record {
 abbrev pub at_landing : State → Context → ℕ → ℕ → State
 at_landing s c rax target = record s { cpu = landed c rax target }
 
--- an unwinding for an exception shows that an `__except` block took over
+-- an unwinding for an exception shows that an `__except` block took over; a record of a search or
+-- of vectored handlers lands nowhere, since each that accepts becomes one of an unwinding first
 abbrev pub by_purpose : State → DispatchRecord → Context → Kind → Turn
 by_purpose s r c Search = Continues (at_landing s c 0 r.target) []
 by_purpose s r c ExceptionUnwind =
@@ -153,7 +154,7 @@ searches_on t s at r = after_search t s at r (search steps t s.memory (walk_in r
 
 -- past the last of them the record is for a search, from the saved state
 abbrev pub searching : DispatchRecord → DispatchRecord
-searching r = record r { kind = Search; row = 0 }
+searching r = begun (record r { kind = Search })
 
 -- the search begins
 abbrev pub searches_from : Functions → State → ℕ → DispatchRecord → Turn

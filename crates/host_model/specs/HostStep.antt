@@ -1,4 +1,5 @@
--- One turn of the host: an instruction, a service, or the dispatch between two funclets.
+-- One turn of the host: an instruction, a service, or the dispatch between funclets and vectored
+-- handlers.
 use Rattle.std.specs.Prelude.{ℕ, ◌+◌, ◌%◌, ◌^◌, Bool, true, false, not, ◌==◌, List, [], ◌∷◌, map, is_some, Option, Some, None, Result, Ok, Err}
 use Rattle.std.specs.List.{filter_map}
 use Rattle.seh_num.specs.declared.width.Width.TheVariants.{W32, W64}

@@ -1,11 +1,14 @@
 -- Where the routines of a program are, and how many bytes its sections take.
-use Rattle.std.proofs.Common.{◌≡◌, ℕ, zero, suc, ◌+◌, ◌*◌, ◌<◌, ◌≤◌, List, [], ◌∷◌, length, get_or, take, drop, ◌++◌, Option, Some, None, refl, ◌∙◌, arith, length-append}
+use Rattle.std.proofs.Common.{◌≡◌, ℕ, zero, suc, ◌+◌, ◌*◌, ◌<◌, ◌≤◌, List, [], ◌∷◌, length, get_or, take, drop, ◌++◌, Option, Some, None, refl, ap, ◌∙◌, arith, length-append}
 use Rattle.std.specs.List.{AllByRecursion}
+use Rattle.std.proofs.lemmas.List.{length-take-le}
 use Rattle.eh_tables.specs.declared.range.RuntimeFunction.{RuntimeFunction}
-use Rattle.image_link.specs.Words.{u32, table_bytes, FrameLayout, spelled, code_from, AreNear, IsNear, links_of, RoutineView, IsRoutineNear, SiteView, room, routine_size, entry_code, entry_size, bounds, front_code, front_size, first_routine_at, addresses, check_stack_at, routine_code, routine_bytes, routines_bytes, apart_code, apart_bytes, all_apart_bytes, text_bytes, info_bytes, infos_room, infos, range_if, range_at, range_of, ranges, Fragment, fragments_of, fragments, fragment_ranges, chained_bytes, chained_infos, all_infos, all_ranges, total, cold_size, cold_total, hot_code, cold_code}
+use Rattle.image_link.specs.declared.place.TheConstants.{ROUTINE_ROOM}
+use Rattle.image_link.specs.Words.{u32, table_bytes, FrameLayout, spelled, code_from, AreNear, IsNear, links_of, RoutineView, IsRoutineNear, SiteView, room, routine_size, entry_code, entry_size, bounds, front_code, front_size, first_routine_at, addresses, check_stack_at, routine_code, routine_bytes, routines_bytes, apart_code, apart_bytes, all_apart_bytes, site_blocks, step_of, text_bytes, info_bytes, infos_room, infos, range_if, range_at, range_of, ranges, Fragment, fragments_of, fragments, fragment_ranges, chained_bytes, chained_infos, all_infos, all_ranges, total, cold_size, cold_total, hot_code, cold_code}
 use Rattle.image_link.proofs.Lemmas.{sizes_append, sizes_spelled, body_sizes}
 use Rattle.image_link.proofs.Entries.{entry_sizes, routine_small}
 use Rattle.image_link.proofs.Front.{front_sizes}
+use Rattle.image_link.proofs.Blocks.{blocks_length}
 use Rattle.image_link.proofs.Infos.{info_small, fragments_few, chained_length}
 
 -- ---- bounds
@@ -98,16 +101,23 @@ all_apart_length s at cold (r ∷ rs) =
     )
 
 pub text_length : (s : SiteView) (rs : List RoutineView) → AllByRecursion IsRoutineNear rs
-    → length (text_bytes s rs) ≡ front_size s.imports + total rs + cold_total rs
-text_length s rs near =
+    → s.blocks.count ≤ length s.functions
+    → length (text_bytes s rs)
+    ≡ front_size s.imports + total rs + cold_total rs + step_of s.blocks * s.blocks.count
+text_length s rs near fewer =
     let first = first_routine_at s.imports s.text in
     let cold = first + total rs in
     let front = spelled (front_code s.imports s.text s.rdata) in
     let l = routines_length s first cold rs near in
     let m = all_apart_length s first cold rs in
     let f = front_sizes s.imports s.text s.rdata in
+    let b = blocks_length s.imports s.rdata s.blocks s.blocks.first
+    (take s.blocks.count s.functions) ∙ ap (λ (n : ℕ). step_of s.blocks * n)
+    (length-take-le s.blocks.count s.functions fewer) in
     omega (
       arith,
+      length-append (front ++ routines_bytes s first cold rs ++ all_apart_bytes s first cold rs)
+          (site_blocks s),
       length-append (front ++ routines_bytes s first cold rs) (all_apart_bytes s first cold rs),
       length-append front (routines_bytes s first cold rs),
       sizes_spelled (front_code s.imports s.text s.rdata),
@@ -211,6 +221,6 @@ tables_small s info at cold rs =
       length-append (ranges s info at cold rs) (fragment_ranges next of),
     )
 
-pub count_small : (rs : List RoutineView) → 512 * length rs ≤ room rs
+pub count_small : (rs : List RoutineView) → ROUTINE_ROOM * length rs ≤ room rs
 count_small [] = omega arith
 count_small (r ∷ rs) = let c = count_small rs in omega arith

@@ -7,7 +7,7 @@ use Rattle.host_layout.specs.Imported.{number_of}
 use Rattle.host_layout.specs.declared.imported.ImportedService.TheVariants.{AddVectored, RaiseException, RemoveVectored, CSpecificHandler, LocalUnwind, Protect, Put, Walk}
 use Rattle.template_code.specs.Probing.{check_stack}
 use Rattle.pe_write.specs.ImportTables.{place_of}
-use Rattle.image_link.specs.Words.{ImportedService, LinearProgram, size, sizes, modrm, hint_name_size, import_names_size, tables_size, IsNear, thunk_at, service_thunk, front_code, front_size, calls_walk, services_if, services_of, IsImportedIf, IsImported, AreFew}
+use Rattle.image_link.specs.Words.{ImportedService, LinearProgram, size, sizes, modrm, hint_name_size, import_names_size, tables_size, IsNear, thunk_at, service_thunk, front_code, front_size, calls, services_if, services_of, IsImportedIf, IsImported, AreFew}
 use Rattle.std.proofs.lemmas.Bool.{false≢true}
 use Rattle.image_link.proofs.Lemmas.{sizes_append}
 
@@ -79,42 +79,98 @@ names_small (s ∷ ss) = let n = name_small s in let r = names_small ss in omega
 pub imports_small : (ss : List ImportedService) → AreFew ss → tables_size ss ≤ 8192
 imports_small ss few = let n = names_small ss in omega arith
 
--- the services that a program imports, by whether it calls `walk`
-pub services_are : (p : LinearProgram) (walks : Bool) → walks ≡ calls_walk p
-    → services_if walks ≡ services_of p
+-- the services that a program imports, by which of them it calls
+pub services_are : (p : LinearProgram) (adds removes walks : Bool) → adds ≡ calls AddVectored p
+    → removes ≡ calls RemoveVectored p → walks ≡ calls Walk p
+    → services_if adds removes walks ≡ services_of p
 unfolding services_of
-services_are p walks e = ap services_if e
+services_are p adds removes walks a r w = λ i. services_if (a i) (r i) (w i)
 
 -- a program imports few services
 pub services_few : (p : LinearProgram) → AreFew (services_of p)
 unfolding services_of
-services_few p = by (calls_walk p)
+services_few p = by (calls AddVectored p) (calls RemoveVectored p) (calls Walk p)
   where
-    by : (walks : Bool) → AreFew (services_if walks)
-    by true = omega arith
-    by false = omega arith
+    by : (adds removes walks : Bool) → AreFew (services_if adds removes walks)
+    by true true true = omega arith
+    by true true false = omega arith
+    by true false true = omega arith
+    by true false false = omega arith
+    by false true true = omega arith
+    by false true false = omega arith
+    by false false true = omega arith
+    by false false false = omega arith
 
-among : (walks : Bool) (v : ImportedService) → IsImportedIf walks v
-    → place_of (services_if walks) v < length (services_if walks)
-among true RaiseException e = omega arith
-among true CSpecificHandler e = omega arith
-among true LocalUnwind e = omega arith
-among true Protect e = omega arith
-among true Put e = omega arith
-among true Walk e = omega arith
-among true AddVectored e = absurd e
-among true RemoveVectored e = absurd e
-among false RaiseException e = omega arith
-among false CSpecificHandler e = omega arith
-among false LocalUnwind e = omega arith
-among false Protect e = omega arith
-among false Put e = omega arith
-among false Walk e = absurd (false≢true e)
-among false AddVectored e = absurd e
-among false RemoveVectored e = absurd e
+among : (adds removes walks : Bool) (v : ImportedService) → IsImportedIf adds removes walks v
+    → place_of (services_if adds removes walks) v < length (services_if adds removes walks)
+among true true true RaiseException e = omega arith
+among true true true CSpecificHandler e = omega arith
+among true true true LocalUnwind e = omega arith
+among true true true Protect e = omega arith
+among true true true Put e = omega arith
+among true true true AddVectored e = omega arith
+among true true true RemoveVectored e = omega arith
+among true true true Walk e = omega arith
+among true true false RaiseException e = omega arith
+among true true false CSpecificHandler e = omega arith
+among true true false LocalUnwind e = omega arith
+among true true false Protect e = omega arith
+among true true false Put e = omega arith
+among true true false AddVectored e = omega arith
+among true true false RemoveVectored e = omega arith
+among true true false Walk e = absurd (false≢true e)
+among true false true RaiseException e = omega arith
+among true false true CSpecificHandler e = omega arith
+among true false true LocalUnwind e = omega arith
+among true false true Protect e = omega arith
+among true false true Put e = omega arith
+among true false true AddVectored e = omega arith
+among true false true RemoveVectored e = absurd (false≢true e)
+among true false true Walk e = omega arith
+among true false false RaiseException e = omega arith
+among true false false CSpecificHandler e = omega arith
+among true false false LocalUnwind e = omega arith
+among true false false Protect e = omega arith
+among true false false Put e = omega arith
+among true false false AddVectored e = omega arith
+among true false false RemoveVectored e = absurd (false≢true e)
+among true false false Walk e = absurd (false≢true e)
+among false true true RaiseException e = omega arith
+among false true true CSpecificHandler e = omega arith
+among false true true LocalUnwind e = omega arith
+among false true true Protect e = omega arith
+among false true true Put e = omega arith
+among false true true AddVectored e = absurd (false≢true e)
+among false true true RemoveVectored e = omega arith
+among false true true Walk e = omega arith
+among false true false RaiseException e = omega arith
+among false true false CSpecificHandler e = omega arith
+among false true false LocalUnwind e = omega arith
+among false true false Protect e = omega arith
+among false true false Put e = omega arith
+among false true false AddVectored e = absurd (false≢true e)
+among false true false RemoveVectored e = omega arith
+among false true false Walk e = absurd (false≢true e)
+among false false true RaiseException e = omega arith
+among false false true CSpecificHandler e = omega arith
+among false false true LocalUnwind e = omega arith
+among false false true Protect e = omega arith
+among false false true Put e = omega arith
+among false false true AddVectored e = absurd (false≢true e)
+among false false true RemoveVectored e = absurd (false≢true e)
+among false false true Walk e = omega arith
+among false false false RaiseException e = omega arith
+among false false false CSpecificHandler e = omega arith
+among false false false LocalUnwind e = omega arith
+among false false false Protect e = omega arith
+among false false false Put e = omega arith
+among false false false AddVectored e = absurd (false≢true e)
+among false false false RemoveVectored e = absurd (false≢true e)
+among false false false Walk e = absurd (false≢true e)
 
 -- and each that it imports is among them
 pub services_there : (p : LinearProgram) (v : ImportedService) → IsImported p v
     → place_of (services_of p) v < length (services_of p)
 unfolding services_of
-services_there p v e = among (calls_walk p) v e
+services_there p v e =
+    among (calls AddVectored p) (calls RemoveVectored p) (calls Walk p) v e

@@ -4,12 +4,14 @@ use Rattle.std.proofs.Common.{◌≡◌, ℕ, zero, suc, ◌+◌, ◌-◌, ◌*�
 use Rattle.std.specs.Prelude.{◌&&◌, IfOk}
 use Rattle.std.specs.List.{AllByRecursion}
 use Rattle.std.proofs.lemmas.Bool.{eq-eqb}
-use Rattle.image_link.specs.Words.{ImportedService, LinearBody, LinearFunction, LinearFunclet, LinearProgram, CanBeImage, ImageContents, RoutineView, is_leaf, framed, leaf_if, functions_from, funclet, no_function, function_of_index, routines, IsRoutineNear, IsSiteNear, AreFew, HasRoom, HasNames, HasPlaces, table_bytes, SiteView, room, routine_size, bounds, first_routine_at, text_bytes, infos_room, all_infos, all_ranges, first, first_cold, names_of, total, cold_size, xdata_begin, IsPlacement, site, image_of, nothing, CodeRange, parts_at, part_rows, cold_rows, NameRow, names_size, name_table_size, calls_walk, named_if, named_functions, function_rows, names_room, services_of, linked, FitsProgram, tables_room, function_bodies, funclet_bodies, program_tables_room}
+use Rattle.std.proofs.lemmas.List.{length-take-le}
+use Rattle.image_link.specs.Words.{ImportedService, LinearBody, LinearFunction, LinearFunclet, LinearProgram, CanBeImage, ImageContents, RoutineView, is_leaf, framed, leaf_if, functions_from, funclet, no_function, function_of_index, routines, IsRoutineNear, IsSiteNear, AreFew, HasRoom, HasNames, HasPlaces, table_bytes, SiteView, room, routine_size, bounds, first_routine_at, text_bytes, infos_room, all_infos, all_ranges, first, first_cold, first_block, blocks_at, names_of, total, cold_size, xdata_begin, IsPlacement, site, image_of, nothing, CodeRange, parts_at, part_rows, cold_rows, NameRow, names_size, name_table_size, calls_walk, named_if, named_functions, function_rows, names_room, services_of, linked, FitsProgram, tables_room, function_bodies, funclet_bodies, program_tables_room}
 use Rattle.image_link.specs.declared.placement.Placement.{Placement}
 use Rattle.image_link.specs.declared.routine.Entry.TheVariants as entries
 use Rattle.image_link.specs.Laws.{ImagesAreSmall}
 use Rattle.image_link.proofs.Entries.{framed_some}
 use Rattle.image_link.proofs.Front.{imports_small, services_few}
+use Rattle.image_link.proofs.Blocks.{blocks_small, blocks_few}
 use Rattle.image_link.proofs.Nearness.{function_facts_fit, function_at, routines_near, routines_room}
 use Rattle.image_link.proofs.Infos.{parts_length}
 use Rattle.image_link.proofs.Bounds.{bounds_length, bounds_least, bounds_below, total_small, bounds_near, take_near, drop_near, text_length, cold_count, cold_count_taken, all_infos_length, tables_small, count_small}
@@ -31,6 +33,19 @@ pub past : (b : List ℕ) (at : ℕ) (rs : List RoutineView) (i text : ℕ) → 
 past b at rs i text e le lt = let l = bounds_least at rs i 0 le in
     let s = ap (λ (xs : List ℕ). get_or xs i 0) e in omega arith
 
+-- a site has no more blocks than functions
+pub site_fewer : (imports : List ImportedService) (g : List ℕ) (rs : List RoutineView)
+    (functions : ℕ) → functions ≤ length rs
+    → (site imports g rs functions).blocks.count
+    ≤ length (site imports g rs functions).functions
+site_fewer imports g rs functions fewer =
+    let l = bounds_length (first imports g) rs in
+    let few = blocks_few imports (first_block imports g rs) functions in
+    omega (
+      arith,
+      length-take-le functions (bounds (first imports g) rs) (omega arith),
+    )
+
 pub site_near : (imports : List ImportedService) (g : List ℕ) (rs : List RoutineView)
     (functions main : ℕ) → AreFew imports → length g ≤ MOST_GLOBALS
     → AllByRecursion IsRoutineNear rs → HasPlaces rs functions main
@@ -39,12 +54,16 @@ site_near imports g rs functions main services few near places =
     let t = total_small rs near in
     let r = places.room in
     let b = bounds_near (first imports g) rs near (omega arith) in
+    let fewer = places.fewer in
+    let blocks = blocks_small imports functions in
     record {
       imports = services;
       text = omega arith;
       rdata = omega arith;
       functions = take_near functions (bounds (first imports g) rs) b;
       funclets = drop_near functions (bounds (first imports g) rs) b;
+      blocks = omega arith;
+      fewer = site_fewer imports g rs functions fewer;
     }
 
 -- the rows and the names take as many bytes as they have room
@@ -94,10 +113,12 @@ table_small imports g rs named =
 
 -- the tables end below 2^31
 pub tables_fit : (imports : List ImportedService) (g : List ℕ) (rs : List RoutineView)
-    → AreFew imports → length g ≤ MOST_GLOBALS → AllByRecursion IsRoutineNear rs → HasRoom rs
-    → xdata_begin imports g rs + infos_room rs < 2 ^ 31
-tables_fit imports g rs services few near room =
+    (functions : ℕ) → AreFew imports → length g ≤ MOST_GLOBALS
+    → AllByRecursion IsRoutineNear rs → HasRoom rs → functions ≤ length rs
+    → xdata_begin imports g rs functions + infos_room rs < 2 ^ 31
+tables_fit imports g rs functions services few near room fewer =
     let t = total_small rs near in
+    let b = blocks_small imports functions in
     let i = imports_small imports services in
     omega arith
 
@@ -114,9 +135,11 @@ is_program imports g rs functions main named services few near places names d =
     let at = first imports g in
     let cold = first_cold imports g rs in
     let table = table_small imports g rs named in
-    let text = text_length s rs near in
-    let xdata = all_infos_length s (xdata_begin imports g rs) at cold rs near in
-    let pdata = tables_small s (xdata_begin imports g rs) at cold rs in
+    let fewer = places.fewer in
+    let blocks = blocks_small imports functions in
+    let text = text_length s rs near (site_fewer imports g rs functions fewer) in
+    let xdata = all_infos_length s (xdata_begin imports g rs functions) at cold rs near in
+    let pdata = tables_small s (xdata_begin imports g rs functions) at cold rs in
     let some = places.some d in
     let below = bounds_below (first imports g) rs main 0 d places.there in
     record {
@@ -132,7 +155,8 @@ is_program imports g rs functions main named services few near places names d =
 
 -- the addresses that routines refer to, where the sections lie at p and the routines between bounds
 module _ (imports : List ImportedService) (g b : List ℕ) (rs : List RoutineView) (functions : ℕ)
-    (p : Placement) (is : IsPlacement imports g rs p) (between : b ≡ bounds (first imports g) rs)
+    (p : Placement) (is : IsPlacement imports g rs functions p)
+    (between : b ≡ bounds (first imports g) rs) (at : ℕ) (behind : at ≡ first_block imports g rs)
     (s : SiteView)
     (same : s
     ≡ record {
@@ -141,6 +165,7 @@ module _ (imports : List ImportedService) (g b : List ℕ) (rs : List RoutineVie
       rdata = p.rdata;
       functions = take functions b;
       funclets = drop functions b;
+      blocks = blocks_at imports at functions;
     }) where
   site_is : s ≡ site imports g rs functions
   site_is =
@@ -152,6 +177,7 @@ module _ (imports : List ImportedService) (g b : List ℕ) (rs : List RoutineVie
         rdata = rdata i;
         functions = take functions (between i);
         funclets = drop functions (between i);
+        blocks = blocks_at imports (behind i) functions;
       }
 
   pub is_site_near : (main : ℕ) → AreFew imports → length g ≤ MOST_GLOBALS
@@ -159,11 +185,11 @@ module _ (imports : List ImportedService) (g b : List ℕ) (rs : List RoutineVie
   is_site_near main services few near places = subst IsSiteNear (sym site_is)
       (site_near imports g rs functions main services few near places)
 
-  pub image_is : (main entry at : ℕ) (text xdata pdata : List ℕ) (rows : List NameRow)
+  pub image_is : (main entry start : ℕ) (text xdata pdata : List ℕ) (rows : List NameRow)
       (named : List LinearFunction) → entry ≡ get_or b main 0 - p.text
-      → at ≡ first_routine_at imports p.text → text ≡ text_bytes s rs
-      → xdata ≡ all_infos s p.xdata at (at + total rs) rs
-      → pdata ≡ table_bytes (all_ranges s p.xdata at (at + total rs) rs)
+      → start ≡ first_routine_at imports p.text → text ≡ text_bytes s rs
+      → xdata ≡ all_infos s p.xdata start (start + total rs) rs
+      → pdata ≡ table_bytes (all_ranges s p.xdata start (start + total rs) rs)
       → rows ≡ names_of imports g rs named
       → record {
         imports = imports;
@@ -175,7 +201,7 @@ module _ (imports : List ImportedService) (g b : List ℕ) (rs : List RoutineVie
         pdata = pdata;
         names = rows;
       } ≡ image_of imports g rs functions main named
-  image_is main entry at text xdata pdata rows named n e k i q w =
+  image_is main entry start text xdata pdata rows named n e k i q w =
       let d = is.data_size in
       let begin = is.text in
       let table = is.xdata in
@@ -345,7 +371,10 @@ images_are_small p fits =
     let small = fits.small in
     let names = named_within (calls_walk p) p.functions in
     let table = table_small imports g rs (named_functions p) in
-    let text = text_length s rs near in
-    let xdata = all_infos_length s (xdata_begin imports g rs) at cold rs near in
-    let pdata = tables_small s (xdata_begin imports g rs) at cold rs in
+    let fewer = (has_places p fits).fewer in
+    let blocks = blocks_small imports (length p.functions) in
+    let text = text_length s rs near (site_fewer imports g rs (length p.functions) fewer) in
+    let info = xdata_begin imports g rs (length p.functions) in
+    let xdata = all_infos_length s info at cold rs near in
+    let pdata = tables_small s info at cold rs in
     omega arith

@@ -14,6 +14,7 @@ use Rattle.template_code.specs.declared.layout.TheConstants.{MOST_REGISTERS, FRA
 use Rattle.template_code.specs.ColdParts.{AreParts, is_cold}
 use Rattle.x64_emit.specs.Near.{IsFieldNear}
 use Rattle.x64_emit.specs.Rooms.{code_room}
+use Rattle.image_link.specs.declared.place.TheConstants.{ROUTINE_ROOM}
 use Rattle.image_link.specs.Routines.{HasParent}
 use Rattle.image_link.specs.Walks.{IsNamed, names_room}
 use Rattle.host_layout.specs.declared.limit.TheConstants.{MOST_IMAGE}
@@ -80,7 +81,7 @@ pub record FitsFunclet (p : LinearProgram) (f : LinearFunclet) : Type 0 where
 -- how many bytes bodies take at most, each with what comes before it
 abbrev pub room : List LinearBody → ℕ
 room [] = 0
-room (b ∷ bs) = 512 + code_room b.code + room bs
+room (b ∷ bs) = ROUTINE_ROOM + code_room b.code + room bs
 
 abbrev pub function_bodies : List LinearFunction → List LinearBody
 function_bodies [] = []

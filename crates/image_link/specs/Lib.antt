@@ -1,3 +1,5 @@
+pub mod Services
+pub mod Handlers
 pub mod Routines
 pub mod Text
 pub mod Places

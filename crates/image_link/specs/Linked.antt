@@ -10,10 +10,12 @@ use Rattle.linear_code.specs.Program.{LinearFunction, LinearProgram}
 use Rattle.host_layout.specs.declared.imported.ImportedService.{ImportedService}
 use Rattle.pe_write.specs.ImportTables.{tables_size}
 use Rattle.image_link.specs.declared.placement.Placement.{Placement}
+use Rattle.image_link.specs.Handlers.{blocks_at, blocks_size}
 use Rattle.image_link.specs.Routines.{RoutineView, routines}
+use Rattle.image_link.specs.Services.{services_of}
 use Rattle.image_link.specs.Text.{SiteView, total, cold_total, bounds, front_size, first_routine_at, text_bytes}
 use Rattle.image_link.specs.Tables.{all_infos, all_ranges}
-use Rattle.image_link.specs.Walks.{services_of, named_functions, function_rows, cold_rows}
+use Rattle.image_link.specs.Walks.{named_functions, function_rows, cold_rows}
 
 -- ---- where things are
 
@@ -35,31 +37,38 @@ first imports globals = first_routine_at imports (text_begin globals)
 abbrev pub first_cold : List ImportedService → List ℕ → List RoutineView → ℕ
 first_cold imports globals rs = first imports globals + total rs
 
-abbrev pub text_size : List ImportedService → List RoutineView → ℕ
-text_size imports rs = front_size imports + total rs + cold_total rs
-
-abbrev pub rdata_begin : List ImportedService → List ℕ → List RoutineView → ℕ
-rdata_begin imports globals rs = rdata_after (data_size globals) (text_size imports rs)
-
-abbrev pub xdata_begin : List ImportedService → List ℕ → List RoutineView → ℕ
-xdata_begin imports globals rs =
-    xdata_after (data_size globals) (text_size imports rs) (tables_size imports)
-
-pub record IsPlacement (imports : List ImportedService) (globals : List ℕ) (rs : List RoutineView)
-    (p : Placement) : Type 0 where
-  pub data_size : p.data_size ≡ data_size globals
-  pub text : p.text ≡ text_begin globals
-  pub rdata : p.rdata ≡ rdata_begin imports globals rs
-  pub xdata : p.xdata ≡ xdata_begin imports globals rs
+-- and the blocks of functions behind these
+abbrev pub first_block : List ImportedService → List ℕ → List RoutineView → ℕ
+first_block imports globals rs = first_cold imports globals rs + cold_total rs
 
 -- so many of the routines are functions
+abbrev pub text_size : List ImportedService → List RoutineView → ℕ → ℕ
+text_size imports rs functions =
+    front_size imports + total rs + cold_total rs + blocks_size imports functions
+
+abbrev pub rdata_begin : List ImportedService → List ℕ → List RoutineView → ℕ → ℕ
+rdata_begin imports globals rs functions =
+    rdata_after (data_size globals) (text_size imports rs functions)
+
+abbrev pub xdata_begin : List ImportedService → List ℕ → List RoutineView → ℕ → ℕ
+xdata_begin imports globals rs functions =
+    xdata_after (data_size globals) (text_size imports rs functions) (tables_size imports)
+
+pub record IsPlacement (imports : List ImportedService) (globals : List ℕ) (rs : List RoutineView)
+    (functions : ℕ) (p : Placement) : Type 0 where
+  pub data_size : p.data_size ≡ data_size globals
+  pub text : p.text ≡ text_begin globals
+  pub rdata : p.rdata ≡ rdata_begin imports globals rs functions
+  pub xdata : p.xdata ≡ xdata_begin imports globals rs functions
+
 abbrev pub site : List ImportedService → List ℕ → List RoutineView → ℕ → SiteView
 site imports globals rs functions = record {
   imports = imports;
   text = text_begin globals;
-  rdata = rdata_begin imports globals rs;
+  rdata = rdata_begin imports globals rs functions;
   functions = take functions (bounds (first imports globals) rs);
   funclets = drop functions (bounds (first imports globals) rs);
+  blocks = blocks_at imports (first_block imports globals rs) functions;
 }
 
 -- the rows of the table of names: those of functions, which are the first of the routines, and then
@@ -82,11 +91,11 @@ image_of imports globals rs functions main named =
       text = text_bytes s rs;
       entry = get_or (bounds (first imports globals) rs) main 0 - text_begin globals;
       xdata =
-          all_infos s (xdata_begin imports globals rs) (first imports globals)
+          all_infos s (xdata_begin imports globals rs functions) (first imports globals)
           (first_cold imports globals rs) rs;
       pdata =
-          table_bytes (all_ranges s (xdata_begin imports globals rs) (first imports globals)
-          (first_cold imports globals rs) rs);
+          table_bytes (all_ranges s (xdata_begin imports globals rs functions)
+          (first imports globals) (first_cold imports globals rs) rs);
       names = names_of imports globals rs named;
     }
 

@@ -7,12 +7,15 @@ use Rattle.frame_layout.specs.declared.frame.FrameLayout.{FrameLayout}
 use Rattle.frame_layout.specs.Layout.{IsFrame}
 use Rattle.template_code.specs.declared.layout.Layout.{Layout}
 use Rattle.template_code.specs.ColdParts.{AreParts}
-use Rattle.x64_emit.specs.Near.{AreNear, IsSlotNear, AreParametersNear, ArePointersNear, IsInstructionNear}
+use Rattle.x64_emit.specs.Near.{AreNear, IsNear, IsSlotNear, AreParametersNear, ArePointersNear, IsInstructionNear}
 use Rattle.x64_emit.specs.Entries.{IsKeptNear}
 use Rattle.host_layout.specs.declared.imported.ImportedService.{ImportedService}
+use Rattle.image_link.specs.declared.handlers.Blocks.{Blocks}
+use Rattle.x64_emit.specs.declared.handlers.TheConstants.{NAME_THUNK_SIZE, STUB_SIZE}
 use Rattle.image_link.specs.declared.place.TheConstants.{MOST_IMPORTS}
 use Rattle.image_link.specs.declared.routine.Entry.{Entry}
 use Rattle.image_link.specs.declared.routine.Entry.TheVariants as entries
+use Rattle.image_link.specs.Handlers.{step_of}
 use Rattle.image_link.specs.Routines.{RoutineView}
 use Rattle.image_link.specs.Text.{SiteView, base_of, room, routine_size}
 use Rattle.image_link.specs.Tables.{infos_room}
@@ -43,6 +46,10 @@ pub record IsRoutineNear (r : RoutineView) : Type 0 where
 abbrev pub AreFew : List ImportedService → Type 0
 AreFew imports = length imports ≤ MOST_IMPORTS
 
+-- blocks, with the stubs that were in one behind the last of them
+abbrev pub AreBlocksNear : Blocks → Type 0
+AreBlocksNear b = IsNear (b.first + NAME_THUNK_SIZE + STUB_SIZE + step_of b * b.count)
+
 -- the addresses that routines refer to
 pub record IsSiteNear (s : SiteView) : Type 0 where
   pub imports : AreFew s.imports
@@ -50,6 +57,8 @@ pub record IsSiteNear (s : SiteView) : Type 0 where
   pub rdata : s.rdata ≤ MOST_IMAGE
   pub functions : AreNear s.functions
   pub funclets : AreNear s.funclets
+  pub blocks : AreBlocksNear s.blocks
+  pub fewer : s.blocks.count ≤ length s.functions
 
 -- all routines and their tables have room in an image
 abbrev pub HasRoom : List RoutineView → Type 0

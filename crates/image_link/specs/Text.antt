@@ -1,6 +1,6 @@
--- The text of a program: the thunks of its services, `__chkstk`, its routines, and then their cold
--- parts.
-use Rattle.std.specs.Prelude.{ℕ, ◌+◌, ◌*◌, List, [], ◌∷◌, ◌++◌, length, map, Option, Some, None}
+-- The text of a program: the thunks of its services, `__chkstk`, its routines, their cold parts, and
+-- the blocks of its functions for vectored handlers, where it has any.
+use Rattle.std.specs.Prelude.{ℕ, ◌+◌, ◌*◌, List, [], ◌∷◌, ◌++◌, length, map, take, Option, Some, None}
 use Rattle.seh_num.specs.declared.width.Width.TheVariants.{W32}
 use Rattle.x64_instr.specs.declared.register.Reg.TheVariants.{Rax, Rcx}
 use Rattle.x64_instr.specs.declared.instruction.Instr.{Instr}
@@ -28,8 +28,11 @@ use Rattle.x64_emit.specs.Rooms.{code_room}
 use Rattle.x64_emit.specs.Bodies.{label_list}
 use Rattle.x64_emit.specs.Entries.{keep_base}
 use Rattle.x64_emit.specs.Linking.{Addresses, links_of}
+use Rattle.image_link.specs.declared.handlers.Blocks.{Blocks}
+use Rattle.image_link.specs.declared.place.TheConstants.{ROUTINE_ROOM}
 use Rattle.image_link.specs.declared.routine.Entry.{Entry}
 use Rattle.image_link.specs.declared.routine.Entry.TheVariants as entries
+use Rattle.image_link.specs.Handlers.{adding_of, removing_of, blocks_bytes}
 use Rattle.image_link.specs.Routines.{RoutineView}
 
 -- ---- what comes before a body, for a routine that begins at an address
@@ -74,7 +77,7 @@ cold_total (r ∷ rs) = cold_size r + cold_total rs
 
 -- how many bytes they take at most, with their cold parts
 abbrev pub routine_room : RoutineView → ℕ
-routine_room r = 512 + code_room r.body.code
+routine_room r = ROUTINE_ROOM + code_room r.body.code
 
 abbrev pub room : List RoutineView → ℕ
 room [] = 0
@@ -90,14 +93,17 @@ bounds at (r ∷ rs) = at ∷ bounds (at + routine_size r) rs
 abbrev pub thunk_at : List ImportedService → ℕ → ImportedService → ℕ
 thunk_at imports text s = text + THUNK_SIZE * place_of imports s
 
-abbrev pub thunks_at : List ImportedService → ℕ → Thunks
-thunks_at imports text =
+-- with the stubs of blocks
+abbrev pub thunks_at : List ImportedService → ℕ → Blocks → Thunks
+thunks_at imports text blocks =
     record {
       put = thunk_at imports text Put;
       protect = thunk_at imports text Protect;
       raise_exception = thunk_at imports text RaiseException;
       local_unwind = thunk_at imports text LocalUnwind;
       walk = thunk_at imports text Walk;
+      adding = adding_of blocks;
+      removing = removing_of blocks;
     }
 
 abbrev pub service_thunk : List ImportedService → ℕ → ℕ → ImportedService → Instr
@@ -133,13 +139,14 @@ own_addresses at cold r =
     }
 
 -- what every routine refers to: the services that are imported, the text's begin, that of `.rdata`
--- with the slots, and the addresses of functions and funclets
+-- with the slots, the addresses of functions and funclets, and the blocks of functions
 pub record SiteView : Type 0 where
   pub imports : List ImportedService
   pub text : ℕ
   pub rdata : ℕ
   pub functions : List ℕ
   pub funclets : List ℕ
+  pub blocks : Blocks
 
 abbrev pub addresses : SiteView → (at cold : ℕ) → RoutineView → Addresses
 addresses s at cold r =
@@ -148,7 +155,7 @@ addresses s at cold r =
       end = (own_addresses at cold r).end;
       functions = s.functions;
       funclets = s.funclets;
-      thunks = thunks_at s.imports s.text;
+      thunks = thunks_at s.imports s.text s.blocks;
     }
 
 -- a routine at an address without its cold parts, with `__chkstk` and all else where the links say
@@ -181,10 +188,16 @@ all_apart_bytes s at cold [] = []
 all_apart_bytes s at cold (r ∷ rs) =
     apart_bytes s at cold r ++ all_apart_bytes s (at + routine_size r) (cold + cold_size r) rs
 
--- the cold parts follow the routines
+-- the blocks of the site's functions
+abbrev pub site_blocks : SiteView → List ℕ
+site_blocks s =
+    blocks_bytes s.imports s.rdata s.blocks s.blocks.first (take s.blocks.count s.functions)
+
+-- the cold parts follow the routines, and the blocks the cold parts
 abbrev pub text_bytes : SiteView → List RoutineView → List ℕ
 text_bytes s rs =
     let first = first_routine_at s.imports s.text in
     spelled (front_code s.imports s.text s.rdata)
     ++ routines_bytes s first (first + total rs) rs
     ++ all_apart_bytes s first (first + total rs) rs
+    ++ site_blocks s

@@ -1,62 +1,13 @@
--- What the image of a program has where the program calls `walk`: the import of that service, and
--- the names of its functions with the ranges of their code.
-use Rattle.std.specs.Prelude.{◌≡◌, ℕ, ◌+◌, ◌<◌, Bool, true, false, ◌||◌, List, [], ◌∷◌, ◌++◌, length, get_or}
+-- What the image of a program has where the program calls `walk`: the names of its functions with
+-- the ranges of their code.
+use Rattle.std.specs.Prelude.{ℕ, ◌+◌, ◌<◌, Bool, true, false, List, [], ◌∷◌, ◌++◌, length, get_or}
 use Rattle.std.specs.List.{AllByRecursion}
-use Rattle.host_layout.specs.declared.imported.ImportedService.{ImportedService}
-use Rattle.host_layout.specs.declared.imported.ImportedService.TheVariants as imports
-use Rattle.host_layout.specs.Imported.{services}
-use Rattle.c_operations.specs.declared.built_in.BuiltIn.TheVariants.{Walk}
-use Rattle.linear_code.specs.declared.instruction.Instruction.{Instruction}
-use Rattle.linear_code.specs.declared.instruction.Instruction.TheVariants as instructions
-use Rattle.linear_code.specs.Program.{LinearFunction, LinearFunclet, LinearProgram}
+use Rattle.linear_code.specs.Program.{LinearFunction, LinearProgram}
 use Rattle.pe_write.specs.NameTable.{NameRow}
 use Rattle.x64_emit.specs.declared.body.CodeRange.{CodeRange}
 use Rattle.image_link.specs.Routines.{RoutineView}
 use Rattle.image_link.specs.Places.{parts_from}
-
--- ---- whether a program calls `walk`
-
-abbrev pub is_walk : Instruction → Bool
-is_walk (instructions.CallBuiltIn Walk first) = true
-is_walk i = false
-
-abbrev pub has_walk : List Instruction → Bool
-has_walk [] = false
-has_walk (i ∷ is) = is_walk i || has_walk is
-
-abbrev pub functions_walk : List LinearFunction → Bool
-functions_walk [] = false
-functions_walk (f ∷ fs) = has_walk f.body.code || functions_walk fs
-
-abbrev pub funclets_walk : List LinearFunclet → Bool
-funclets_walk [] = false
-funclets_walk (f ∷ fs) = has_walk f.body.code || funclets_walk fs
-
--- the body of a function or of a funclet calls it
-abbrev pub calls_walk : LinearProgram → Bool
-calls_walk p = functions_walk p.functions || funclets_walk p.funclets
-
--- ---- what is imported
-
-abbrev pub services_if : Bool → List ImportedService
-services_if true = services ++ (imports.Walk ∷ [])
-services_if false = services
-
--- the services that a program imports, in the order of their slots and thunks: `walk` where it
--- calls it
-unfoldable pub services_of : LinearProgram → List ImportedService
-services_of p = services_if (calls_walk p)
-
-abbrev pub IsImportedIf : Bool → ImportedService → Type 0
-IsImportedIf walks imports.AddVectored = ⊥
-IsImportedIf walks imports.RemoveVectored = ⊥
-IsImportedIf walks imports.Walk = walks ≡ true
-IsImportedIf walks s = Unit {0}
-
-abbrev pub IsImported : LinearProgram → ImportedService → Type 0
-IsImported p s = IsImportedIf (calls_walk p) s
-
--- ---- names
+use Rattle.image_link.specs.Services.{calls_walk}
 
 -- the functions whose names the image has: all of them, or none
 abbrev pub named_if : Bool → List LinearFunction → List LinearFunction

@@ -31,14 +31,18 @@ pub use Rattle.x64_emit.specs.Linking.{links_of, Addresses}
 pub use Rattle.x64_emit.specs.Near.{AreNear, IsNear, IsInstructionNear, IsBaseNear, IsSlotNear}
 pub use Rattle.x64_emit.specs.Rooms.{code_room}
 pub use Rattle.image_link.specs.Fits.{FitsFunction, FitsFunclet, FitsProgram, tables_room, function_bodies, funclet_bodies, program_tables_room, FitsSlot, FitsInstruction, FitsBody, FitsKind, text_room}
-pub use Rattle.image_link.specs.Linked.{first, first_cold, names_of, text_size, xdata_begin, IsPlacement, site, image_of, linked}
-pub use Rattle.image_link.specs.Walks.{has_walk, functions_walk, funclets_walk, calls_walk, services_if, IsImported, IsImportedIf, named_if, named_functions, IsName, IsNamed, function_rows, part_rows, all_part_rows, cold_rows, names_room}
-unfoldable pub use Rattle.image_link.specs.Walks.{services_of}
-pub use Rattle.image_link.specs.Near.{IsRoutineNear, IsFrameNear, IsEntryNear, IsSiteNear, AreFew, HasRoom, HasNames, HasPlaces}
+pub use Rattle.image_link.specs.Linked.{first, first_cold, first_block, names_of, text_size, xdata_begin, IsPlacement, site, image_of, linked}
+pub use Rattle.image_link.specs.Services.{service_of, is_call, has_call, functions_call, funclets_call, calls, calls_walk, service_if, services_if, IsImported, IsImportedIf, is_among}
+pub use Rattle.image_link.specs.declared.handlers.Blocks.{Blocks}
+pub use Rattle.image_link.specs.Handlers.{block_size, blocks_at, step_of, blocks_size, adding_at, removing_at, adding_of, removing_of, adding_code, removing_code, block_code, blocks_bytes, code_if, stub_size_if, name_at}
+unfoldable pub use Rattle.image_link.specs.Handlers.{block_bytes}
+pub use Rattle.image_link.specs.Walks.{named_if, named_functions, IsName, IsNamed, function_rows, part_rows, all_part_rows, cold_rows, names_room}
+unfoldable pub use Rattle.image_link.specs.Services.{services_of}
+pub use Rattle.image_link.specs.Near.{IsRoutineNear, IsFrameNear, IsEntryNear, IsSiteNear, AreFew, AreBlocksNear, HasRoom, HasNames, HasPlaces}
 pub use Rattle.image_link.specs.Routines.{RoutineView, function_facts, function_frame, placed_locals, framed, is_leaf, leaf_if, functions_from, funclet, routines, leaf_layout, function_layout, leaf, funclet_facts, funclet_frame, nothing, no_function, function_of_index, body_of_funclet, kept_by, HasParent, entry_of, funclet_layout, is_kept, is_spare, all_spare}
 pub use Rattle.image_link.specs.Places.{PlaceView, parts_at, place_at, places_from, parts_from, parts_of}
 pub use Rattle.image_link.specs.declared.fragments.Fragment.{Fragment}
 pub use Rattle.image_link.specs.Tables.{infos_room, infos, range_if, range_at, range_of, ranges, fragment, fragments_if, fragments_of, fragments, chained_bytes, chained_infos, fragment_ranges, all_infos, all_ranges, trailer, scope_record, scope_records, scope_table, info_if, info_room, has_except, has_finally}
 unfoldable pub use Rattle.image_link.specs.Tables.{info_bytes}
-pub use Rattle.image_link.specs.Text.{SiteView, room, routine_size, cold_size, total, cold_total, apart_code, all_apart_bytes, entry_code, bounds, service_thunk, front_code, addresses, check_stack_at, routine_code, routines_bytes, text_bytes, routine_room, frame_code, base_of, argument_code, front_size, first_routine_at, own_addresses, thunk_at, thunks_at, code_at}
+pub use Rattle.image_link.specs.Text.{SiteView, room, routine_size, cold_size, total, cold_total, apart_code, all_apart_bytes, site_blocks, entry_code, bounds, service_thunk, front_code, addresses, check_stack_at, routine_code, routines_bytes, text_bytes, routine_room, frame_code, base_of, argument_code, front_size, first_routine_at, own_addresses, thunk_at, thunks_at, code_at}
 unfoldable pub use Rattle.image_link.specs.Text.{entry_size, routine_bytes, apart_bytes}

@@ -9,11 +9,13 @@
 
 pub mod entry;
 pub mod fragments;
+pub mod handlers;
 pub mod laws;
 pub mod link;
 pub mod place;
 pub mod placement;
 pub mod routine;
+pub mod services;
 pub mod tables;
 pub mod text;
 pub mod walks;

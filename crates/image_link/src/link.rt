@@ -12,12 +12,14 @@ ghost use Rattle.image_link.specs.Near.{AreFew, IsRoutineNear, HasNames, HasPlac
 ghost use Rattle.image_link.specs.Places.{places_from};
 ghost use Rattle.image_link.specs.Text as texts;
 
+use crate::handlers::{Blocks, blocks_at};
 use crate::place::{Places, front_size, places_of};
 use crate::placement::{offset_of, placement_of, text_begin};
 use crate::routine::{Routine, routines};
+use crate::services::{calls, services_of};
 use crate::tables::{Tables, tables_of};
 use crate::text::{Site, text_of};
-use crate::walks::{calls_walk, name_rows, named_if, services_if};
+use crate::walks::{name_rows, named_if};
 use host_layout::imported::ImportedService;
 use linear_code::program::{IrFunction, IrProgram};
 use pe_write::{Image, NamedRange, write};
@@ -25,13 +27,14 @@ use seh_num::limit::MOST_GLOBALS;
 use std::alloc::{AllocError, Global};
 
 /// The addresses that a text at `text` refers to, where the first `functions` routines are
-/// functions.
+/// functions, with these blocks.
 fn site_of<'a>(
     imports: &'a [ImportedService],
     text: u32,
     rdata: u32,
     bounds: &'a [u32],
     functions: usize,
+    blocks: Blocks,
 ) -> Site<'a>
     requires { functions ≤ length bounds.now }
     ensures { result ≡ record {
@@ -40,6 +43,7 @@ fn site_of<'a>(
       rdata = rdata;
       functions = take functions bounds.now;
       funclets = drop functions bounds.now;
+      blocks = blocks;
     } }
 {
     let (functions, funclets) = bounds.split_at(functions);
@@ -49,6 +53,7 @@ fn site_of<'a>(
         rdata,
         functions,
         funclets,
+        blocks,
     }
 }
 
@@ -121,15 +126,16 @@ fn linked<'a>(
         ≡ texts.bounds (spec.first imports.now globals.now) routines.now }
     requires placed { places.now.each.items ≡ places_from (spec.first imports.now globals.now)
         (spec.first_cold imports.now globals.now routines.now) routines.now }
-    requires end { places.now.end
-        ≡ spec.first_cold imports.now globals.now routines.now + texts.cold_total routines.now }
+    requires end { places.now.end ≡ spec.first_block imports.now globals.now routines.now }
     ensures { IfOk result
         (λ image. image ≡ spec.image_of imports.now globals.now routines.now functions main
         (map linear_function named.now)) }
 {
-    let placement = placement_of(imports, globals, routines, places.end);
+    let placement = placement_of(imports, globals, routines, functions, places.end);
     let text = placement.text;
-    let site = site_of(imports, text, placement.rdata, &places.bounds, functions);
+    let blocks = blocks_at(imports, places.end, functions as u32);
+    let rdata = placement.rdata;
+    let site = site_of(imports, text, rdata, &places.bounds, functions, blocks);
     let code = text_of(alloc, &site, routines, &places.each)?;
     let tables = tables_of(
         alloc,
@@ -193,8 +199,8 @@ pub fn compile_program(alloc: Global, program: &IrProgram) -> Result<Vec<u8>, Al
 {
     let routines = routines(alloc, program)?;
     let functions = program.functions.len();
-    let walks = calls_walk(program);
-    let imports = services_if(alloc, walks)?;
+    let walks = calls(ImportedService::Walk, program);
+    let imports = services_of(alloc, program)?;
     let image = image_of(
         alloc,
         &imports,

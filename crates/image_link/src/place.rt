@@ -21,6 +21,10 @@ use x64_emit::entry::{CHECK_STACK_SIZE, THUNK_SIZE};
 /// How many services a program imports at most.
 pub const MOST_IMPORTS: u32 = 64;
 
+/// How many bytes a program has room for with each routine, beside those of its body: for what
+/// comes before the body, and for the block of a function.
+pub const ROUTINE_ROOM: u32 = 512;
+
 /// How many bytes come before the first routine of a program that imports these services: their
 /// thunks, and `__chkstk`.
 pub fn front_size(imports: &[ImportedService]) -> u32

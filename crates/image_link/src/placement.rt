@@ -5,8 +5,8 @@ ghost use Rattle.std.specs.List.{AllByRecursion};
 ghost use Rattle.image_link.specs.Linked as spec;
 ghost use Rattle.image_link.specs.Near.{AreFew, IsRoutineNear, HasRoom};
 ghost use Rattle.image_link.specs.Tables as tables;
-ghost use Rattle.image_link.specs.Text as texts;
 
+use crate::handlers::blocks_size;
 use crate::routine::Routine;
 use host_layout::imported::ImportedService;
 use host_layout::range::{DATA_AT, PAGE};
@@ -53,27 +53,29 @@ pub fn offset_of(bounds: &[u32], index: usize, text: u32) -> u32
     bounds[index] - text
 }
 
-/// Where the sections of the image lie that imports these services and whose text ends at `end`.
-#[tactic(auto, using(crate::proofs::Bounds::total_small, crate::proofs::Front::imports_small))]
+/// Where the sections of the image lie that imports these services, and whose cold parts end at
+/// `end`. Of its routines the first `functions` are functions.
+#[tactic(auto, using(crate::proofs::Bounds::total_small, crate::proofs::Bounds::count_small, crate::proofs::Front::imports_small))]
 pub fn placement_of(
     imports: &[ImportedService],
     globals: &[u8],
     routines: &[Routine<'_>],
+    functions: usize,
     end: u32,
 ) -> Placement
     requires imports { AreFew imports.now }
     requires globals { length globals.now ≤ MOST_GLOBALS }
     requires near { AllByRecursion IsRoutineNear routines.now }
     requires room { HasRoom routines.now }
-    requires end { end ≡ spec.first_cold imports.now globals.now routines.now
-        + texts.cold_total routines.now }
-    ensures placed { spec.IsPlacement imports.now globals.now routines.now result }
+    requires functions { functions ≤ length routines.now }
+    requires end { end ≡ spec.first_block imports.now globals.now routines.now }
+    ensures placed { spec.IsPlacement imports.now globals.now routines.now functions result }
     ensures small { result.text ≤ DATA_AT + MOST_GLOBALS + PAGE }
     ensures tables { result.xdata + tables.infos_room routines.now < 2 ^ 31 }
 {
     let data_size = data_pages(globals.len() as u64);
     let text = text_begin(globals);
-    let text_size = end - text;
+    let text_size = end - text + blocks_size(imports, functions as u32);
     Placement {
         data_size,
         text,

@@ -8,11 +8,12 @@ ghost use Rattle.x64_emit.specs.Appending.{Appended};
 ghost use Rattle.x64_emit.specs.Bodies.{EndsNear};
 ghost use Rattle.x64_emit.specs.Linking as linking;
 ghost use Rattle.x64_emit.specs.Near.{IsNear, AreNear};
-ghost use Rattle.image_link.specs.Near.{AreFew, IsRoutineNear, IsSiteNear};
+ghost use Rattle.image_link.specs.Near.{AreFew, AreBlocksNear, IsRoutineNear, IsSiteNear};
 ghost use Rattle.image_link.specs.Places.{place_at, places_from};
 ghost use Rattle.image_link.specs.Text as spec;
 
 use crate::entry::put_entry;
+use crate::handlers::{Blocks, adding_of, put_blocks, removing_of};
 use crate::place::{Place, front_size};
 use crate::routine::Routine;
 use host_layout::imported::ImportedService;
@@ -37,6 +38,8 @@ pub struct Site<'a> {
     pub functions: &'a [u32],
     /// Where the funclets begin.
     pub funclets: &'a [u32],
+    /// The blocks of functions for vectored handlers.
+    pub blocks: Blocks,
 }
 
 impl<'a> Model for Site<'a> {
@@ -50,6 +53,7 @@ impl<'a> Model for Site<'a> {
       rdata = s.rdata;
       functions = s.functions.now;
       funclets = s.funclets.now;
+      blocks = s.blocks;
     } };
 }
 
@@ -63,10 +67,11 @@ pub fn thunk_at(imports: &[ImportedService], text: u32, service: ImportedService
     text + THUNK_SIZE * place_of(imports, service)
 }
 
-fn thunks_at(imports: &[ImportedService], text: u32) -> Thunks
+fn thunks_at(imports: &[ImportedService], text: u32, blocks: Blocks) -> Thunks
     requires imports { AreFew imports.now }
     requires text { text ≤ MOST_IMAGE }
-    ensures { result ≡ spec.thunks_at imports.now text }
+    requires blocks { AreBlocksNear blocks }
+    ensures { result ≡ spec.thunks_at imports.now text blocks }
 {
     Thunks {
         put: thunk_at(imports, text, ImportedService::Put),
@@ -74,6 +79,8 @@ fn thunks_at(imports: &[ImportedService], text: u32) -> Thunks
         raise_exception: thunk_at(imports, text, ImportedService::RaiseException),
         local_unwind: thunk_at(imports, text, ImportedService::LocalUnwind),
         walk: thunk_at(imports, text, ImportedService::Walk),
+        adding: adding_of(blocks),
+        removing: removing_of(blocks),
     }
 }
 
@@ -134,6 +141,7 @@ fn put_front(
 fn links_of<'a>(
     imports: &[ImportedService],
     text: u32,
+    blocks: Blocks,
     functions: &'a [u32],
     funclets: &'a [u32],
     labels: &'a [u32],
@@ -141,6 +149,7 @@ fn links_of<'a>(
 ) -> Links<'a>
     requires imports { AreFew imports.now }
     requires text { text ≤ MOST_IMAGE }
+    requires blocks { AreBlocksNear blocks }
     requires functions { AreNear functions.now }
     requires funclets { AreNear funclets.now }
     requires labels { AreNear labels.now }
@@ -150,10 +159,16 @@ fn links_of<'a>(
       end = end;
       functions = functions.now;
       funclets = funclets.now;
-      thunks = spec.thunks_at imports.now text;
+      thunks = spec.thunks_at imports.now text blocks;
     } }
 {
-    Links::new(labels, end, functions, funclets, thunks_at(imports, text))
+    Links::new(
+        labels,
+        end,
+        functions,
+        funclets,
+        thunks_at(imports, text, blocks),
+    )
 }
 
 /// Adds a routine that begins at an address, with its body at `start`, without its cold parts.
@@ -230,6 +245,7 @@ fn put_routine(
     let links = links_of(
         site.imports,
         site.text,
+        site.blocks,
         site.functions,
         site.funclets,
         &place.labels.starts,
@@ -240,8 +256,17 @@ fn put_routine(
     put_apart(apart, &links, routine, place.cold)
 }
 
+/// Adds the blocks of the functions of a site.
+fn put_site_blocks(code: &mut Vec<u8>, site: &Site<'_>) -> Result<(), AllocError>
+    requires { IsSiteNear site.now }
+    ensures { OnOk result (code.new.items ≡ code.old.items ++ spec.site_blocks site.now) }
+{
+    let functions = &site.functions[..site.blocks.count as usize];
+    put_blocks(code, site.imports, site.rdata, site.blocks, functions)
+}
+
 /// The text of a program: the thunks, `__chkstk`, and the routines at their places, with all cold
-/// parts behind them.
+/// parts behind them, and then the blocks of functions.
 pub fn text_of(
     alloc: Global,
     site: &Site<'_>,
@@ -270,5 +295,6 @@ pub fn text_of(
         index += 1;
     }
     code.extend_from_slice(&apart)?;
+    put_site_blocks(&mut code, site)?;
     Ok(code)
 }

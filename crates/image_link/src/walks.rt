@@ -1,83 +1,15 @@
 //! What the image of a program has where the program calls `walk`.
 
 ghost use Rattle.std.specs.Prelude.{◌≡◌, ◌<◌, ◌≤◌, ◌^◌, ◌++◌, length, map, take, OnOk, IfOk};
-ghost use Rattle.linear_code.specs.Program.{linear_function, linear_funclet, linear_program};
+ghost use Rattle.linear_code.specs.Program.{linear_function};
 ghost use Rattle.image_link.specs.Places.{parts_of};
 ghost use Rattle.image_link.specs.Walks as spec;
 
 use crate::place::Place;
-use c_operations::built_in::BuiltIn;
-use host_layout::imported::{IMPORTED, ImportedService};
-use linear_code::instruction::Instruction;
-use linear_code::program::{IrFunclet, IrFunction, IrProgram};
+use linear_code::program::IrFunction;
 use pe_write::NamedRange;
 use std::alloc::{AllocError, Global};
 use x64_emit::body::CodeRange;
-
-fn is_walk(instruction: &Instruction) -> bool
-    ensures { result ≡ spec.is_walk instruction.now }
-{
-    match *instruction {
-        Instruction::CallBuiltIn {
-            function: BuiltIn::Walk,
-            ..
-        } => true,
-        _ => false,
-    }
-}
-
-fn has_walk(code: &[Instruction]) -> bool
-    ensures { result ≡ spec.has_walk code.now }
-{
-    for instruction in code {
-        if is_walk(instruction) {
-            return true;
-        }
-    }
-    false
-}
-
-fn functions_walk(functions: &[IrFunction]) -> bool
-    ensures { result ≡ spec.functions_walk (map linear_function functions.now) }
-{
-    for function in functions {
-        if has_walk(&function.body.code) {
-            return true;
-        }
-    }
-    false
-}
-
-fn funclets_walk(funclets: &[IrFunclet]) -> bool
-    ensures { result ≡ spec.funclets_walk (map linear_funclet funclets.now) }
-{
-    for funclet in funclets {
-        if has_walk(&funclet.body.code) {
-            return true;
-        }
-    }
-    false
-}
-
-/// Whether the body of a function or of a funclet calls `walk`.
-pub fn calls_walk(program: &IrProgram) -> bool
-    ensures { result ≡ spec.calls_walk (linear_program program.now) }
-{
-    functions_walk(&program.functions) || funclets_walk(&program.funclets)
-}
-
-/// The services that a program imports, in the order of their slots and thunks: `walk` where it
-/// calls it.
-pub fn services_if(alloc: Global, walks: bool) -> Result<Vec<ImportedService>, AllocError>
-    ensures { IfOk result (λ v. v.items ≡ spec.services_if walks) }
-{
-    let mut services = Vec::new(alloc);
-    services.extend_from_slice(&IMPORTED)?;
-    if walks {
-        services.push(ImportedService::Walk)?;
-    }
-    Ok(services)
-}
 
 /// The functions whose names the image has: all of them, or none.
 pub fn named_if(walks: bool, functions: &[IrFunction]) -> &[IrFunction]

@@ -2,6 +2,7 @@
 use Rattle.std.specs.List.{AllByRecursion}
 use Rattle.std.specs.Prelude.{not, ◌&&◌, ◌==◌}
 use Rattle.std.proofs.Common.{ℕ, suc, ◌+◌, Bool, true, false, List, [], ◌∷◌, ◌++◌, length, map, take, Option, Some, None, arith}
+use Rattle.host_layout.specs.declared.imported.ImportedService.{ImportedService}
 use Rattle.host_layout.specs.declared.imported.ImportedService.TheVariants.{CSpecificHandler}
 use Rattle.linear_code.specs.declared.program.Region.{Region}
 use Rattle.eh_tables.specs.Written.{unwind_bytes}
@@ -11,15 +12,18 @@ use Rattle.frame_layout.proofs.Counts.{all_both}
 use Rattle.frame_layout.proofs.Steps.{HasRegisters}
 use Rattle.frame_layout.proofs.Frames.{registers_few}
 use Rattle.template_code.specs.Bytes.{spelled}
+use Rattle.image_link.specs.declared.handlers.Blocks.{Blocks}
+use Rattle.image_link.specs.Handlers.{step_of, block_code, block_bytes, blocks_bytes}
 use Rattle.image_link.specs.Fits.{FitsFunction}
 use Rattle.image_link.specs.Routines.{RoutineView, is_leaf, function_facts, leaf_if, functions_from, funclet_facts, funclet, routines}
-use Rattle.image_link.specs.Text.{SiteView, own_addresses, routine_size, cold_size, total, front_code, first_routine_at, routine_code, routine_bytes, routines_bytes, apart_code, apart_bytes, all_apart_bytes, text_bytes, thunk_at, bounds}
+use Rattle.image_link.specs.Text.{SiteView, own_addresses, routine_size, cold_size, total, front_code, first_routine_at, routine_code, routine_bytes, routines_bytes, apart_code, apart_bytes, all_apart_bytes, site_blocks, text_bytes, thunk_at, bounds}
 use Rattle.image_link.specs.declared.fragments.Fragment.{Fragment}
 use Rattle.image_link.specs.Places.{parts_from}
 use Rattle.image_link.specs.Words.{CodeRange}
 use Rattle.image_link.specs.Tables.{trailer, scope_records, scope_table, info_if, info_bytes, infos, fragments, chained_bytes, chained_infos, all_infos, all_ranges}
 use Rattle.image_link.specs.Linked.{first, first_cold, site, xdata_begin, linked}
-use Rattle.image_link.specs.Walks.{services_of, calls_walk, named_if, named_functions, IsName, IsNamed, function_rows, part_rows, all_part_rows, cold_rows}
+use Rattle.image_link.specs.Services.{services_of, calls_walk}
+use Rattle.image_link.specs.Walks.{named_if, named_functions, IsName, IsNamed, function_rows, part_rows, all_part_rows, cold_rows}
 use Rattle.linear_code.specs.Program.{LinearFunction, LinearFunclet, LinearProgram}
 use Rattle.image_octets.specs.OctetLaws.{AreOctets, LinkedAreOctets}
 use Rattle.image_octets.proofs.Octets.{joined, mapped}
@@ -57,15 +61,31 @@ all_apart_octets s at cold (r ∷ rs) =
     (all_apart_bytes s (at + routine_size r) (cold + cold_size r) rs)
     (apart_octets s at cold r) (all_apart_octets s (at + routine_size r) (cold + cold_size r) rs)
 
+block_octets : (imports : List ImportedService) (rdata : ℕ) (b : Blocks) (at function : ℕ)
+    → AreOctets (block_bytes imports rdata b at function)
+unfolding block_bytes
+block_octets imports rdata b at function =
+    spelled_octets (block_code imports rdata b at function)
+
+blocks_octets : (imports : List ImportedService) (rdata : ℕ) (b : Blocks) (at : ℕ) (fs : List ℕ)
+    → AreOctets (blocks_bytes imports rdata b at fs)
+blocks_octets imports rdata b at [] = tt
+blocks_octets imports rdata b at (f ∷ fs) =
+    joined (block_bytes imports rdata b at f) (blocks_bytes imports rdata b (at + step_of b) fs)
+    (block_octets imports rdata b at f) (blocks_octets imports rdata b (at + step_of b) fs)
+
 text_octets : (s : SiteView) (rs : List RoutineView) → AreOctets (text_bytes s rs)
 text_octets s rs =
     let first = first_routine_at s.imports s.text in
     let cold = first + total rs in
     let front = spelled (front_code s.imports s.text s.rdata) in
-    joined (front ++ routines_bytes s first cold rs) (all_apart_bytes s first cold rs)
+    joined (front ++ routines_bytes s first cold rs ++ all_apart_bytes s first cold rs)
+    (site_blocks s)
+    (joined (front ++ routines_bytes s first cold rs) (all_apart_bytes s first cold rs)
     (joined front (routines_bytes s first cold rs)
     (spelled_octets (front_code s.imports s.text s.rdata)) (routines_octets s first cold rs))
-    (all_apart_octets s first cold rs)
+    (all_apart_octets s first cold rs))
+    (blocks_octets s.imports s.rdata s.blocks s.blocks.first (take s.blocks.count s.functions))
 
 -- ---- unwind infos and scope tables
 
@@ -173,7 +193,7 @@ linked_are_octets p fits globals =
     let s = site (services_of p) p.globals rs (length p.functions) in
     let at = first (services_of p) p.globals in
     let cold = first_cold (services_of p) p.globals rs in
-    let info = xdata_begin (services_of p) p.globals rs in
+    let info = xdata_begin (services_of p) p.globals rs (length p.functions) in
     let named = named_functions p in
     program_octets (linked p) globals (text_octets s rs)
     (all_infos_octets s info at cold rs (routines_few p fits.functions))

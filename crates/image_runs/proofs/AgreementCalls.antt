@@ -2,11 +2,13 @@
 use Rattle.std.proofs.Common.{◌≡◌, ℕ, ◌+◌, ◌-◌, Bool, true, false, List, [], ◌∷◌, ◌++◌, length, take, drop, Some, None, inl, inr, refl, sym, ap, ◌∙◌, arith, length-append}
 use Rattle.std.specs.Prelude.{◌⊎◌, ◌≤◌, nat_lt, replicate, slice_get, if◌then◌else◌}
 use Rattle.std.proofs.lemmas.Bool.{eq-eqb}
+use Rattle.std.proofs.lemmas.List.{append-nil}
 use Rattle.image_runs.specs.Words.{State, Functions, Funclet, Instruction, LinearProgram, LinearFunction, weight, depth_weight, FunctionBody, body_of, Waits, Frame, Configuration, Seen, Running, Finished, Next, pick, last_temporaries, act, begin_function, waiting, instruction_at, ImagePlan, separators_in, separators_at, Begins, Fails, IsTaken, AgreeOnSet, StepsAgree, Sites, turns_left, turns_per_step, RepresentsWhereSet, called_with, CallBegins}
 use Rattle.source_meaning.specs.declared.ended.Ended.TheVariants.{Deep}
 use Rattle.linear_code.specs.declared.instruction.Instruction.TheVariants as instructions
 use Rattle.lowering_invariants.proofs.Same.{alike_is_same}
 use Rattle.image_runs.proofs.Lemmas.{agreement_at_call}
+use Rattle.match_runs.proofs.Turns.{comes_nowhere}
 use Rattle.match_turns.proofs.CallActs.{call_acts}
 use Rattle.image_runs.proofs.AgreementSteps.{same_left, carried}
 
@@ -110,14 +112,20 @@ module _ (t : Functions) (fs : List Funclet) (program : LinearProgram) (p : Imag
         let enough = weighs v.function v.there in
         let same = same_left agreement.marks c d agreement.alike in
         record {
+          first = 0;
+          soon = omega arith;
+          middle = s;
+          events = [];
+          shows = comes_nowhere t fs s;
           turns = v.turns;
-          some = v.some;
+          some = (let some = v.some in omega arith);
           configuration = g.on;
           few = omega arith;
           state = v.state;
           comes = v.comes;
           acts = g.goes;
-          shown = sym g.agreement.alike.events ∙ agreement.alike.events;
+          shown = sym g.agreement.alike.events ∙ agreement.alike.events
+              ∙ sym (append-nil c.events);
           is_there = record { actual = on; agreement = g.agreement; is_there = inl v.begins };
         }
 

@@ -31,7 +31,7 @@ module _ (program : LinearProgram) where
   stacked_alike : (marks : Marks) (c d : Configuration) → AreAlike marks c d → IsStacked program c
       → IsStacked program d
   stacked_alike marks c d a h = subst (IsStacked program) (is_over marks c d a)
-      (record { above = h.above; below = h.below; landed = h.landed })
+      (record { above = h.above; below = h.below; landed = h.landed; handlers = h.handlers })
 
   depths_alike : (marks : Marks) (c d : Configuration) → AreAlike marks c d → HasDepths program c
       → HasDepths program d

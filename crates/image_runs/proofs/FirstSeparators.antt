@@ -6,16 +6,16 @@ use Rattle.c_checked.specs.Program.{frame_surplus, data_surplus}
 use Rattle.linear_code.specs.declared.slot.Slot.TheVariants.{Temporary}
 use Rattle.linear_code.specs.declared.instruction.Instruction.TheVariants.{Separator, Return}
 use Rattle.lowering_expressions.specs.Expressions.{constant}
-use Rattle.seh_ir.specs.Lowered.{scope_of, body_start, open_code, close_code}
+use Rattle.seh_ir.specs.Lowered.{asking, scope_of, body_start, open_code, close_code}
 use Rattle.seh_ir.specs.Statements.{statements_code}
 
 repeated : (n : ℕ) (code : List Instruction) → n ≤ separators (replicate n Separator ++ code)
 repeated zero code = omega arith
 repeated (suc n) code = let rest = repeated n code in omega arith
 
-begins_with : (n k : ℕ) (code : List Instruction)
-    → 1 + n ≤ separators ((Separator ∷ replicate (n + k) Separator) ++ code)
-begins_with n k code = let rest = repeated (n + k) code in omega arith
+begins_with : (n k more : ℕ) (code : List Instruction)
+    → 1 + n ≤ separators ((Separator ∷ replicate (n + k + more) Separator) ++ code)
+begins_with n k more code = let rest = repeated (n + k + more) code in omega arith
 
 same_function : (f g : LinearFunction) → Some f ≡ Some g → f ≡ g
 same_function f g e = cc
@@ -28,7 +28,7 @@ in_list (fn ∷ fs) zero f e =
     subst (λ (g : LinearFunction). weight g
     ≤ separators_in (function_body (slice_get (map lowered_function (fn ∷ fs)) zero)) 0)
     (same_function (lowered_function fn) f e)
-    (begins_with (frame_surplus fn) (data_surplus fn) (open_code fn.data_frame
+    (begins_with (frame_surplus fn) (data_surplus fn) (asking fn) (open_code fn.data_frame
     ++ (statements_code (scope_of fn) fn.body (body_start fn)
     ++ constant 0 0 ∷ (close_code fn.data_frame ++ Return (Temporary 0) ∷ []))))
 in_list (fn ∷ fs) (suc k) f e = in_list fs k f e

@@ -2,7 +2,7 @@
 use Rattle.image_runs.specs.Words.{lowered}
 use Rattle.image_runs.proofs.Lemmas.{lowered_has_regions}
 use Rattle.image_tables.specs.FrameLaws.{IsFramed}
-use Rattle.image_tables.proofs.Callers.{frames_are_found, parts_are_found, leaves_are_found', thunks_are_found, probes_are_found}
+use Rattle.image_tables.proofs.Callers.{frames_are_found, parts_are_found, leaves_are_found', thunks_are_found, name_thunks_are_found, adding_stubs_are_found, removing_stubs_are_found, probes_are_found}
 use Rattle.image_runs.specs.FrameCallers.{LoweredFindsCallers}
 
 pub lowered_finds_callers : LoweredFindsCallers
@@ -22,5 +22,10 @@ lowered_finds_callers program fits =
       leaves = λ index x e s there frameless inside.
           leaves_are_found' p index x e s fits regions there frameless inside;
       thunks = λ service e s inside. thunks_are_found p service e s fits regions inside;
+      names = λ f e s there inside. name_thunks_are_found p f e s fits regions there inside;
+      adding = λ f e s there has inside.
+          adding_stubs_are_found p f e s fits regions there has inside;
+      removing = λ f e s there has inside.
+          removing_stubs_are_found p f e s fits regions there has inside;
       probes = λ e s inside. probes_are_found p e s fits regions inside;
     }

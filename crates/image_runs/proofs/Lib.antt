@@ -3,9 +3,6 @@ pub mod FuncletOwners
 pub mod FuncletRegions
 pub mod ImageCode
 pub mod SoundImages
-pub mod FunctionEntry
-pub mod FrameEntries
-pub mod FirstFunction
 pub mod MainStart
 pub mod FunctionDepths
 pub mod FirstState
@@ -13,6 +10,10 @@ pub mod AgreementFacts
 pub mod FirstSeparators
 pub mod AgreementSteps
 pub mod AgreementCalls
+pub mod AskedFunctions
+pub mod AgreementAsks
+pub mod BlockReturns
+pub mod AgreementReturns
 pub mod LiveStates
 pub mod AgreementSimulation
 pub mod WholeRuns

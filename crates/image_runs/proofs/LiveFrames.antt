@@ -3,9 +3,12 @@ use Rattle.std.proofs.Common.{◌≡◌, ℕ, ◌+◌, Bool, Some, List, [], ◌
 use Rattle.std.specs.Prelude.{slice_set}
 use Rattle.std.proofs.lemmas.Bool.{false≢true}
 use Rattle.virtual_unwind.specs.Contexts.{get}
-use Rattle.image_runs.specs.Words.{Memory, Context, context_of, rsp, Functions, Funclet, LinearProgram, Item, Waits, Searches, Unwinds, StackItem, Framed, Leaf, Searching, Unwinding, IsStack, after_frame, after_leaf, ImagePlan, Activation, activations_below, BodyWaits, Linked, temporaries_end, ReturnsTo, Sites, IsProgramImage, slots_end, last_temporary, back_to, AreFrames}
+use Rattle.image_runs.specs.Words.{Memory, Context, context_of, rsp, Functions, Funclet, LinearProgram, Asked, FilterOf, VectoredAt, Item, Waits, Searches, Unwinds, StackItem, Framed, Leaf, Searching, Unwinding, IsStack, after_frame, after_leaf, ImagePlan, Activation, activations_below, BodyWaits, Linked, temporaries_end, ReturnsTo, Sites, IsProgramImage, slots_end, last_temporary, back_to, AreFrames}
 use Rattle.image_runs.proofs.Lemmas.{set_head, leaf_layout, frame_size, frame_told}
-use Rattle.image_runs.specs.LiveFrames.{KeepsCaller}
+use Rattle.seh_records.specs.declared.dispatch.DispatchRecord.{DispatchRecord}
+use Rattle.match_stack.specs.Stack.{answer_return}
+use Rattle.match_stack.specs.ItemMatches.{Awaits}
+use Rattle.image_runs.specs.LiveFrames.{answers_to, KeepsCaller}
 use Rattle.image_runs.proofs.WalkFrames.{frames}
 
 set_rest : (kept : List ℕ) (v : ℕ) → drop 1 (slice_set kept 0 v) ≡ drop 1 kept
@@ -21,11 +24,17 @@ module _ (t : Functions) (fs : List Funclet) (program : LinearProgram) (p : Imag
       below (activations_below b.body acts) l.2 in omega arith
   as_many m c (Leaf back ∷ is) (Waits b ∷ below) acts l = let n = as_many m (after_leaf c back) is
       below (activations_below b.body acts) l.2 in omega arith
-  as_many m c (Searching r ∷ is) (Searches exception resumption asked rest ∷ below) acts l =
+  as_many m c (Searching r ∷ is) (Searches exception resumption asked ∷ below) acts l =
       let n = as_many m (context_of r.saved) is below acts l.1 in omega arith
   as_many m c (Unwinding r ∷ is) (Unwinds rest target ∷ below) acts l = let n = as_many m r.walk is
       below acts l.1 in omega arith
   as_many m c is items acts l = absurd l
+
+  -- what a record waits for returns to the host's address for it
+  answers : (r : DispatchRecord) (asked : Asked) (is : List StackItem) (below : List Item)
+      → Awaits t fs program p r asked is below → answer_return r.kind ≡ answers_to asked
+  answers r (FilterOf h rest) is below a = ap answer_return a.kind
+  answers r (VectoredAt place) is below a = ap answer_return a.kind
 
   -- a body returns to where the walk continues
   back : (m : Memory) (c : Context) (is : List StackItem) (items : List Item)
@@ -34,8 +43,8 @@ module _ (t : Functions) (fs : List Funclet) (program : LinearProgram) (p : Imag
   back m c [] [] acts s l r = ap (λ (a : ℕ). Some a) (sym r)
   back m c (Framed f ∷ is) (Waits b ∷ below) acts s l r = r
   back m c (Leaf up ∷ is) (Waits b ∷ below) acts s l r = r
-  back m c (Searching d ∷ is) (Searches exception resumption asked rest ∷ below) acts s l r = ap
-      (λ (a : ℕ). Some a) (sym s.0.at_host)
+  back m c (Searching d ∷ is) (Searches exception resumption asked ∷ below) acts s l r = ap
+      (λ (a : ℕ). Some a) (sym (s.0.at_host ∙ answers d asked is below l.0.asks))
   back m c (Unwinding d ∷ is) (Unwinds rest target ∷ below) acts s l r = ap (λ (a : ℕ). Some a)
       (sym s.0.at_host)
   back m c is items acts s l r = absurd l
@@ -90,10 +99,13 @@ module _ (t : Functions) (fs : List Funclet) (program : LinearProgram) (p : Imag
           },
           are_frames m (after_leaf c up) is below (activations_below b.body acts) s.1 l.2,
         )
-    are_frames m c (Searching r ∷ is) (Searches exception resumption asked rest ∷ below) acts s l
+    are_frames m c (Searching r ∷ is) (Searches exception resumption asked ∷ below) acts s l
         = (
           r,
-          record { here = s.0.at_host; is = s.0.fetches },
+          record {
+            here = s.0.at_host ∙ answers r asked is below l.0.asks;
+            is = s.0.fetches;
+          },
           are_frames m (context_of r.saved) is below acts s.1 l.1,
         )
     are_frames m c (Unwinding r ∷ is) (Unwinds rest target ∷ below) acts s l = (

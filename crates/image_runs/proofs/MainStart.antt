@@ -1,14 +1,18 @@
 -- `main` begins.
-use Rattle.std.proofs.Common.{◌≡◌, ℕ, zero, suc, ◌^◌, ◌<◌, ◌≤◌, Bool, true, false, Some, ℤ, pos, negsuc, List, [], ◌∷◌, length, get_or, refl, sym, ap, subst, arith}
+use Rattle.std.proofs.Common.{◌≡◌, ℕ, zero, suc, ◌+◌, ◌*◌, ◌^◌, ◌<◌, ◌≤◌, Bool, true, false, Some, ℤ, pos, negsuc, List, [], ◌∷◌, length, get_or, refl, sym, ap, subst, arith}
 use Rattle.std.specs.Prelude.{slice_get, nat_eq, replicate, if◌then◌else◌}
 use Rattle.std.proofs.lemmas.Option.{slice_get_within}
-use Rattle.image_runs.specs.Words.{weight, depth_weight, DEEPEST, MOST_WEIGHT, Memory, Cpu, State, Functions, Funclet, first_cpu, LinearProgram, LinearFunction, FunctionBody, body_of, function_body, InRegisters, ImagePlan, CanContinue, IsWellFormed, Sites, IsProgramImage, seen_by_templates, first_stack, IsFirst, MainBegins, W64, first_memory, main_arguments, start, IsWellMade}
+use Rattle.image_runs.specs.Words.{weight, weight_of, depth_weight, DEEPEST, MOST_WEIGHT, FRAME_BY_WEIGHT, STACK_END, Memory, Cpu, State, context_below, Functions, Funclet, first_cpu, LinearProgram, LinearFunction, FunctionBody, body_of, function_body, Layout, InRegisters, ImagePlan, CanContinue, IsWellFormed, HasSpace, below_end, IsLayoutIf, Sites, IsProgramImage, seen_by_templates, first_stack, IsFirst, MainBegins, W64, first_memory, main_arguments, start, IsWellMade}
 use Rattle.seh_num.specs.Widths.{wrapped}
 use Rattle.seh_records.specs.Laws.{AllSmall}
 use Rattle.image_runs.proofs.Lemmas.{label_in}
 use Rattle.image_runs.specs.MainLaws.{MainIsBegun}
-use Rattle.image_runs.proofs.FunctionEntry.{IsCalled}
-use Rattle.image_runs.proofs.FirstFunction as begun
+use Rattle.linear_machine.specs.Frames.{Store}
+use Rattle.match_stack.specs.StackRecords.{On}
+use Rattle.match_bodies.proofs.InstructionEffects.{others_of}
+use Rattle.match_turns.proofs.GivenFunction.{IsCalled}
+use Rattle.match_turns.proofs.GivenStart.{FunctionStarts}
+use Rattle.match_turns.proofs.GivenStart as starting
 
 -- what the argument registers hold: the argument of the run, and zeros
 abbrev given : ℤ → ℕ → ℕ
@@ -89,13 +93,13 @@ module _ (t : Functions) (fs : List Funclet) (program : LinearProgram) (p : Imag
       let r = a.first in
       omega arith
 
-  well_formed : IsWellFormed s
+  well_formed : IsWellFormed [] s
   well_formed = record {
     rip_small = subst (λ (c : Cpu). c.rip < 2 ^ 64) (sym h.cpu) function_small;
     count = ap (λ (c : Cpu). length c.registers) h.cpu;
     small = subst (λ (c : Cpu). AllSmall c.registers) (sym h.cpu)
         (first_small (q.function program.main) arg);
-    no_handlers = h.no_handlers;
+    listed = h.no_handlers;
   }
 
   called : IsCalled t fs program p q s source program.main main first_stack (given arg)
@@ -103,7 +107,6 @@ module _ (t : Functions) (fs : List Funclet) (program : LinearProgram) (p : Imag
     function = is_main;
     rip = ap (λ (c : Cpu). c.rip) h.cpu;
     stack = ap (λ (c : Cpu). get_or c.registers 4 0) h.cpu;
-    light = light;
     shallow = shallow;
     low = omega arith;
     high = omega arith;
@@ -119,28 +122,67 @@ module _ (t : Functions) (fs : List Funclet) (program : LinearProgram) (p : Imag
     memory = h.memory;
   }
 
+  -- ---- nothing waits below it, and it returns to 0
+
+  abbrev layout : Layout
+  layout = p.layout (FunctionBody program.main)
+
+  abbrev held : ℕ
+  held = 0 + (main.surplus + main.data_surplus)
+
+  abbrev store : Store
+  store = record { memory = source; activations = []; vectored = [] }
+
+  frame_fits : layout.frame + 8 ≤ FRAME_BY_WEIGHT * weight main
+  frame_fits = by (p.leaf (FunctionBody program.main))
+      (image.laid_out (FunctionBody program.main) main.body there)
+    where
+      by : (leaf : Bool)
+          → IsLayoutIf program p (weight_of (slice_get program.functions program.main)) layout
+          main.body leaf → layout.frame + 8 ≤ FRAME_BY_WEIGHT * weight main
+      by true l = let e = l.frame in omega arith
+      by false l =
+          let e = l.small in
+          let w : weight_of (slice_get program.functions program.main) ≡ weight main = ap weight_of
+          is_main in
+          omega arith
+
+  depth : (sp : ℕ) → sp + layout.frame ≡ first_stack → HasSpace sp below_end (1 + held)
+  depth sp e = let z = frame_fits in record { space = omega arith; shallow = omega arith }
+
+  nothing_below : On t fs program p s.memory
+      (context_below 0 (first_stack + 8) (others_of s.cpu.registers)) [] [] []
+  nothing_below = record {
+    is_there = record {
+      stack = refl;
+      linked = (refl, (let z : first_stack + 8 ≤ STACK_END = omega arith in z));
+    };
+    data_alone = h.memory.data_alone;
+  }
+
+  abbrev arguments : List ℕ
+  arguments = main_arguments main.parameters arg
+
+  begins : FunctionStarts t fs program p q s program.main main arguments held [] store []
+  begins = starting.started t fs program p q image s store program.main main first_stack (given arg)
+      called some well_formed 0 h.returns arguments
+      (arguments_count main.parameters arg few) (given_are main.parameters arg) [] [] held [] refl
+      tt refl [] nothing_below (λ a w. absurd w) depth
+
   pub main_begins : MainBegins t fs program p q arg main s
   main_begins =
-      let arguments = main_arguments main.parameters arg in
-      let counted = arguments_count main.parameters arg few in
-      let same = given_are main.parameters arg in
+      let b = begins in
+      let soon = b.few in
+      let one = few in
       record {
-        values = begun.others t fs program p q image s source program.main main first_stack
-            (given arg) called some well_formed refl h.returns arguments counted same;
-        as_many = begun.counted_others t fs program p q image s source program.main main first_stack
-            (given arg) called some well_formed refl h.returns arguments counted same;
-        small = begun.small_others t fs program p q image s source program.main main first_stack
-            (given arg) called some well_formed refl h.returns arguments counted same;
-        turns = _;
-        few = (let r = begun.soon t fs program p q image s source program.main main first_stack
-            (given arg) called some well_formed refl h.returns arguments counted same in omega
-            arith);
-        state = begun.after t fs program p q image s source program.main main first_stack
-            (given arg) called some well_formed refl h.returns arguments counted same;
-        comes = begun.comes t fs program p q image s source program.main main first_stack
-            (given arg) called some well_formed refl h.returns arguments counted same;
-        begins = begun.begins t fs program p q image s source program.main main first_stack
-            (given arg) called some well_formed refl h.returns arguments counted same;
+        values = b.others;
+        as_many = b.as_many;
+        small = b.small;
+        turns = b.turns;
+        few = omega arith;
+        state = b.state;
+        comes = b.comes;
+        begins = b.begins;
       }
 
 pub main_is_begun : MainIsBegun

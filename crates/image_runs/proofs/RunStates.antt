@@ -1,7 +1,8 @@
 -- A run that is matched step by step passes a state for each step.
-use Rattle.std.proofs.Common.{◌≡◌, inl, inr, ℕ, zero, suc, List, [], Some, sym, subst, ◌∙◌, arith}
+use Rattle.std.proofs.Common.{◌≡◌, inl, inr, ℕ, zero, suc, ◌+◌, List, [], Some, sym, subst, ◌∙◌, arith}
 use Rattle.std.proofs.lemmas.List.{append-nil}
-use Rattle.image_runs.specs.Words.{State, Functions, Funclet, Instruction, LinearProgram, Configuration, Seen, Running, Finished, Stuck, act, instruction_at, exec, HasRule, turns_ahead, IsMatched, Simulates, IsRunning, HasNextStep, Passes}
+use Rattle.image_runs.specs.Words.{State, Functions, Funclet, Instruction, LinearProgram, Configuration, Seen, Running, Finished, Stuck, act, instruction_at, exec, HasRule, turns_ahead, Begins, IsMatched, Simulates, IsRunning, HasNextStep, Passes}
+use Rattle.match_runs.proofs.Matches.{silently_after}
 use Rattle.image_runs.proofs.Lemmas.{at_instruction, matched_step, Takes, taken}
 
 running_has_rule : (x : Seen) → IsRunning x → HasRule x
@@ -42,8 +43,25 @@ module _ (t : Functions) (fs : List Funclet) (program : LinearProgram) (turns_pe
     plainly none (inr (inr (inl v))) = absurd (subst IsRunning (v.acts (exec program n)) running)
     plainly none (inr (inr (inr v))) = absurd (subst IsRunning (v.acts (exec program n)) running)
 
+    -- a function begins: after what the step shows its turns show nothing
+    begun : turns_ahead program turns_per_step c ≡ 0
+        → Begins t fs program turns_per_step credit (R n) s c i → Goal
+    begun none v = record {
+      turns = v.first + v.turns;
+      some = v.some;
+      configuration = v.configuration;
+      few = (let few = v.few in omega arith);
+      state = v.state;
+      events = v.events;
+      comes = silently_after t fs v.first v.turns s v.middle v.state v.events v.shows v.comes;
+      shown = v.shown;
+      continues = λ k. at_instruction program k c i at ∙ v.acts (exec program k);
+      rest = rest v.state v.configuration v.is_there
+          (subst IsRunning (v.acts (exec program n)) running);
+    }
+
     step : Takes t fs program turns_per_step credit (R n) s c i → Goal
-    step (inl m) = plainly m.0 m.1
+    step (inl m) = elim m.1 [ inl v ↦ plainly m.0 v | inr v ↦ begun m.0 v ]
     step (inr v) = record {
       turns = v.turns;
       some = v.some;

@@ -1,5 +1,5 @@
 -- The frames of a checked program's image, at every instruction of its code.
-use Rattle.std.specs.Prelude.{◌≡◌, ℕ, ◌+◌, slice_get, Some, None}
+use Rattle.std.specs.Prelude.{◌≡◌, ℕ, ◌+◌, ◌<◌, true, slice_get, Some, None}
 use Rattle.x64_machine.specs.Effect.{State}
 use Rattle.frame_rules.specs.Codes.{depth}
 use Rattle.frame_rules.specs.Rules.{ops}
@@ -10,16 +10,19 @@ use Rattle.c_checked.specs.Program.{Program}
 use Rattle.linear_code.specs.Program.{LinearProgram}
 use Rattle.seh_ir.specs.Lowered.{lowered}
 use Rattle.x64_emit.specs.declared.entry.TheConstants.{CHECK_STACK_SIZE}
+use Rattle.x64_emit.specs.declared.handlers.TheConstants.{NAME_THUNK_SIZE, STUB_SIZE}
 use Rattle.frame_layout.specs.declared.frame.FrameLayout.{FrameLayout}
 use Rattle.image_link.specs.Fits.{FitsProgram}
-use Rattle.image_tables.specs.RoutinePlaces.{Placed, PlacedPart, end_of, parts_of, placed, thunk_begin, probe_begin}
+use Rattle.image_link.specs.Handlers.{adding_at, removing_at}
+use Rattle.image_tables.specs.RoutinePlaces.{Placed, PlacedPart, end_of, parts_of, placed, thunk_begin, probe_begin, blocks_of, block_begin}
 use Rattle.image_tables.specs.CodeInMemory.{image_base, HasText}
-use Rattle.image_tables.specs.Functions.{function_of, part, parts, leaf, thunk_of, probe}
+use Rattle.image_tables.specs.Functions.{function_of, part, parts, leaf, thunk_of, name_thunk_of, adding_stub_of, removing_stub_of, probe}
 use Rattle.image_tables.specs.FrameLaws.{FindsCaller, IsInRoutine, IsInRange}
 
 -- from each state of a routine the walk finds its caller, as it was at the routine's first byte (in
 -- state e): in a function or funclet with a frame, prologue and epilogues included; in each of its
--- cold parts; in a leaf function; in the thunk of a service; in `__chkstk`
+-- cold parts; in a leaf function; in the thunk of a service; in a function's name thunk and in its
+-- stubs, where its block has them; in `__chkstk`
 pub record FindsCallers (p : LinearProgram) : Type 0 where
   pub functions :
       (index : ℕ) (x : Placed) (f : FrameLayout) (e s : State) (distance : ℕ)
@@ -43,6 +46,20 @@ pub record FindsCallers (p : LinearProgram) : Type 0 where
       (service : ImportedService) (e s : State)
       → IsInRange e s (thunk_of p service)
       (thunk_begin p service) (thunk_begin p service + 6)
+      → FindsCaller p e s
+  pub names :
+      (f : ℕ) (e s : State) → f < (blocks_of p).count
+      → IsInRange e s (name_thunk_of p f) (block_begin p f) (block_begin p f + NAME_THUNK_SIZE)
+      → FindsCaller p e s
+  pub adding :
+      (f : ℕ) (e s : State) → f < (blocks_of p).count → (blocks_of p).adds ≡ true
+      → IsInRange e s (adding_stub_of p f) (adding_at (block_begin p f))
+      (adding_at (block_begin p f) + STUB_SIZE)
+      → FindsCaller p e s
+  pub removing :
+      (f : ℕ) (e s : State) → f < (blocks_of p).count → (blocks_of p).removes ≡ true
+      → IsInRange e s (removing_stub_of p f) (removing_at (blocks_of p).adds (block_begin p f))
+      (removing_at (blocks_of p).adds (block_begin p f) + STUB_SIZE)
       → FindsCaller p e s
   pub probes :
       (e s : State)

@@ -18,7 +18,7 @@ use Rattle.lowering_locals.specs.Reads.{ReadsNoUnset}
 use Rattle.match_runs.specs.Ends.{run_end_of}
 use Rattle.match_runs.specs.Laws.{ShowsNoMore}
 use Rattle.image_link.specs.Linked.{linked}
-use Rattle.image_link.specs.Walks.{calls_walk}
+use Rattle.image_link.specs.Services.{calls_walk}
 use Rattle.image_runs.specs.SoundImages.{IsLinkable}
 
 -- the name of the function of a number, from 1 on in the order of the program's text

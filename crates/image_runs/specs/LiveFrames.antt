@@ -9,11 +9,11 @@ use Rattle.virtual_unwind.specs.Contexts.{get, rsp}
 use Rattle.virtual_unwind.specs.CallerOf.{Functions}
 use Rattle.seh_records.specs.declared.dispatch.DispatchRecord.{DispatchRecord}
 use Rattle.seh_records.specs.Record.{fetched}
-use Rattle.seh_walk.specs.Walk.{filter_return, finally_return}
+use Rattle.seh_walk.specs.Walk.{filter_return, finally_return, vectored_return}
 use Rattle.host_model.specs.declared.funclet.Funclet.{Funclet}
 use Rattle.linear_code.specs.Program.{LinearProgram}
 use Rattle.linear_machine.specs.Frames as linear
-use Rattle.linear_machine.specs.Frames.{BodyName, body_of, Item, Waits, Searches, Unwinds, Configuration}
+use Rattle.linear_machine.specs.Frames.{BodyName, body_of, Asked, FilterOf, VectoredAt, Item, Waits, Searches, Unwinds, Configuration}
 use Rattle.linear_machine.specs.Run.{instruction_in}
 use Rattle.match_stack.specs.Stack.{IsAsTold}
 use Rattle.match_stack.specs.PlainWalks.{state}
@@ -23,15 +23,21 @@ use Rattle.match_bodies.specs.ProgramImages.{frame_of}
 use Rattle.match_bodies.specs.Bodies.{slots_end, last_temporary}
 use Rattle.match_runs.specs.Walked.{LiveFrame, walked}
 
+-- where what a search asks returns to in the host
+abbrev pub answers_to : Asked → ℕ
+answers_to (FilterOf h rest) = filter_return
+answers_to (VectoredAt place) = vectored_return
+
 module _ (t : Functions) (fs : List Funclet) (program : LinearProgram) (p : ImagePlan) where
-  -- where a body returns to, by what is below it: the first one to 0, a called one past its call, a
-  -- filter or a block that the dispatcher called to the host's return address for it
+  -- where a body returns to, by what is below it: the first one to 0, a called one past its call; a
+  -- vectored handler, a filter or a block that the dispatcher called to the host's return address
+  -- for it
   abbrev pub back_to : List Item → Option ℕ
   back_to [] = Some 0
   back_to (Waits w ∷ below) =
       return_of (p.layout w.body) (p.address w.body w.next)
       (instruction_in (body_of program w.body) w.next)
-  back_to (Searches exception resumption asked rest ∷ below) = Some filter_return
+  back_to (Searches exception resumption asked ∷ below) = Some (answers_to asked)
   back_to (Unwinds rest target ∷ below) = Some finally_return
 
   -- a leaf function leaves the nonvolatile registers; what another body's codes tell of, above its
@@ -67,8 +73,8 @@ module _ (t : Functions) (fs : List Funclet) (program : LinearProgram) (p : Imag
   AreFrames m c (Waits b ∷ below) acts (f ∷ frames) =
       IsFrameOf m c b below acts f × AreFrames m f.caller below
       (activations_below b.body acts) frames
-  AreFrames m c (Searches exception resumption asked rest ∷ below) acts frames =
-      (r : DispatchRecord) × IsRecordAt m c filter_return r
+  AreFrames m c (Searches exception resumption asked ∷ below) acts frames =
+      (r : DispatchRecord) × IsRecordAt m c (answers_to asked) r
       × AreFrames m (context_of r.saved) below acts frames
   AreFrames m c (Unwinds rest target ∷ below) acts frames =
       (r : DispatchRecord) × IsRecordAt m c finally_return r × AreFrames m r.walk below acts frames

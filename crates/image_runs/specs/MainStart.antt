@@ -9,7 +9,6 @@ use Rattle.host_model.specs.Loading.{first_cpu}
 use Rattle.source_meaning.specs.Source.{first_memory}
 use Rattle.linear_code.specs.Program.{LinearProgram, LinearFunction}
 use Rattle.match_stack.specs.ImagePlan.{ImagePlan}
-use Rattle.match_stack.specs.DispatchStates.{HasNoHandlers}
 use Rattle.match_runs.specs.Comes.{Comes}
 use Rattle.image_runs.specs.MatchLaws.{most_before_main}
 use Rattle.lowering_invariants.specs.SmallNumbers.{AreSmall}
@@ -30,7 +29,7 @@ module _ (t : Functions) (fs : List Funclet) (program : LinearProgram) (p : Imag
     pub cpu : s.cpu ≡ first_cpu (q.function program.main) arg
     pub memory : IsMachineMemory t fs program p q s.memory (first_memory program.globals)
     pub returns : word s.memory first_stack ≡ Ok 0
-    pub no_handlers : HasNoHandlers s
+    pub no_handlers : s.vectored ≡ []
 
   -- a few turns that show nothing, and eight more for each 1 that `main` weighs above 1, come to
   -- its first instruction: its arguments are its first locals, and numbers that the stack held are

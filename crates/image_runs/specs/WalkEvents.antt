@@ -6,7 +6,7 @@ use Rattle.c_checked.specs.Sound.{IsSound}
 use Rattle.source_meaning.specs.Meaning.{meaning}
 use Rattle.linear_machine.specs.BuiltInCalls.{IsNotAt}
 use Rattle.seh_ir.specs.Lowered.{lowered}
-use Rattle.image_link.specs.Walks.{calls_walk}
+use Rattle.image_link.specs.Services.{calls_walk}
 
 -- they show no event of a printed walk
 abbrev pub MeaningsWalkByCalls : Type 0

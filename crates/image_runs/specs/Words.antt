@@ -16,7 +16,7 @@ pub use Rattle.linear_code.specs.Program.{LinearProgram, LinearFunction, LinearB
 pub use Rattle.linear_code.specs.declared.instruction.Instruction.{Instruction}
 pub use Rattle.linear_code.specs.declared.slot.Slot.{Slot}
 pub use Rattle.linear_code.specs.declared.slot.Slot.TheVariants.{Local, Temporary}
-pub use Rattle.linear_machine.specs.Frames.{weight_of, Waits, Configuration, Seen, Running, Finished, Next, last_temporaries, BodyName, FunctionBody, Frame, body_of, FuncletBody, function_body, Item, Searches, Unwinds, Stuck}
+pub use Rattle.linear_machine.specs.Frames.{weight_of, Waits, Configuration, Seen, Running, Finished, Next, last_temporaries, BodyName, FunctionBody, Frame, body_of, FuncletBody, function_body, Asked, FilterOf, VectoredAt, Item, Searches, Unwinds, Stuck}
 unfoldable pub use Rattle.linear_machine.specs.Frames.{pick, with_some}
 pub use Rattle.linear_machine.specs.Instructions.{act, begin_function, waiting}
 pub use Rattle.linear_machine.specs.Run.{instruction_at, instruction_in, main_arguments, start, seen, linear_meaning}

@@ -3,8 +3,8 @@
 ghost use Rattle.image_runs.specs.FrameCallers.{LoweredFindsCallers};
 
 /// At every instruction of a checked program's image the walk finds the caller: in functions and
-/// funclets, prologues, epilogues and cold parts included, in leaf functions, thunks and
-/// `__chkstk`.
+/// funclets, prologues, epilogues and cold parts included, in leaf functions, thunks, the stubs of
+/// vectored handlers and `__chkstk`.
 pub fn laws()
     ensures callers { LoweredFindsCallers }
 {}

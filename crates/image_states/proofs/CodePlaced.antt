@@ -3,15 +3,13 @@ use Rattle.std.proofs.Common.{◌≡◌, ℕ, suc, ◌+◌, ◌*◌, ◌-◌, �
 use Rattle.std.specs.List.{AllByRecursion}
 use Rattle.std.proofs.lemmas.Grind.{flat_map-append}
 use Rattle.std.proofs.lemmas.List.{append-nil}
-use Rattle.image_states.specs.Words.{Service, service_named, is_writable, Memory, may_write, chosen, modrm, Section, Import, ImageContents, image_of, imports_of, sizes_of, rdata_at, end_at, mode_in, stored_byte, with_slots, mapped, IsExecutableAt, BuiltIn, Put, Protect, RaiseException, Walk, LinearBody, LinearProgram, BodyName, body_of, Instr, spelled, size, sizes, check_stack, IsCodeAt, SiteView, routine_size, routine_code, routine_bytes, apart_code, apart_bytes, links, text_begin, linked, routines, site_of, image_base, begin_of, code_of, cold_code_of, HasProgram, functions_of, funclets_of, routine_of, plan_of, sites_of, HasWholeImage, MOST_IMAGE, is_readable, number_at, may_read, name_of, slot_of, SlotsAreApart, thunk, thunk_at, service_thunk, front_code, routines_bytes, all_apart_bytes, service_of, HasService, tables_size, slots_at, place_of, routines_begin, cold_begin}
+use Rattle.image_states.specs.Words.{Service, service_named, is_writable, Memory, may_write, chosen, modrm, Section, Import, ImageContents, image_of, imports_of, sizes_of, rdata_at, end_at, mode_in, stored_byte, with_slots, mapped, IsExecutableAt, LinearBody, LinearProgram, BodyName, body_of, Instr, spelled, size, sizes, check_stack, IsCodeAt, SiteView, routine_size, routine_code, routine_bytes, apart_code, apart_bytes, links, text_begin, linked, routines, site_of, image_base, begin_of, code_of, cold_code_of, functions_of, funclets_of, routine_of, plan_of, sites_of, HasWholeImage, MOST_IMAGE, is_readable, number_at, may_read, name_of, slot_of, SlotsAreApart, thunk, thunk_at, service_thunk, front_code, routines_bytes, all_apart_bytes, site_blocks, HasService, tables_size, slots_at, place_of, routines_begin, cold_begin}
 use Rattle.host_layout.specs.declared.service.Service.TheVariants as services
 use Rattle.host_layout.specs.Services.{address_of}
 use Rattle.host_layout.specs.declared.imported.ImportedService.{ImportedService}
 use Rattle.host_layout.specs.declared.imported.ImportedService.TheVariants as imports
 use Rattle.image_states.proofs.Lemmas.{listed, slots_read, sizes_spelled, routine_small, is, text_is, rdata_is, end_inside, code_length, cold_small}
-use Rattle.image_link.specs.Walks.{IsImported}
-use Rattle.linear_machine.specs.BuiltInCalls.{CallsBuiltIn}
-use Rattle.image_states.proofs.FunctionNames.{called_is_named}
+use Rattle.image_link.specs.Services.{IsImported}
 use Rattle.image_link.proofs.Front.{imports_small, services_few, services_there, thunks_size}
 use Rattle.image_link.proofs.Imports.{thunk_there, slot_there, IsWithin, all_from}
 use Rattle.template_code.specs.Jumps.{distance}
@@ -26,7 +24,7 @@ use Rattle.image_states.proofs.Data.{tables_there}
 
 -- ---- code that may not be written
 
-code_at : (m : Memory) (at : ℕ) (bytes : List ℕ) → IsExecutableAt m at bytes
+pub code_at : (m : Memory) (at : ℕ) (bytes : List ℕ) → IsExecutableAt m at bytes
     → ((k : ℕ) → k < length bytes → may_write m (at + k) ≡ false) → IsCodeAt m at bytes
 code_at m at [] s fixed = tt
 code_at m at (b ∷ bytes) s fixed =
@@ -88,7 +86,7 @@ module _ (program : LinearProgram) (c : HasWholeImage program) where
         placed = record { low = omega arith; high = omega arith };
       }
 
-  body_code : (name : BodyName) (b : LinearBody) → body_of program name ≡ Some b
+  pub body_code : (name : BodyName) (b : LinearBody) → body_of program name ≡ Some b
       → HasCode m (begin_of (plan_of program) (sites_of program) name)
       (code_of program (plan_of program) (sites_of program) name b)
   unfolding routine_bytes
@@ -106,7 +104,7 @@ module _ (program : LinearProgram) (c : HasWholeImage program) where
       (sym (code_same program c name b is'))
       (code_is x.begin h.before h.after code h.bytes h.here (omega arith)))
 
-  cold_code : (name : BodyName) (b : LinearBody) → body_of program name ≡ Some b
+  pub cold_code : (name : BodyName) (b : LinearBody) → body_of program name ≡ Some b
       → HasCode m ((sites_of program).cold name)
       (cold_code_of (plan_of program) (sites_of program) name b)
   unfolding apart_bytes
@@ -138,24 +136,30 @@ module _ (program : LinearProgram) (c : HasWholeImage program) where
   abbrev cold : List ℕ
   cold = all_apart_bytes s (routines_begin program) (cold_begin program) (routines program)
 
+  abbrev last : List ℕ
+  last = site_blocks s
+
+  text_split : p.text ≡ front ++ (hot ++ (cold ++ last))
+  text_split = append_assoc (front ++ hot) cold last ∙ append_assoc front hot (cold ++ last)
+
   -- the thunk of a service that is imported
   thunk_is : (v : ImportedService) → IsImported program v
       → IsCodeAt m (T + 6 * place_of s.imports v) (t v)
   thunk_is v is_there =
-      let f = thunk_there s.imports s.text s.rdata v (hot ++ cold)
+      let f = thunk_there s.imports s.text s.rdata v (hot ++ (cold ++ last))
       (services_there program v is_there) in
       let long = f.long in
       let at : T + length f.before ≡ T + 6 * place_of s.imports v = omega arith in
       let b = (code_split m T f.before (t v ++ f.after)
-      (subst (IsCodeAt m T) (append_assoc front hot cold ∙ f.same) text_code)).1 in
+      (subst (IsCodeAt m T) (text_split ∙ f.same) text_code)).1 in
       subst (λ (n : ℕ). IsCodeAt m n (t v)) at
       (code_split m (T + length f.before) (t v) f.after b).0
 
   check_is : IsCodeAt m (T + 6 * length s.imports) (spelled check_stack)
   check_is =
       let thunks = map (service_thunk s.imports s.text s.rdata) s.imports in
-      let all = (code_split m T front (hot ++ cold)
-      (subst (IsCodeAt m T) (append_assoc front hot cold) text_code)).0 in
+      let all = (code_split m T front (hot ++ (cold ++ last))
+      (subst (IsCodeAt m T) text_split text_code)).0 in
       let at : T + length (spelled thunks) ≡ T + 6 * length s.imports = omega (
         arith,
         sizes_spelled thunks,
@@ -229,36 +233,32 @@ module _ (program : LinearProgram) (c : HasWholeImage program) where
   Serves at service = HasService (functions_of program) (funclets_of program) program
       (plan_of program) (sites_of program) m at service
 
-  -- the thunk of a service that is imported, through its slot
-  serves : (v : ImportedService) (service : Service) (at : ℕ) → IsImported program v
-      → at ≡ image_base + thunk_at s.imports s.text v
-      → service_named (name_of v) ≡ Some service → Serves at service
-  serves v service at imported here' name =
-      let n = 6 * place_of s.imports v in
+  -- a jump through the slot of a service that is imported, at an address of the text
+  pub serves_at : (v : ImportedService) (service : Service) (n : ℕ) → IsImported program v
+      → service_named (name_of v) ≡ Some service → s.text ≤ n → n + 6 ≤ r
+      → IsCodeAt m (image_base + n)
+      (chosen (thunk (distance (n + 6) (s.rdata + slot_of s.imports v))))
+      → Serves (image_base + n) service
+  serves_at v service n imported name after before is =
       let there = services_there program v imported in
       let few = imports_small s.imports (services_few program) in
       let l = low in
-      let end = end_inside program c.fits in
-      let text' = text_is program c.fits in
       let same = rdata_is program c.fits in
-      let away = r + slot_of s.imports v - (s.text + n + 6) in
-      let far : image_base + (r + slot_of s.imports v) ≡ at + 6 + away = omega arith in
-      let d : distance (thunk_at s.imports s.text v + 6) (s.rdata + slot_of s.imports v)
-      ≡ away = omega arith in
-      let own : T + n ≡ at = omega arith in
-      let spells : t v ≡ spelled (thunk away ∷ []) = ap (λ (k : ℕ). chosen (thunk k)) d
+      let away = r + slot_of s.imports v - (n + 6) in
+      let far : image_base + (r + slot_of s.imports v) ≡ image_base + n + 6 + away = omega arith in
+      let d : distance (n + 6) (s.rdata + slot_of s.imports v) ≡ away = omega arith in
+      let code = chosen (thunk (distance (n + 6) (s.rdata + slot_of s.imports v))) in
+      let spells : code ≡ spelled (thunk away ∷ []) = ap (λ (k : ℕ). chosen (thunk k)) d
       ∙ sym (append-nil (chosen (thunk away))) in
-      let long : length (t v) ≡ 6 = six v in
+      let long : length code ≡ 6 = ap length (thunk_bytes _) in
       let wide : sizes (thunk away ∷ []) ≡ 6 = sym (sizes_spelled (thunk away ∷ []))
       ∙ sym (ap length spells) ∙ long in
-      let is_there = subst (λ (k : ℕ). IsCodeAt m k (spelled (thunk away ∷ []))) own
-      (subst (IsCodeAt m (T + n)) spells (thunk_is v imported)) in
       record {
         thunk = record {
           away = away;
           near = omega arith;
           code = record {
-            is_there = is_there;
+            is_there = subst (IsCodeAt m (image_base + n)) spells is;
             placed = record { low = omega arith; high = omega arith };
           };
           readable = λ a le lt. readable a (omega arith) (omega arith);
@@ -277,28 +277,18 @@ module _ (program : LinearProgram) (c : HasWholeImage program) where
         };
       }
 
-  thunks : (f : BuiltIn) → CallsBuiltIn program f
-      → Serves ((sites_of program).thunk f) (service_of f)
-  thunks Put called = serves imports.Put services.Put ((sites_of program).thunk Put) tt refl refl
-  thunks Protect called =
-      serves imports.Protect services.Protect ((sites_of program).thunk Protect) tt refl refl
-  thunks RaiseException called =
-      serves imports.RaiseException services.RaiseException
-      ((sites_of program).thunk RaiseException) tt refl refl
-  thunks Walk called =
-      serves imports.Walk services.Walk ((sites_of program).thunk Walk)
-      (called_is_named program called) refl refl
+  -- the thunk of a service that is imported
+  pub serves : (v : ImportedService) (service : Service) → IsImported program v
+      → service_named (name_of v) ≡ Some service
+      → Serves (image_base + thunk_at s.imports s.text v) service
+  serves v service imported name =
+      let n = 6 * place_of s.imports v in
+      let there = services_there program v imported in
+      let end = end_inside program c.fits in
+      let text' = text_is program c.fits in
+      let own : T + n ≡ image_base + thunk_at s.imports s.text v = omega arith in
+      serves_at v service (thunk_at s.imports s.text v) imported name (omega arith) (omega arith)
+      (subst (λ (k : ℕ). IsCodeAt m k (t v)) own (thunk_is v imported))
 
-  unwinds : Serves (sites_of program).local_unwind services.LocalUnwind
-  unwinds = serves imports.LocalUnwind services.LocalUnwind (sites_of program).local_unwind tt refl
-      refl
-
-  pub has_program : HasProgram (functions_of program) (funclets_of program) program
-      (plan_of program) (sites_of program) m
-  has_program = record {
-    code = body_code;
-    cold_code = cold_code;
-    thunks = thunks;
-    local_unwind = unwinds;
-    check_stack = check_code;
-  }
+  pub unwinds : Serves (sites_of program).local_unwind services.LocalUnwind
+  unwinds = serves imports.LocalUnwind services.LocalUnwind tt refl

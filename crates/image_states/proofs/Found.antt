@@ -1,7 +1,7 @@
 -- In a linked program's code, and at the host's services, a walk finds callers.
-use Rattle.std.proofs.Common.{◌≡◌, ◌≢◌, ℕ, ◌+◌, ◌-◌, ◌^◌, ◌<◌, true, false, List, ◌∷◌, ◌++◌, length, Option, Some, None, refl, sym, ap, subst, ◌∙◌, arith}
+use Rattle.std.proofs.Common.{◌≡◌, ℕ, ◌+◌, ◌-◌, ◌*◌, ◌^◌, ◌<◌, ◌≤◌, true, false, List, [], ◌∷◌, ◌++◌, length, Option, Some, None, refl, sym, ap, subst, ◌∙◌, arith}
 use Rattle.std.specs.Prelude.{slice_get}
-use Rattle.image_states.specs.Words.{Memory, Rax, Instr, modrm, Table, Entry, BuiltIn, Put, Protect, RaiseException, Walk, Functions, distance, entry_of, Slot, LinearBody, LinearProgram, BodyName, body_of, FrameLayout, size, sizes, fetch, check_stack, routines, cold_total, argument_code, Placed, part_with, end_of, site_of, image_base, begin_of, making_size, FindsReturn, FindsOwed, owed_of, owed_by, functions_of, funclets_of, is_leaf, or_none, owed_after, routine_of, address_of, plan_of, sites_of, HasWholeImage, IsNear, holding, thunks_at, thunk_of, FindsCallers, FindsCallersOutside, services_of, routines_begin, cold_begin, probe_begin}
+use Rattle.image_states.specs.Words.{Memory, Rax, Instr, modrm, Table, Entry, BuiltIn, Put, Protect, RaiseException, Walk, Functions, distance, entry_of, Slot, LinearBody, LinearProgram, BodyName, body_of, FrameLayout, size, sizes, fetch, check_stack, routines, cold_total, argument_code, Placed, part_with, end_of, site_of, image_base, begin_of, making_size, FindsReturn, FindsOwed, owed_of, owed_by, functions_of, funclets_of, is_leaf, or_none, owed_after, routine_of, address_of, plan_of, sites_of, HasWholeImage, IsNear, holding, FindsCallers, FindsCallersOutside, services_of, routines_begin, cold_begin, probe_begin}
 use Rattle.image_tables.specs.RoutinePlaces.{parts_of}
 use Rattle.eh_tables.specs.Tables as reading
 use Rattle.linear_code.specs.declared.instruction.Instruction.TheVariants as instructions
@@ -9,7 +9,28 @@ use Rattle.image_states.proofs.ColdLabels.{first_hot}
 use Rattle.image_states.proofs.Lemmas.{beyond_is_held_by_none, thunks_are_held_by_none, tables_are_read, end_inside, away}
 use Rattle.host_layout.specs.declared.imported.ImportedService.TheVariants as imports
 use Rattle.x64_emit.specs.declared.links.Thunks.{Thunks}
-use Rattle.image_link.proofs.Front.{place_small}
+use Rattle.std.specs.Prelude.{nat_lt, if◌then◌else◌}
+use Rattle.std.proofs.lemmas.Bool.{ltb-true}
+use Rattle.std.specs.Prelude.{Bool}
+use Rattle.c_operations.specs.declared.built_in.BuiltIn.TheVariants.{AddVectored, RemoveVectored}
+use Rattle.host_layout.specs.declared.imported.ImportedService.{ImportedService}
+use Rattle.x64_instr.specs.declared.register.Reg.{Reg}
+use Rattle.x64_instr.specs.declared.register.Reg.TheVariants.{Rcx, Rdx}
+use Rattle.template_code.specs.Handlers.{address_in}
+use Rattle.x64_emit.specs.declared.links.Stubs.{Stubs}
+use Rattle.x64_emit.specs.Linking.{stub_of, AreStubsNear}
+use Rattle.x64_emit.proofs.Stubs.{stub_below}
+use Rattle.image_link.specs.Handlers.{adding_of, removing_of}
+use Rattle.image_link.specs.Near.{IsSiteNear}
+use Rattle.image_link.specs.Text.{thunk_at}
+use Rattle.image_link.proofs.Blocks.{adding_near, removing_near, step_below}
+use Rattle.image_link.proofs.Front.{place_small, services_few}
+use Rattle.image_link.proofs.Images.{site_near, has_places}
+use Rattle.image_link.proofs.Nearness.{routines_near}
+use Rattle.image_tables.specs.RoutinePlaces.{block_begin}
+use Rattle.match_bodies.specs.ProgramImages.{stub_code}
+use Rattle.image_states.specs.Plans.{thunks_of}
+use Rattle.image_states.proofs.StubsPlaced.{adding_count, adds_is, handler_is, rcx_size, rdx_size}
 use Rattle.image_tables.specs.Entries as tables
 use Rattle.image_tables.proofs.Labels.{within_get}
 use Rattle.image_states.proofs.Addresses.{place, own_cold, body_first, hot_below, label_rises}
@@ -53,6 +74,17 @@ module _ (program : LinearProgram) (c : HasWholeImage program) (m : Memory) wher
         not_vectored = λ z. absurd (omega arith);
       }) (away rva (omega arith)) (thunks_are_held_by_none program rva c.fits lt)
 
+  -- behind the last cold part
+  pub behind_at : (rva : ℕ) → cold_begin program + cold_total (routines program) ≤ rva
+      → rva < 2 ^ 31 → FindsReturn table m (image_base + rva)
+  behind_at rva le lt =
+      outside_at (image_base + rva) rva (record {
+        live = omega arith;
+        not_filter = λ z. absurd (omega arith);
+        not_finally = λ z. absurd (omega arith);
+        not_vectored = λ z. absurd (omega arith);
+      }) (away rva (omega arith)) (beyond_is_held_by_none program rva c.fits le)
+
   -- in the host's page
   pub host_at : (a : ℕ) → IsOwnAddress a → a < 0x100000000 → FindsReturn table m a
   host_at a own low =
@@ -66,14 +98,92 @@ module _ (program : LinearProgram) (c : HasWholeImage program) (m : Memory) wher
 
 module _ (program : LinearProgram) (c : HasWholeImage program) where
   abbrev places : Thunks
-  places = thunks_at (services_of program) (site_of program).text
+  places = thunks_of program
 
-  thunk_low : (f : BuiltIn) → thunk_of places f < routines_begin program
-  thunk_low Put = let place = place_small (services_of program) imports.Put in omega arith
-  thunk_low Protect = let place = place_small (services_of program) imports.Protect in omega arith
-  thunk_low RaiseException =
-      let place = place_small (services_of program) imports.RaiseException in omega arith
-  thunk_low Walk = let place = place_small (services_of program) imports.Walk in omega arith
+  -- in the thunk of a service
+  service_found : (m : Memory) (v : ImportedService)
+      → FindsReturn (functions_of program) m
+      (image_base + thunk_at (services_of program) (site_of program).text v)
+  service_found m v =
+      let place = place_small (services_of program) v in
+      front_at program c m (thunk_at (services_of program) (site_of program).text v) (omega arith)
+
+  -- in a stub, or where there is none
+  stub_found : (m : Memory) (s : Stubs) (f d : ℕ) → AreStubsNear s → d < 13
+      → cold_begin program + cold_total (routines program) ≤ s.first
+      → FindsReturn (functions_of program) m (image_base + (stub_of s f + d))
+  stub_found m s f d near lt le =
+      by (nat_lt f s.count) (λ e. stub_below s.step s.count f (ltb-true f s.count e))
+    where
+      by : (there : Bool) → (there ≡ true → s.step * f ≤ s.step * s.count)
+          → FindsReturn (functions_of program) m
+          (image_base + ((if there then s.first + s.step * f else 0) + d))
+      by true below =
+          let most = below refl in
+          behind_at program c m (s.first + s.step * f + d) (omega arith) (omega arith)
+      by false below =
+          let e : image_base + d ≡ image_base + (0 + d) = omega arith in
+          subst (λ a. FindsReturn (functions_of program) m a) e
+          (front_at program c m d (omega arith))
+
+  near : IsSiteNear (site_of program)
+  near = site_near (services_of program) program.globals (routines program)
+      (length program.functions) program.main (services_few program) c.fits.globals
+      (routines_near program c.fits) (has_places program c.fits)
+
+  -- an address d bytes into what is called
+  plain_found : (m : Memory) (v : ImportedService) (d : ℕ) → d < 6
+      → FindsReturn (functions_of program) m
+      (image_base + thunk_at (services_of program) (site_of program).text v + d)
+  plain_found m v d lt =
+      let place = place_small (services_of program) v in
+      let at = thunk_at (services_of program) (site_of program).text v in
+      let e : image_base + (at + d) ≡ image_base + at + d = omega arith in
+      subst (λ a. FindsReturn (functions_of program) m a) e
+      (front_at program c m (at + d) (omega arith))
+
+  moved_stub : (m : Memory) (t : Stubs) (f d : ℕ) → AreStubsNear t → d < 13
+      → cold_begin program + cold_total (routines program) ≤ t.first
+      → FindsReturn (functions_of program) m (image_base + stub_of t f + d)
+  moved_stub m t f d near lt le =
+      let e : image_base + (stub_of t f + d) ≡ image_base + stub_of t f + d = omega arith in
+      subst (λ a. FindsReturn (functions_of program) m a) e (stub_found m t f d near lt le)
+
+  stub_size : (r : Reg) (at f : ℕ) → ((next to : ℕ) → size (address_in r next to) ≡ 7)
+      → sizes (address_in r (at + 7) f ∷ []) ≡ 7
+  stub_size r at f seven = let s = seven (at + 7) f in omega arith
+
+  thunk_found : (m : Memory) (f : BuiltIn) (d : ℕ)
+      → d < sizes (stub_code (plan_of program) f ((sites_of program).thunk f)) + 6
+      → FindsReturn (functions_of program) m ((sites_of program).thunk f + d)
+  thunk_found m Put d lt = plain_found m imports.Put d (omega arith)
+  thunk_found m Protect d lt = plain_found m imports.Protect d (omega arith)
+  thunk_found m RaiseException d lt = plain_found m imports.RaiseException d (omega arith)
+  thunk_found m Walk d lt = plain_found m imports.Walk d (omega arith)
+  thunk_found m (AddVectored f) d lt =
+      let b = (site_of program).blocks in
+      let size = stub_size Rdx ((sites_of program).thunk (AddVectored f))
+      ((plan_of program).handler f) rdx_size in
+      moved_stub m (adding_of b) f d (adding_near b near.blocks) (omega arith) (omega arith)
+  thunk_found m (RemoveVectored f) d lt =
+      let b = (site_of program).blocks in
+      let size = stub_size Rcx ((sites_of program).thunk (RemoveVectored f))
+      ((plan_of program).handler f) rcx_size in
+      moved_stub m (removing_of b) f d (removing_near b near.blocks) (omega arith) (omega arith)
+
+  -- in a name thunk
+  name_found : (m : Memory) (f d : ℕ) → (site_of program).blocks.count ≡ length program.functions
+      → f < length program.functions → d < 15
+      → FindsReturn (functions_of program) m ((plan_of program).handler f + d)
+  name_found m f d count lt small =
+      let b = (site_of program).blocks in
+      let last = near.blocks in
+      let below = step_below b f (omega arith) in
+      let at = block_begin program f in
+      let own = handler_is program c f (omega arith) in
+      let e : image_base + (at + d) ≡ (plan_of program).handler f + d = omega arith in
+      subst (λ a. FindsReturn (functions_of program) m a) e
+      (behind_at program c m (at + d) (omega arith) (omega arith))
 
   stack_check : sizes check_stack ≡ 41
   unfolding size modrm
@@ -82,10 +192,11 @@ module _ (program : LinearProgram) (c : HasWholeImage program) where
   pub callers_outside : FindsCallersOutside (functions_of program) (funclets_of program) program
       (plan_of program) (sites_of program)
   callers_outside = record {
-    thunks = λ m f called. front_at program c m (thunk_of places f) (thunk_low f);
-    local_unwind = λ m.
-        (let place = place_small (services_of program) imports.LocalUnwind in
-        front_at program c m places.local_unwind (omega arith));
+    thunks = λ m f d called lt. thunk_found m f d lt;
+    names = λ m f d adds below lt.
+        (let count = adding_count program c (adds_is program c adds.function adds.adds) in
+        name_found m f d count below lt);
+    local_unwind = λ m. service_found m imports.LocalUnwind;
     check_stack = λ m d lt.
         (let at = probe_begin program in
         let n = stack_check in

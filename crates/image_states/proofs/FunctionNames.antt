@@ -1,19 +1,20 @@
 -- The rows of names of a program's image hold the code of its functions, with their numbers.
 use Rattle.std.proofs.Common.{◌≡◌, ◌⊎◌, ℕ, zero, suc, ◌+◌, ◌<◌, ◌≤◌, Bool, true, List, [], ◌∷◌, ◌++◌, length, get_or, take, Option, Some, None, inl, inr, refl, ap, subst, ◌∙◌, arith}
 use Rattle.std.specs.Prelude.{slice_get, option_map}
-use Rattle.std.proofs.lemmas.Bool.{or_left, or_right, cases_lt, eq-eqb, ne_eqb}
+use Rattle.std.proofs.lemmas.Bool.{cases_lt, eq-eqb, ne_eqb}
 use Rattle.std.proofs.lemmas.List.{length-take-le}
 use Rattle.std.proofs.lemmas.Option.{slice_get_within}
 use Rattle.c_operations.specs.declared.built_in.BuiltIn.TheVariants.{Walk}
-use Rattle.linear_code.specs.declared.instruction.Instruction.TheVariants as instructions
 use Rattle.linear_machine.specs.BuiltInCalls.{CallsBuiltIn}
 use Rattle.pe_image.specs.NameRows.{NameRow, name_of, name_or, rows_read}
 use Rattle.seh_walk.specs.Controls.{number_at}
-use Rattle.image_link.specs.Walks.{is_walk, has_walk, functions_walk, funclets_walk, calls_walk, named_if, function_rows, cold_rows}
+use Rattle.image_link.specs.Services.{calls_walk}
+use Rattle.image_link.specs.Walks.{named_if, function_rows, cold_rows}
 use Rattle.match_stack.specs.ControlAddresses.{NumbersFunctions}
-use Rattle.image_states.specs.Words.{Instruction, LinearBody, LinearFunction, LinearFunclet, LinearProgram, BodyName, FunctionBody, FuncletBody, body_of, function_body, funclet_body, instruction_in, RoutineView, routines, routine_size, bounds, distance, image_base, functions_of, routine_of, plan_of, HasWholeImage, InCode, routines_begin, cold_begin, site_of, first_cursor}
-use Rattle.image_states.proofs.Lemmas.{no_routine, none_some, some_same, bounds_rise, as_long, routines_near}
+use Rattle.image_states.specs.Words.{LinearBody, LinearFunction, LinearFunclet, LinearProgram, BodyName, FunctionBody, FuncletBody, body_of, function_body, funclet_body, RoutineView, routines, routine_size, bounds, distance, image_base, functions_of, routine_of, plan_of, HasWholeImage, InCode, routines_begin, cold_begin, site_of, first_cursor}
+use Rattle.image_states.proofs.Lemmas.{no_routine, none_some, bounds_rise, as_long, routines_near}
 use Rattle.image_tables.proofs.NameRows.{names_are_read, bounds_most, first_near}
+use Rattle.image_states.proofs.CalledServices.{called}
 use Rattle.image_states.proofs.Places.{is_function, is_funclet}
 use Rattle.image_states.proofs.Addresses.{IsInRoutine, routine_end, cold_there, code_inside}
 use Rattle.image_states.proofs.LabelOrder.{within}
@@ -21,45 +22,9 @@ use Rattle.image_states.proofs.ColdNames.{number_in, row_behind, row_here, colds
 
 -- ---- a program that calls `walk`
 
-code_walks : (code : List Instruction) (label first : ℕ)
-    → slice_get code label ≡ Some (instructions.CallBuiltIn Walk first) → has_walk code ≡ true
-code_walks [] label first e = absurd (none_some e)
-code_walks (i ∷ code) zero first e = or_left (is_walk i) (has_walk code)
-    (ap is_walk (some_same e))
-code_walks (i ∷ code) (suc label) first e = or_right (is_walk i) (has_walk code)
-    (code_walks code label first e)
-
-function_walks : (fs : List LinearFunction) (f label first : ℕ)
-    → instruction_in (function_body (slice_get fs f)) label
-    ≡ Some (instructions.CallBuiltIn Walk first) → functions_walk fs ≡ true
-function_walks [] f label first e = absurd (none_some e)
-function_walks (g ∷ fs) zero label first e = or_left (has_walk g.body.code) (functions_walk fs)
-    (code_walks g.body.code label first e)
-function_walks (g ∷ fs) (suc f) label first e =
-    or_right (has_walk g.body.code) (functions_walk fs) (function_walks fs f label first e)
-
-funclet_walks : (fs : List LinearFunclet) (k label first : ℕ)
-    → instruction_in (funclet_body (slice_get fs k)) label
-    ≡ Some (instructions.CallBuiltIn Walk first) → funclets_walk fs ≡ true
-funclet_walks [] k label first e = absurd (none_some e)
-funclet_walks (g ∷ fs) zero label first e = or_left (has_walk g.body.code) (funclets_walk fs)
-    (code_walks g.body.code label first e)
-funclet_walks (g ∷ fs) (suc k) label first e =
-    or_right (has_walk g.body.code) (funclets_walk fs) (funclet_walks fs k label first e)
-
-walks_by : (program : LinearProgram) (name : BodyName) (label first : ℕ)
-    → instruction_in (body_of program name) label ≡ Some (instructions.CallBuiltIn Walk first)
-    → calls_walk program ≡ true
-walks_by program (FunctionBody f) label first e =
-    or_left (functions_walk program.functions) (funclets_walk program.funclets)
-    (function_walks program.functions f label first e)
-walks_by program (FuncletBody k) label first e =
-    or_right (functions_walk program.functions) (funclets_walk program.funclets)
-    (funclet_walks program.funclets k label first e)
-
 pub called_is_named : (program : LinearProgram) → CallsBuiltIn program Walk
     → calls_walk program ≡ true
-called_is_named program c = walks_by program c.name c.label c.first c.calls
+called_is_named program c = called Walk program c
 
 -- ---- the row that holds an address
 

@@ -9,6 +9,8 @@ use Rattle.template_code.proofs.ColdParts.{label_next}
 use Rattle.image_tables.proofs.CodeInMemory.{get_is}
 use Rattle.image_tables.proofs.Labels.{within_get}
 use Rattle.image_states.specs.Words.{Instruction, LinearBody, LinearProgram, BodyName, body_of, sizes, template_size, body_size, is_cold, side_from, hot_code, cold_code, label_at, cold_size, Placed, body_begin, end_of, image_base, template_at, begin_of, links_of, entry_code, size_of, end_of_label, functions_of, funclets_of, routine_of, address_of, plan_of, sites_of, HasWholeImage, HasAddresses, HasEnds, ImagesArePrograms, probe_begin}
+use Rattle.image_states.proofs.Leaves.{all_apart}
+use Rattle.image_states.proofs.StubsPlaced.{handlers_small, handlers_apart}
 use Rattle.image_states.proofs.SparedLocals.{spared}
 use Rattle.image_states.proofs.Lemmas.{entry_sizes}
 use Rattle.image_states.proofs.ColdLabels.{same_side}
@@ -169,4 +171,7 @@ images_are_programs program c = record {
   callers = λ name b is. callers program c name b is;
   callers_outside = callers_outside program c;
   names = λ called. names_are_functions program c (called_is_named program called);
+  functions_apart = all_apart program c;
+  handlers_small = handlers_small program c;
+  handlers_apart = λ adds f g lt lt' e. handlers_apart program c adds f g lt lt' e;
 }

@@ -1,12 +1,15 @@
 -- Leaf functions call nothing, and functions begin elsewhere than funclets.
 use Rattle.std.proofs.Common.{◌≡◌, ◌≢◌, ℕ, zero, suc, ◌+◌, ◌<◌, ◌==◌, Bool, true, false, not, List, [], ◌∷◌, length, get_or, Option, Some, None, refl, sym, ap, ◌∙◌, arith}
 use Rattle.std.specs.Prelude.{slice_get, ◌&&◌}
-use Rattle.std.proofs.lemmas.Option.{slice_get_within}
+use Rattle.std.proofs.lemmas.Option.{slice_get_within, slice_get-get_or}
 use Rattle.std.proofs.lemmas.Bool.{and_parts, false≢true}
-use Rattle.image_states.specs.Words.{Instruction, LinearBody, LinearFunction, LinearFunclet, LinearProgram, BodyName, FunctionBody, FuncletBody, function_body, funclet_body, body_of, RoutineView, leaf_if, routines, is_spare, all_spare, bounds, routine_size, first, site_of, image_base, address_or, funclet_begin, is_leaf, routine_of, plan_of, HasWholeImage, LeavesCallNothing, FunctionsApart, routines_begin}
+use Rattle.image_states.specs.Words.{sites_of, Instruction, LinearBody, LinearFunction, LinearFunclet, LinearProgram, BodyName, FunctionBody, FuncletBody, function_body, funclet_body, body_of, RoutineView, leaf_if, routines, is_spare, all_spare, bounds, routine_size, first, site_of, image_base, address_or, funclet_begin, is_leaf, routine_of, plan_of, HasWholeImage, LeavesCallNothing, FunctionsApart, routines_begin}
 use Rattle.linear_code.specs.declared.instruction.Instruction.TheVariants as instructions
 use Rattle.lowering_invariants.specs.ReturnRegions.{is_call}
 use Rattle.image_link.specs.Routines as link
+use Rattle.image_link.specs.Routines.{no_function}
+use Rattle.image_link.specs.Fits.{FitsFunction}
+use Rattle.x64_emit.proofs.Nearby.{all_at}
 use Rattle.image_states.proofs.LeafCode.{leaf_facts}
 use Rattle.image_states.proofs.Lemmas.{no_routine, some_same, none_some, bounds_rise, as_long, begin_is}
 use Rattle.image_states.proofs.Places.{is_function, is_funclet}
@@ -119,6 +122,16 @@ module _ (program : LinearProgram) (c : HasWholeImage program) where
       let r = bounds_rise (routines_begin program) rs f (length program.functions + k) 0 no_routine
       (omega arith) (omega arith) in
       omega arith
+
+-- so does each function of the program
+pub all_apart : (program : LinearProgram) (c : HasWholeImage program) (f k : ℕ)
+    → f < length program.functions → k < length program.funclets
+    → (sites_of program).function f ≢ (plan_of program).funclet k
+all_apart program c f k lt below =
+    let fn = get_or program.functions f no_function in
+    let fits = all_at FitsFunction program.functions f no_function c.fits.functions lt in
+    apart program c f k fn.body
+    (ap function_body (slice_get-get_or program.functions f no_function lt)) fits.some below
 
 pub functions_apart : FunctionsApart
 functions_apart program c f k b is some lt = apart program c f k b is some lt

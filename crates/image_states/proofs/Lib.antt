@@ -5,6 +5,7 @@ mod ColdLabels
 pub mod Addresses
 mod LabelOrder
 mod ColdNames
+pub mod CalledServices
 pub mod FunctionNames
 mod LeafCode
 pub mod Slots
@@ -25,4 +26,5 @@ pub mod Leaves
 pub mod Sections
 pub mod Data
 pub mod CodePlaced
+pub mod StubsPlaced
 pub mod Starting

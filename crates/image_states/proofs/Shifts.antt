@@ -14,7 +14,7 @@ use Rattle.image_states.proofs.Lemmas.{test_small, arguments_small, passing_smal
 
 -- ---- distances
 
-away : (base next to next' to' : ℕ) → next' ≡ base + next → to' ≡ base + to → base + next ≤ 2 ^ 64
+pub away : (base next to next' to' : ℕ) → next' ≡ base + next → to' ≡ base + to → base + next ≤ 2 ^ 64
     → distance next' to' ≡ distance next to
 away base next to next' to' e f le = omega arith
 
@@ -34,7 +34,7 @@ module _ (base : ℕ) (small : base ≤ 2 ^ 48) where
   call_moved next to next' to' e f lt = ap (λ (d : ℕ). instrs.Call (Relative d))
       (away base next to next' to' e f (omega arith))
 
-  jump_moved : (next to next' to' : ℕ) → next' ≡ base + next → to' ≡ base + to → next < 2 ^ 48
+  pub jump_moved : (next to next' to' : ℕ) → next' ≡ base + next → to' ≡ base + to → next < 2 ^ 48
       → jump next' to' ≡ jump next to
   jump_moved next to next' to' e f lt = ap (λ (d : ℕ). instrs.Jump (Relative d))
       (away base next to next' to' e f (omega arith))

@@ -3,7 +3,8 @@ use Rattle.std.proofs.Common.{◌≡◌, ℕ, ◌+◌, ◌^◌, Bool, true, fals
 use Rattle.std.specs.Prelude.{option_map}
 use Rattle.std.proofs.lemmas.Bool.{le-leb}
 use Rattle.image_states.specs.Words.{Image, Import, ImageContents, image_of, Table, Entry, LinearProgram, linked, HasWholeImage, reason_unless, first_of, of_tables, table_refusal, has_place, place_refusal, first_unknown, import_refusal, is_code, has_entry, entry_refusal, load_refusal, ImagesStart, ImagesLoad}
-use Rattle.image_link.specs.Walks.{services_if, services_of, calls_walk}
+use Rattle.host_layout.specs.declared.imported.ImportedService.TheVariants.{AddVectored, RemoveVectored, Walk}
+use Rattle.image_link.specs.Services.{services_if, services_of, calls}
 use Rattle.pe_write.specs.ImportTables.{imported, slots_at}
 use Rattle.pe_write.specs.Program.{rdata_at, sizes_of}
 use Rattle.image_states.proofs.Lemmas.{listed, is, tables_are_read}
@@ -14,7 +15,7 @@ use Rattle.image_tables.proofs.NameRows.{names_are_read}
 use Rattle.host_model.specs.Loading.{of_names}
 use Rattle.image_states.proofs.Sections.{covered, above, here, past}
 use Rattle.image_states.proofs.Data.{globals, text, tables, infos, functions, named, agrees, stack_writes, arena_alone, data_alone}
-use Rattle.image_states.proofs.CodePlaced.{has_program}
+use Rattle.image_states.proofs.StubsPlaced.{has_program}
 
 pub images_start : ImagesStart
 images_start program c bytes = record {
@@ -32,14 +33,22 @@ none_of : (t p i e n : Option LoadErr) → t ≡ None → p ≡ None → i ≡ N
 none_of t p i e n h1 h2 h3 h4 h5 = rw (h1, h2, h3, h4, h5) refl
 
 -- each service that a program imports is one of the host's
-known_by : (walks : Bool) (slot : ℕ) → first_unknown (imported slot (services_if walks)) ≡ None
-known_by true slot = refl
-known_by false slot = refl
+known_by : (adds removes walks : Bool) (slot : ℕ)
+    → first_unknown (imported slot (services_if adds removes walks)) ≡ None
+known_by true true true slot = refl
+known_by true true false slot = refl
+known_by true false true slot = refl
+known_by true false false slot = refl
+known_by false true true slot = refl
+known_by false true false slot = refl
+known_by false false true slot = refl
+known_by false false false slot = refl
 
 all_known : (program : LinearProgram) (slot : ℕ)
     → first_unknown (imported slot (services_of program)) ≡ None
 unfolding services_of
-all_known program slot = known_by (calls_walk program) slot
+all_known program slot =
+    known_by (calls AddVectored program) (calls RemoveVectored program) (calls Walk program) slot
 
 module _ (program : LinearProgram) (c : HasWholeImage program) where
   abbrev p : ImageContents

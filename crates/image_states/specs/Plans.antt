@@ -30,13 +30,17 @@ use Rattle.template_code.specs.Calls.{return_at}
 use Rattle.template_code.specs.Template.{template_size}
 use Rattle.x64_templates.specs.Straight.{MachineView}
 use Rattle.x64_templates.specs.Implements.{high_of}
-use Rattle.x64_emit.specs.Linking.{address_or, thunk_of}
+use Rattle.x64_emit.specs.Linking.{address_or, stub_of, thunk_of}
+use Rattle.x64_emit.specs.declared.links.Thunks.{Thunks}
 use Rattle.image_link.specs.declared.routine.Entry.TheVariants as entries
+use Rattle.x64_emit.specs.declared.links.Stubs.{Stubs}
+use Rattle.image_link.specs.declared.handlers.Blocks.{Blocks}
+use Rattle.image_link.specs.Handlers.{step_of}
 use Rattle.image_link.specs.Routines.{nothing}
 use Rattle.image_link.specs.Text.{thunks_at}
 use Rattle.image_link.specs.Linked.{linked}
-use Rattle.image_link.specs.Walks.{services_of}
-use Rattle.image_tables.specs.RoutinePlaces.{Placed, site_of, placed, probe_begin}
+use Rattle.image_link.specs.Services.{services_of}
+use Rattle.image_tables.specs.RoutinePlaces.{Placed, site_of, placed, probe_begin, blocks_of}
 use Rattle.image_tables.specs.Entries as tables
 use Rattle.image_tables.specs.CodeInMemory.{image_base, template_at}
 use Rattle.image_tables.specs.RegionRows.{funclet_begin}
@@ -211,12 +215,17 @@ resumes program resumption b values saved =
 
 -- ---- the plan
 
+-- where the name thunks of functions are
+abbrev pub names_of : Blocks → Stubs
+names_of b = record { first = b.first; step = step_of b; count = b.count }
+
 -- where the parts of a program's image are
 abbrev pub plan_of : LinearProgram → ImagePlan
 plan_of program = record {
   address = address_of program;
   after = end_of_label program;
   funclet = λ k. image_base + funclet_begin program k;
+  handler = λ f. image_base + stub_of (names_of (blocks_of program)) f;
   leaf = λ name. is_leaf (routine_of program name).routine.frame;
   entry =
       λ name label. tables.entry_at (site_of program) (routine_of program name)
@@ -227,12 +236,17 @@ plan_of program = record {
   resumes = resumes program;
 }
 
--- where functions, cold parts, thunks and `__chkstk` begin
+-- the thunks and stubs of its image
+abbrev pub thunks_of : LinearProgram → Thunks
+thunks_of program =
+    let s = site_of program in thunks_at (services_of program) s.text s.blocks
+
+-- where functions, cold parts, thunks or stubs, and `__chkstk` begin
 abbrev pub sites_of : LinearProgram → Sites
 sites_of program = record {
   function = λ f. image_base + address_or (site_of program).functions f 0;
   cold = λ name. image_base + (routine_of program name).cold;
-  thunk = λ f. image_base + thunk_of (thunks_at (services_of program) (site_of program).text) f;
-  local_unwind = image_base + (thunks_at (services_of program) (site_of program).text).local_unwind;
+  thunk = λ f. image_base + thunk_of (thunks_of program) f;
+  local_unwind = image_base + (thunks_of program).local_unwind;
   check_stack = image_base + probe_begin program;
 }

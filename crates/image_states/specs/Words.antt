@@ -71,11 +71,11 @@ pub use Rattle.x64_emit.specs.Linking.{address_or, thunk_of}
 pub use Rattle.x64_emit.specs.Near.{IsInstructionNear, IsNear}
 pub use Rattle.image_link.specs.Fits.{FitsProgram, FitsFunclet, function_bodies, funclet_bodies, FitsBody, FitsFunction}
 pub use Rattle.image_link.specs.Linked.{text_begin, first, linked, data_size}
-pub use Rattle.image_link.specs.Walks.{services_of}
+pub use Rattle.image_link.specs.Services.{services_of}
 pub use Rattle.image_link.specs.Near.{IsFrameNear}
 pub use Rattle.image_link.specs.Routines.{RoutineView, funclet_frame, funclet, routines, leaf_if, nothing, no_function, is_kept, is_spare, all_spare, kept_by, HasParent, functions_from, function_frame}
 pub use Rattle.image_link.specs.Tables.{has_except, has_finally, handler_address, jump_target, scope_record}
-pub use Rattle.image_link.specs.Text.{routine_size, cold_size, total, cold_total, check_stack_at, bounds, argument_code, routine_code, apart_code, SiteView, own_addresses, thunk_at, service_thunk, front_code, routines_bytes, all_apart_bytes, thunks_at}
+pub use Rattle.image_link.specs.Text.{routine_size, cold_size, total, cold_total, check_stack_at, bounds, argument_code, routine_code, apart_code, SiteView, own_addresses, thunk_at, service_thunk, front_code, routines_bytes, all_apart_bytes, site_blocks, thunks_at}
 unfoldable pub use Rattle.image_link.specs.Text.{entry_size, routine_bytes, apart_bytes}
 pub use Rattle.image_tables.specs.CodeInMemory.{image_base, template_at, links, IsReturn, IsInBody}
 pub use Rattle.image_tables.specs.RegionRows.{funclet_begin, rows_of, regions_in, regions, funclet_in, named, IsRow, AreRows}

@@ -22,10 +22,13 @@ use Rattle.std.specs.Prelude.{slice_get}
 use Rattle.std.proofs.lemmas.Bool.{lt-ltb}
 use Rattle.image_tables.proofs.Lemmas.{routine_small, place_small, services_few}
 use Rattle.image_tables.specs.Entries as tables
-use Rattle.image_tables.proofs.Lookups.{part_within, entries_are_held, leaves_are_held_by_none, thunks_are_held_by_none}
-use Rattle.image_tables.proofs.Table.{table, table_entries, tables_are_read}
-use Rattle.image_tables.specs.Functions.{thunk_of}
-use Rattle.image_tables.specs.FrameLaws.{IsPast}
+use Rattle.image_tables.proofs.Lookups.{part_within, entries_are_held, leaves_are_held_by_none, thunks_are_held_by_none, beyond_is_held_by_none}
+use Rattle.image_tables.proofs.Table.{table, table_entries, tables_are_read, blocks_inside, image_small}
+use Rattle.image_tables.specs.Functions.{thunk_of, name_thunk_of, adding_stub_of, removing_stub_of}
+use Rattle.image_tables.specs.FrameLaws.{IsPast, IsInRange, NameThunksAreFound, AddingStubsAreFound, RemovingStubsAreFound}
+use Rattle.image_tables.specs.RoutinePlaces.{blocks_of, block_begin}
+use Rattle.image_link.specs.Handlers.{step_of, removing_at, stub_size_if}
+use Rattle.image_link.proofs.Blocks.{step_below}
 use Rattle.image_tables.proofs.CodeInMemory.{IsThere, there, cold_small}
 use Rattle.image_tables.proofs.FrameRules.{right, rest_keeps, part_keeps, all_keep, is_there, part_is_there, leaf_fine}
 use Rattle.image_tables.proofs.BodyFrames.{away, found_in, part_found}
@@ -268,6 +271,55 @@ pub thunk_ok : (p : LinearProgram) (service : ImportedService)
     → is_body (following 0 0 [] (thunk_of p service) (Body [])) ≡ true
 unfolding modrm
 thunk_ok p service = refl
+
+-- in a block
+in_block : (p : LinearProgram) (fits : FitsProgram p) → HasRegions p → (f : ℕ)
+    → f < (blocks_of p).count → (e s : State) (rest : List FetchedInstr) (begin end : ℕ)
+    → block_begin p f ≤ begin → end ≤ block_begin p f + step_of (blocks_of p)
+    → is_body (following 0 0 [] rest (Body [])) ≡ true → IsInRange e s rest begin end
+    → FindsCaller p e s
+in_block p fits regions f there e s rest begin end le most ok h =
+    let inside = blocks_inside p fits in
+    let small = image_small p fits in
+    let below = step_below (blocks_of p) f there in
+    let low = h.low in
+    let high = h.high in
+    unheld p fits regions e s rest h.rva (omega arith) h.here
+    (beyond_is_held_by_none p h.rva fits (omega arith)) ok h.entry h.body
+
+pub name_thunk_ok : (p : LinearProgram) (f : ℕ)
+    → is_body (following 0 0 [] (name_thunk_of p f) (Body [])) ≡ true
+unfolding modrm
+name_thunk_ok p f = refl
+
+pub name_thunks_are_found : NameThunksAreFound
+name_thunks_are_found p f e s fits regions there h =
+    in_block p fits regions f there e s (name_thunk_of p f) (block_begin p f)
+    (block_begin p f + 15) (omega arith) (omega arith) (name_thunk_ok p f) h
+
+pub adding_stub_ok : (p : LinearProgram) (f : ℕ)
+    → is_body (following 0 0 [] (adding_stub_of p f) (Body [])) ≡ true
+unfolding modrm
+adding_stub_ok p f = refl
+
+pub removing_stub_ok : (p : LinearProgram) (f : ℕ)
+    → is_body (following 0 0 [] (removing_stub_of p f) (Body [])) ≡ true
+unfolding modrm
+removing_stub_ok p f = refl
+
+pub adding_stubs_are_found : AddingStubsAreFound
+adding_stubs_are_found p f e s fits regions there has h =
+    let size = ap stub_size_if has in
+    let begin = block_begin p f in
+    in_block p fits regions f there e s (adding_stub_of p f) (begin + 15) (begin + 15 + 13)
+    (omega arith) (omega arith) (adding_stub_ok p f) h
+
+pub removing_stubs_are_found : RemovingStubsAreFound
+removing_stubs_are_found p f e s fits regions there has h =
+    let size = ap stub_size_if has in
+    let begin = removing_at (blocks_of p).adds (block_begin p f) in
+    in_block p fits regions f there e s (removing_stub_of p f) begin (begin + 13)
+    (omega arith) (omega arith) (removing_stub_ok p f) h
 
 pub probe_ok : is_body (following 0 0 [] probe (Body [])) ≡ true
 unfolding modrm

@@ -4,7 +4,7 @@ use Rattle.std.specs.Prelude.{if◌then◌else◌, slice_get}
 use Rattle.std.specs.List.{AllByRecursion}
 use Rattle.std.proofs.lemmas.Grind.{flat_map-append}
 use Rattle.x64_emit.proofs.Parts.{all_taken, room_both}
-use Rattle.image_tables.specs.Words.{Memory, Instr, chosen, IsExecutableAt, Instruction, LabelRange, LinearProgram, Layout, spelled, sizes, Links, template, template_size, body_size, code_from, is_cold, side_from, hot_code, cold_code, part_code, label_at, FitsProgram, RoutineView, routines, IsRoutineNear, SiteView, routine_size, cold_size, total, entry_code, entry_size, check_stack_at, routine_code, apart_code, routines_bytes, all_apart_bytes, text_begin, linked, Placed, PlacedPart, Cursor, past, placed_from, first_cursor, parts_of, site_of, placed, image_base, HasText, IsNear, links, links_of, routine_room, room, addresses, front_code, routine_bytes, apart_bytes, code_of_part}
+use Rattle.image_tables.specs.Words.{Memory, Instr, chosen, IsExecutableAt, Instruction, LabelRange, LinearProgram, Layout, spelled, sizes, Links, template, template_size, body_size, code_from, is_cold, side_from, hot_code, cold_code, part_code, label_at, FitsProgram, RoutineView, routines, IsRoutineNear, SiteView, routine_size, cold_size, total, entry_code, entry_size, check_stack_at, routine_code, apart_code, routines_bytes, all_apart_bytes, site_blocks, text_begin, linked, Placed, PlacedPart, Cursor, past, placed_from, first_cursor, parts_of, site_of, placed, image_base, HasText, IsNear, links, links_of, routine_room, room, addresses, front_code, routine_bytes, apart_bytes, code_of_part}
 use Rattle.template_code.specs.ColdParts.{same}
 use Rattle.template_code.proofs.ColdParts.{side_all, body_size_both, code_both, label_in_side}
 use Rattle.x64_emit.specs.Near.{IsInstructionNear}
@@ -138,21 +138,22 @@ pub record IsThere (s : SiteView) (text : List ℕ) (begin : ℕ) (x : Placed) :
   pub apart_here : begin + length ahead ≡ x.cold
 
 module _ (s : SiteView) (text : List ℕ) (begin : ℕ) where
-  there_from : (c : Cursor) (rs : List RoutineView) (before more ahead : List ℕ) (index : ℕ)
+  there_from : (c : Cursor) (rs : List RoutineView) (before more ahead last : List ℕ) (index : ℕ)
       (x : Placed)
       → slice_get (placed_from s c rs) index ≡ Some x
       → AllByRecursion IsRoutineNear rs → AllByRecursion RoutineSaves rs
       → IsNear (c.begin + room rs) → IsNear (c.cold + cold_rooms rs)
       → text ≡ before ++ (routines_bytes s c.begin c.cold rs ++ more)
       → begin + length before ≡ c.begin
-      → text ≡ ahead ++ all_apart_bytes s c.begin c.cold rs → begin + length ahead ≡ c.cold
-      → IsThere s text begin x
-  there_from c [] before more ahead index x e near saves lt lt' is here apart there =
+      → text ≡ ahead ++ (all_apart_bytes s c.begin c.cold rs ++ last)
+      → begin + length ahead ≡ c.cold → IsThere s text begin x
+  there_from c [] before more ahead last index x e near saves lt lt' is here apart there =
       absurd (none_some e)
-  there_from c (r ∷ rs) before more ahead zero x e near saves lt lt' is here apart there =
+  there_from c (r ∷ rs) before more ahead last zero x e near saves lt lt' is here apart there =
       let own = routine_bytes s c.begin c.cold r in
       let n = past s c r in
       let others = routines_bytes s n.begin n.cold rs in
+      let colds = all_apart_bytes s n.begin n.cold rs in
       subst (IsThere s text begin) (some_same e)
       (record {
         near = near.0;
@@ -164,11 +165,13 @@ module _ (s : SiteView) (text : List ℕ) (begin : ℕ) where
         here = here;
         cold_room = omega arith;
         ahead = ahead;
-        behind = all_apart_bytes s n.begin n.cold rs;
-        apart = apart;
+        behind = colds ++ last;
+        apart = apart ∙ ap (λ t. ahead ++ t)
+            (append_assoc (apart_bytes s c.begin c.cold r) colds last);
         apart_here = there;
       })
-  there_from c (r ∷ rs) before more ahead (suc index) x e near saves lt lt' is here apart there =
+  there_from c (r ∷ rs) before more ahead last (suc index) x e near saves lt lt' is here apart
+      there =
       let small = routine_small r near.0 in
       let cold = cold_small r near.0 in
       let n = past s c r in
@@ -177,15 +180,17 @@ module _ (s : SiteView) (text : List ℕ) (begin : ℕ) where
       let long = routine_length s c.begin c.cold r near.0 in
       let colds = apart_bytes s c.begin c.cold r in
       let longer = apart_length s c.begin c.cold r in
-      there_from n rs (before ++ bytes) more (ahead ++ colds)
+      let more_colds = all_apart_bytes s n.begin n.cold rs in
+      there_from n rs (before ++ bytes) more (ahead ++ colds) last
       index x e near.1 saves.1 (omega arith) (omega arith)
       (is ∙ ap (λ t. before ++ t) (append_assoc bytes others more)
       ∙ sym (append_assoc before bytes (others ++ more)))
       (omega (arith, length-append before bytes))
-      (apart ∙ sym (append_assoc ahead colds (all_apart_bytes s n.begin n.cold rs)))
+      (apart ∙ ap (λ t. ahead ++ t) (append_assoc colds more_colds last)
+      ∙ sym (append_assoc ahead colds (more_colds ++ last)))
       (omega (arith, length-append ahead colds))
 
-routines_length : (s : SiteView) (c : Cursor) (rs : List RoutineView)
+pub routines_length : (s : SiteView) (c : Cursor) (rs : List RoutineView)
     → AllByRecursion IsRoutineNear rs
     → length (routines_bytes s c.begin c.cold rs) ≡ total rs
 routines_length s c [] near = refl
@@ -214,11 +219,14 @@ there p index x fits e =
     let front = spelled (front_code s.imports s.text s.rdata) in
     let hot = routines_bytes s c.begin c.cold rs in
     let cold = all_apart_bytes s c.begin c.cold rs in
+    let last = site_blocks s in
     let long = routines_length s c rs near in
     let rooms = rooms_small rs near in
-    there_from s (linked p).text (text_begin p.globals) c rs front cold (front ++ hot) index x e
-    near (routines_save p fits) (omega arith) (omega arith) (append_assoc front hot cold)
-    (omega (arith, sizes_spelled (front_code s.imports s.text s.rdata))) refl
+    there_from s (linked p).text (text_begin p.globals) c rs front (cold ++ last) (front ++ hot)
+    last index x e near (routines_save p fits) (omega arith) (omega arith)
+    (append_assoc (front ++ hot) cold last ∙ append_assoc front hot (cold ++ last))
+    (omega (arith, sizes_spelled (front_code s.imports s.text s.rdata)))
+    (append_assoc (front ++ hot) cold last)
     (omega (
       arith,
       length-append front hot,
@@ -226,7 +234,8 @@ there p index x fits e =
     ))
 
 -- bytes of the text are at their address
-piece_is_at : (p : LinearProgram) (m : Memory) (at : ℕ) (before bytes after : List ℕ) → HasText m p
+pub piece_is_at : (p : LinearProgram) (m : Memory) (at : ℕ) (before bytes after : List ℕ)
+    → HasText m p
     → (linked p).text ≡ before ++ (bytes ++ after)
     → text_begin p.globals + length before ≡ at → IsExecutableAt m (image_base + at) bytes
 piece_is_at p m at before bytes after text e here =

@@ -33,8 +33,9 @@ module _ (p : LinearProgram) (fits : FitsProgram p) where
 
   low : r + 0x3000 < 2 ^ 32
   low =
-      let fit = tables_fit (services_of p) p.globals (routines p) (services_few p) fits.globals
-      (routines_near p fits) (has_places p fits).room in
+      let fit = tables_fit (services_of p) p.globals (routines p) (length p.functions)
+      (services_few p) fits.globals (routines_near p fits) (has_places p fits).room
+      (has_places p fits).fewer in
       let e = rdata_is p fits in
       omega arith
 

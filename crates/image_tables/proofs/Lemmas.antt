@@ -9,6 +9,6 @@ pub use Rattle.x64_emit.proofs.Nearby.{near_signed, instruction_in_room, all_at,
 pub use Rattle.image_link.proofs.Bounds.{bounds_length, bounds_least, bounds_below, count_small, text_length, total_small}
 pub use Rattle.image_link.proofs.Entries.{entry_sizes, routine_small, entry_small}
 pub use Rattle.image_link.proofs.Front.{front_sizes, imports_small, place_small, services_few, services_there}
-pub use Rattle.image_link.proofs.Images.{functions_count, has_places, has_names, site_near, tables_fit, no_routine, is_program}
+pub use Rattle.image_link.proofs.Images.{functions_count, has_places, has_names, site_near, site_fewer, tables_fit, no_routine, is_program}
 pub use Rattle.image_link.proofs.Imports.{place_here, place_later, same_service, thunk_there, IsWithin, slots_within, all_from}
 pub use Rattle.image_link.proofs.Nearness.{routines_near}

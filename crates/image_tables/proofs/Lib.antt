@@ -18,6 +18,7 @@ pub mod FuncletNumbers
 pub mod TryRows
 pub mod ImageText
 pub mod CodeInMemory
+pub mod BlockPlaces
 pub mod BodyInstructions
 pub mod Templates
 pub mod Links

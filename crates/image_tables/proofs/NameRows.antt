@@ -15,7 +15,8 @@ use Rattle.image_link.specs.Routines.{leaf_if}
 use Rattle.image_link.specs.Text.{bounds}
 use Rattle.x64_emit.specs.Bodies.{part_ranges}
 use Rattle.image_link.specs.Places.{parts_at}
-use Rattle.image_link.specs.Walks.{calls_walk, IsName, IsNamed, named_if, named_functions, function_rows, part_rows, cold_rows}
+use Rattle.image_link.specs.Services.{calls_walk}
+use Rattle.image_link.specs.Walks.{IsName, IsNamed, named_if, named_functions, function_rows, part_rows, cold_rows}
 use Rattle.template_code.proofs.ColdParts.{kept}
 use Rattle.image_tables.specs.Words.{LabelRange, LinearFunction, LinearProgram, is_cold, AreParts, part_code, side_from, FitsProgram, RoutineView, IsRoutineNear, functions_from, funclet, routines, routine_size, cold_size, total, cold_total, linked, routines_begin, cold_begin}
 use Rattle.image_tables.specs.NameLaws.{NamesAreRead, FunctionsHaveNames}

@@ -3,10 +3,8 @@ use Rattle.std.proofs.Common.{◌≡◌, ℕ, zero, suc, ◌+◌, ◌<◌, ◌�
 use Rattle.std.specs.Prelude.{◌&&◌, ◌||◌, slice_get}
 use Rattle.std.specs.List.{AllByRecursion}
 use Rattle.std.proofs.lemmas.Bool.{and_parts, lt-leb, false≢true}
-use Rattle.std.proofs.lemmas.List.{length-replicate}
 use Rattle.image_tables.specs.Words.{Program, Statements, Function, Instruction, LabelRange, Region, Local, Temporary, LinearBody, LinearFunction, LinearFunclet, Names, Owner, statements_regions, finally_funclet, lowered, scope_of, lowered_function, is_cold, all_spare, IsRange, HasRanges, statements_notes, finally_scope, LoweredHasRegions}
 use Rattle.c_checked.specs.declared.function.DataPart.{DataPart}
-use Rattle.c_checked.specs.Program.{surplus}
 use Rattle.linear_code.specs.declared.instruction.Instruction.TheVariants as instructions
 use Rattle.linear_machine.specs.Frames.{FunctionBody, FuncletBody, function_body, funclet_body}
 use Rattle.lowering_expressions.specs.declared.scope.LoweringContext.{LoweringContext}
@@ -17,6 +15,7 @@ use Rattle.lowering_invariants.proofs.ColdParts.{lowered_has_cold_parts}
 use Rattle.seh_ir.specs.Funclets.{finally_begin}
 use Rattle.seh_ir.specs.Lowered.{first_separators, open_code, close_code, body_start}
 use Rattle.seh_ir.proofs.FunctionCodes.{open_length}
+use Rattle.seh_ir.proofs.Lowering.{length_first}
 use Rattle.seh_ir.specs.Statements.{statements_code}
 use Rattle.seh_ir.proofs.StatementParts.{statements_have}
 use Rattle.seh_ir.proofs.EveryStatement.{WaysHave, any_neutral, IsPlaced, HoldsOfPieces, statements_every}
@@ -101,7 +100,7 @@ function_spans f =
     let l = length-append (first_separators f) (opens ++ (code ++ last)) in
     let a = length-append opens (code ++ last) in
     let b = length-append code last in
-    let s = length-replicate (surplus f) instructions.Separator in
+    let s = length_first f in
     let o = open_length f.data_frame in
     statements_range (length (lowered_function f).body.code) f.body (scope_of f) (body_start f)
     (record { exit = tt; loop_end = tt; loop_next = tt; leave = tt }) (omega arith)

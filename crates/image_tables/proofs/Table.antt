@@ -3,7 +3,7 @@ use Rattle.std.proofs.Common.{◌*◌, ◌≡◌, ℕ, zero, suc, ◌+◌, ◌%�
 use Rattle.std.specs.List.{AllByRecursion}
 use Rattle.std.proofs.lemmas.Grind.{flat_map-append}
 use Rattle.std.proofs.lemmas.List.{map-append, length-map}
-use Rattle.image_tables.specs.Words.{Image, stored, is_c_handler, Table, Entry, or_none, ◌>>=◌, unwind_bytes, CSpecificHandler, ImageContents, CanBeImage, sizes_of, text_at, rdata_at, xdata_at, Region, Instruction, LabelRange, LinearProgram, FrameLayout, Layout, info_of, thunk, distance, chosen, spelled, body_size, part_code, FitsProgram, RoutineView, routines, IsFrameNear, IsRoutineNear, SiteView, routine_size, cold_size, total, cold_total, entry_size, own_addresses, thunk_at, front_code, routines_bytes, all_apart_bytes, bounds, trailer, scope_record, scope_records, scope_table, info_if, info_bytes, linked, Placed, PlacedPart, Cursor, put, past, end_of, parts_from, parts_of, placed_from, first_cursor, site_of, infos_begin, placed, HasRanges, HasRegions, range_of, scopes_of, has_rows, entry_if, part_entry, chained_if, entries, AreInOrder, MOST_IMAGE, IsStoredAt, IsRuntimeFunction, WrittenEntry, HasScopes, IsEntryWritten, as_read, ranges_of, info_written, Tables, directory, all_entries, tables, scope_bytes, table_bytes, service_thunk, info_bytes_of, infos, chained_info, chained_bytes, chained_infos, CHAINED_SIZE, fragments_of, fragments, all_ranges, unwind_of, TablesAreRead, front_size, slot_of, routines_begin, cold_begin, chained_begin}
+use Rattle.image_tables.specs.Words.{Image, step_of, site_blocks, stored, is_c_handler, Table, Entry, or_none, ◌>>=◌, unwind_bytes, CSpecificHandler, ImageContents, CanBeImage, sizes_of, text_at, rdata_at, xdata_at, Region, Instruction, LabelRange, LinearProgram, FrameLayout, Layout, info_of, thunk, distance, chosen, spelled, body_size, part_code, FitsProgram, RoutineView, routines, IsFrameNear, IsRoutineNear, SiteView, routine_size, cold_size, total, cold_total, entry_size, own_addresses, thunk_at, front_code, routines_bytes, all_apart_bytes, bounds, trailer, scope_record, scope_records, scope_table, info_if, info_bytes, linked, Placed, PlacedPart, Cursor, put, past, end_of, parts_from, parts_of, placed_from, first_cursor, site_of, infos_begin, placed, HasRanges, HasRegions, range_of, scopes_of, has_rows, entry_if, part_entry, chained_if, entries, AreInOrder, MOST_IMAGE, IsStoredAt, IsRuntimeFunction, WrittenEntry, HasScopes, IsEntryWritten, as_read, ranges_of, info_written, Tables, directory, all_entries, tables, scope_bytes, table_bytes, service_thunk, info_bytes_of, infos, chained_info, chained_bytes, chained_infos, CHAINED_SIZE, fragments_of, fragments, all_ranges, unwind_of, TablesAreRead, front_size, slot_of, routines_begin, cold_begin, chained_begin}
 use Rattle.image_tables.specs.Entries.{entries_of, chained_of}
 use Rattle.eh_tables.specs.declared.range.RuntimeFunction.{RuntimeFunction}
 use Rattle.eh_tables.specs.ReadAgain.{IsInfoWritten}
@@ -17,7 +17,7 @@ use Rattle.image_link.specs.declared.fragments.Fragment.{Fragment}
 use Rattle.image_link.specs.Places.{parts_at}
 use Rattle.image_link.specs.Tables.{fragment, fragments_if}
 use Rattle.image_link.specs.Walks.{named_functions}
-use Rattle.image_tables.proofs.Lemmas.{can_be_written, listed, text_length, is_program, tables_fit, has_places, has_names, no_routine, routines_near, services_few, services_there, thunk_there}
+use Rattle.image_tables.proofs.Lemmas.{can_be_written, listed, text_length, is_program, tables_fit, site_fewer, has_places, has_names, no_routine, routines_near, services_few, services_there, thunk_there}
 use Rattle.image_tables.specs.RegionRanges.{IsRange as IsRegionRange}
 use Rattle.image_tables.proofs.RoutineRanges.{RoutineHasRanges, routines_have}
 use Rattle.image_tables.proofs.ImagePieces.{text_there, xdata_there, pdata_there}
@@ -78,8 +78,11 @@ module _ (p : LinearProgram) (fits : FitsProgram p) where
 
   -- ---- its sizes
 
-  pub text_is : length program.text ≡ front_size s.imports + total rs + cold_total rs
-  text_is = text_length s rs near
+  pub text_is : length program.text
+      ≡ front_size s.imports + total rs + cold_total rs + step_of s.blocks * s.blocks.count
+  text_is =
+      text_length s rs near
+      (site_fewer s.imports p.globals rs (length p.functions) (has_places p fits).fewer)
 
   pub rdata_is : rdata_at (sizes_of program) ≡ s.rdata
   rdata_is = let t = text_is in omega arith
@@ -89,6 +92,10 @@ module _ (p : LinearProgram) (fits : FitsProgram p) where
 
   pub end_inside : cold_begin p + cold_total rs < image.size
   end_inside = let t = text_is in omega arith
+
+  -- with the blocks
+  pub blocks_inside : s.blocks.first + step_of s.blocks * s.blocks.count < image.size
+  blocks_inside = let t = text_is in omega arith
 
   pub image_small : image.size < 2 ^ 32
   image_small = is.end
@@ -104,13 +111,16 @@ module _ (p : LinearProgram) (fits : FitsProgram p) where
       let front = spelled (front_code s.imports s.text s.rdata) in
       let hot = routines_bytes s c.begin c.cold rs in
       let apart = all_apart_bytes s c.begin c.cold rs in
-      let t = thunk_there s.imports s.text s.rdata v (hot ++ apart) (services_there p v tt) in
+      let last = site_blocks s in
+      let t = thunk_there s.imports s.text s.rdata v (hot ++ (apart ++ last))
+      (services_there p v tt) in
       let long = t.long in
       let n : length thunk ≡ 6 = ap length (thunk_bytes _) in
       let at : text_at (sizes_of program) + length t.before
       ≡ thunk_at s.imports s.text v = omega arith in
       let h = text_there program is t.before thunk t.after
-      (append_assoc front hot apart ∙ t.same) (omega arith) in
+      (append_assoc (front ++ hot) apart last ∙ append_assoc front hot (apart ++ last) ∙ t.same)
+      (omega arith) in
       ap (λ (k : ℕ). stored image.sections k 6) (sym at)
       ∙ ap (stored image.sections (text_at (sizes_of program) + length t.before)) (sym n) ∙ h
 
@@ -119,8 +129,8 @@ module _ (p : LinearProgram) (fits : FitsProgram p) where
       let r = rdata_at (sizes_of program) in
       let to = r + slot_of s.imports CSpecificHandler in
       let text = text_is in
-      let fit = tables_fit s.imports p.globals rs (services_few p) fits.globals near
-      (has_places p fits).room in
+      let fit = tables_fit s.imports p.globals rs (length p.functions) (services_few p)
+      fits.globals near (has_places p fits).room (has_places p fits).fewer in
       let there = services_there p CSpecificHandler tt in
       let at = thunk_at s.imports s.text CSpecificHandler in
       handler_is_c image at r to s.imports there refl (omega arith) (omega arith)
@@ -423,8 +433,8 @@ module _ (p : LinearProgram) (fits : FitsProgram p) where
   infos_fit : chained_begin p + CHAINED_SIZE
       * length (fragments s (infos_begin p) (routines_begin p) (cold_begin p) rs) < 2 ^ 31
   infos_fit =
-      let fit = tables_fit s.imports p.globals rs (services_few p) fits.globals near
-      (has_places p fits).room in
+      let fit = tables_fit s.imports p.globals rs (length p.functions) (services_few p)
+      fits.globals near (has_places p fits).room (has_places p fits).fewer in
       let few = infos_few s (first_cursor p) rs near in
       omega arith
 

@@ -1,5 +1,5 @@
 -- What holds of the frames of every program that can be linked.
-use Rattle.std.specs.Prelude.{◌≡◌, ◌⊎◌, ℕ, false, ◌+◌, ◌^◌, ◌<◌, ◌≤◌, List, [], ◌++◌, length, slice_get, Some, None, Ok}
+use Rattle.std.specs.Prelude.{◌≡◌, ◌⊎◌, ℕ, Bool, true, false, ◌+◌, ◌^◌, ◌<◌, ◌≤◌, List, [], ◌++◌, length, slice_get, Some, None, Ok}
 use Rattle.flat_memory.specs.Memory.{Memory, may_write}
 use Rattle.x64_machine.specs.declared.context.Context.{Context}
 use Rattle.x64_machine.specs.Contexts.{context_of}
@@ -22,13 +22,16 @@ use Rattle.pe_write.specs.Program.{image_of}
 use Rattle.linear_code.specs.Program.{LinearProgram}
 use Rattle.frame_layout.specs.declared.frame.FrameLayout.{FrameLayout}
 use Rattle.x64_emit.specs.declared.entry.TheConstants.{CHECK_STACK_SIZE}
+use Rattle.x64_emit.specs.declared.handlers.TheConstants.{NAME_THUNK_SIZE, STUB_SIZE}
+use Rattle.image_link.specs.declared.handlers.Blocks.{Blocks}
+use Rattle.image_link.specs.Handlers.{adding_at, removing_at}
 use Rattle.image_link.specs.Fits.{FitsProgram}
 use Rattle.image_link.specs.Linked.{text_begin, linked}
-use Rattle.image_tables.specs.RoutinePlaces.{Placed, PlacedPart, end_of, parts_of, site_of, placed, thunk_begin, probe_begin}
+use Rattle.image_tables.specs.RoutinePlaces.{Placed, PlacedPart, end_of, parts_of, site_of, placed, thunk_begin, probe_begin, blocks_of, block_begin}
 use Rattle.image_tables.specs.RegionRanges.{HasRegions}
 use Rattle.image_tables.specs.Entries.{entry_at}
 use Rattle.image_tables.specs.CodeInMemory.{image_base, HasText, IsInBody}
-use Rattle.image_tables.specs.Functions.{function_of, part, parts, leaf, thunk_of, probe}
+use Rattle.image_tables.specs.Functions.{function_of, part, parts, leaf, thunk_of, name_thunk_of, adding_stub_of, removing_stub_of, probe}
 
 -- ---- the text
 
@@ -180,7 +183,8 @@ pub record IsInRange (e s : State) (rest : List FetchedInstr) (begin end : ℕ) 
   pub low : begin ≤ rva
   pub high : rva < end
 
--- in each state of a leaf function, of the thunk of a service, and of `__chkstk`
+-- in each state of a leaf function, of the thunk of a service, of `__chkstk`, and of what is in
+-- blocks
 abbrev pub LeavesAreFound : Type 0
 LeavesAreFound =
     (p : LinearProgram) (index : ℕ) (x : Placed) (e s : State) → FitsProgram p → HasRegions p
@@ -194,6 +198,32 @@ ThunksAreFound =
     (p : LinearProgram) (service : ImportedService) (e s : State) → FitsProgram p → HasRegions p
     → IsInRange e s (thunk_of p service) (thunk_begin p service) (thunk_begin p service + 6)
     → FindsCaller p e s
+
+-- the caller of a function's name thunk is found, where there are blocks
+abbrev pub NameThunksAreFound : Type 0
+NameThunksAreFound =
+    (p : LinearProgram) (f : ℕ) (e s : State) → FitsProgram p → HasRegions p
+    → f < (blocks_of p).count
+    → IsInRange e s (name_thunk_of p f) (block_begin p f) (block_begin p f + NAME_THUNK_SIZE)
+    → FindsCaller p e s
+
+-- and that of a stub, where the blocks have it
+abbrev pub StubsAreFound : (has : Blocks → Bool) → (code : LinearProgram → ℕ → List FetchedInstr)
+    → (begin : LinearProgram → ℕ → ℕ) → Type 0
+StubsAreFound has code begin =
+    (p : LinearProgram) (f : ℕ) (e s : State) → FitsProgram p → HasRegions p
+    → f < (blocks_of p).count → has (blocks_of p) ≡ true
+    → IsInRange e s (code p f) (begin p f) (begin p f + STUB_SIZE)
+    → FindsCaller p e s
+
+abbrev pub AddingStubsAreFound : Type 0
+AddingStubsAreFound =
+    StubsAreFound (λ b. b.adds) adding_stub_of (λ p f. adding_at (block_begin p f))
+
+abbrev pub RemovingStubsAreFound : Type 0
+RemovingStubsAreFound =
+    StubsAreFound (λ b. b.removes) removing_stub_of
+    (λ p f. removing_at (blocks_of p).adds (block_begin p f))
 
 -- the caller of `__chkstk` is found
 abbrev pub ProbesAreFound : Type 0

@@ -5,7 +5,7 @@ use Rattle.pe_write.specs.Program.{image_of}
 use Rattle.linear_code.specs.Program.{LinearFunction, LinearProgram}
 use Rattle.image_link.specs.Fits.{FitsProgram}
 use Rattle.image_link.specs.Linked.{linked}
-use Rattle.image_link.specs.Walks.{calls_walk}
+use Rattle.image_link.specs.Services.{calls_walk}
 
 -- they are the rows that are written
 abbrev pub NamesAreRead : Type 0

@@ -1,5 +1,6 @@
 -- The routines of a program where they are: its functions, and then its funclets, by their
--- numbers; and behind all of them their cold parts.
+-- numbers; behind all of them their cold parts; and then the blocks of functions for vectored
+-- handlers, where there are any.
 use Rattle.std.specs.Prelude.{ℕ, ◌+◌, ◌*◌, List, [], ◌∷◌, length}
 use Rattle.host_layout.specs.declared.imported.ImportedService.{ImportedService}
 use Rattle.linear_code.specs.declared.instruction.Instruction.{Instruction}
@@ -8,12 +9,14 @@ use Rattle.linear_code.specs.Program.{LinearProgram}
 use Rattle.template_code.specs.declared.layout.Layout.{Layout}
 use Rattle.template_code.specs.Template.{body_size}
 use Rattle.template_code.specs.ColdParts.{part_code}
+use Rattle.image_link.specs.declared.handlers.Blocks.{Blocks}
+use Rattle.image_link.specs.Handlers.{name_at}
 use Rattle.image_link.specs.Routines.{RoutineView, routines}
 use Rattle.image_link.specs.Text.{SiteView, routine_size, cold_size, entry_size, thunk_at, check_stack_at}
 use Rattle.image_link.specs.declared.fragments.TheConstants.{CHAINED_SIZE}
 use Rattle.image_link.specs.Tables.{info_bytes, infos, fragments_of}
 use Rattle.image_link.specs.Linked.{text_begin, first, first_cold, xdata_begin, site}
-use Rattle.image_link.specs.Walks.{services_of}
+use Rattle.image_link.specs.Services.{services_of}
 
 -- a routine, the address of its first byte, and that of its unwind info, if it has one; where its
 -- cold parts begin, and where the unwind infos of these do
@@ -90,7 +93,8 @@ abbrev pub site_of : LinearProgram → SiteView
 site_of p = site (services_of p) p.globals (routines p) (length p.functions)
 
 abbrev pub infos_begin : LinearProgram → ℕ
-infos_begin p = xdata_begin (services_of p) p.globals (routines p)
+infos_begin p =
+    xdata_begin (services_of p) p.globals (routines p) (length p.functions)
 
 -- after the thunks of services and `__chkstk`
 abbrev pub routines_begin : LinearProgram → ℕ
@@ -99,6 +103,13 @@ routines_begin p = first (services_of p) p.globals
 -- after the routines
 abbrev pub cold_begin : LinearProgram → ℕ
 cold_begin p = first_cold (services_of p) p.globals (routines p)
+
+-- after the cold parts: the blocks of functions for vectored handlers, and that of a function
+abbrev pub blocks_of : LinearProgram → Blocks
+blocks_of p = (site_of p).blocks
+
+abbrev pub block_begin : LinearProgram → ℕ → ℕ
+block_begin p f = name_at (blocks_of p) f
 
 -- after the unwind infos of routines
 abbrev pub chained_begin : LinearProgram → ℕ

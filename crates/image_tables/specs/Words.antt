@@ -73,20 +73,23 @@ pub use Rattle.x64_emit.specs.Near.{IsNear, IsInstructionNear, IsBaseNear, IsSlo
 pub use Rattle.image_link.specs.declared.fragments.TheConstants.{CHAINED_SIZE}
 pub use Rattle.image_link.specs.Fits.{FitsProgram, function_bodies, funclet_bodies}
 pub use Rattle.image_link.specs.Linked.{text_begin, linked, first}
-pub use Rattle.image_link.specs.Walks.{services_of}
+pub use Rattle.image_link.specs.Services.{services_of, is_among}
+pub use Rattle.image_link.specs.declared.handlers.Blocks.{Blocks}
+pub use Rattle.image_link.specs.Handlers.{step_of, block_code, blocks_bytes}
+unfoldable pub use Rattle.image_link.specs.Handlers.{block_bytes}
 pub use Rattle.image_link.specs.Near.{IsEntryNear, IsFrameNear, IsRoutineNear}
 pub use Rattle.image_link.specs.Routines.{RoutineView, routines, is_leaf, leaf_if, functions_from, funclet, all_spare, nothing, funclet_frame}
 pub use Rattle.image_link.specs.Tables.{is_finally, has_except, has_finally, trailer, scope_records, scope_table, info_if, handler_address, jump_target, scope_record, info_bytes_of, infos, infos_room, range_at, range_if, ranges, fragments_of, fragments, chained_bytes, chained_infos, fragment_ranges, all_infos, all_ranges}
 unfoldable pub use Rattle.image_link.specs.Tables.{info_bytes}
-pub use Rattle.image_link.specs.Text.{argument_code, base_of, entry_code, check_stack_at, routine_code, thunk_at, SiteView, routine_size, cold_size, total, cold_total, routines_bytes, all_apart_bytes, apart_code, routine_room, room, addresses, front_code, frame_code, own_addresses, thunks_at, bounds, service_thunk, front_size}
+pub use Rattle.image_link.specs.Text.{argument_code, base_of, entry_code, check_stack_at, routine_code, thunk_at, SiteView, routine_size, cold_size, total, cold_total, routines_bytes, all_apart_bytes, site_blocks, apart_code, routine_room, room, addresses, front_code, frame_code, own_addresses, thunks_at, bounds, service_thunk, front_size}
 unfoldable pub use Rattle.image_link.specs.Text.{entry_size, routine_bytes, apart_bytes}
 pub use Rattle.image_tables.specs.CodeInMemory.{image_base, links, template_at, IsInBody, HasText, IsReturn}
 pub use Rattle.image_tables.specs.Entries.{entries, has_rows, range_of, entry_of, entry_if, part_entry, chained_if, part_with, entry_by, entry_at, scopes_of, unwind_of}
-pub use Rattle.image_tables.specs.FrameLaws.{stack_frame, BodiesHaveFrames, LeavesHaveReturns, FindsCaller, IsInRoutine, FramesAreFound, PartsAreFound, LeavesAreFound, ThunksAreFound, ProbesAreFound, IsFramed, FunctionsAreInMemory, PartsAreInMemory, FunctionsKeepTheRules, PartsKeepTheRules, ImagesHaveText, TextsAreFixed}
+pub use Rattle.image_tables.specs.FrameLaws.{stack_frame, BodiesHaveFrames, LeavesHaveReturns, FindsCaller, IsInRoutine, FramesAreFound, PartsAreFound, LeavesAreFound, ThunksAreFound, NameThunksAreFound, StubsAreFound, AddingStubsAreFound, RemovingStubsAreFound, ProbesAreFound, IsFramed, FunctionsAreInMemory, PartsAreInMemory, FunctionsKeepTheRules, PartsKeepTheRules, ImagesHaveText, TextsAreFixed}
 pub use Rattle.image_tables.specs.Functions.{function_of, leaf, probe, plan, rest_of, code_of_part, part, parts}
 pub use Rattle.image_tables.specs.RegionLaws.{LoweredNamesFunclets, LoweredHasRegions, LoweredIsShaped}
 pub use Rattle.image_tables.specs.RegionRanges.{HasRegions, IsRange, HasRanges}
 pub use Rattle.image_tables.specs.RegionRows.{AreDifferent, funclet_in, named, regions, handlers, is_always, funclet_begin, AreRows, is_finally_row, is_always_row, regions_in, rows_of, AreInOrder}
-pub use Rattle.image_tables.specs.RoutinePlaces.{Placed, PlacedPart, Cursor, put, past, end_of, body_begin, parts_from, parts_of, site_of, placed, placed_from, first_cursor, infos_begin, routines_begin, cold_begin, chained_begin, thunk_begin, probe_begin}
+pub use Rattle.image_tables.specs.RoutinePlaces.{Placed, PlacedPart, Cursor, put, past, end_of, body_begin, parts_from, parts_of, site_of, placed, placed_from, first_cursor, infos_begin, routines_begin, cold_begin, chained_begin, thunk_begin, probe_begin, blocks_of, block_begin}
 pub use Rattle.image_tables.specs.TableLaws.{JumpsAreSpelled, EntriesAreHeld, PartsAreHeld, LeavesAreHeldByNone, ThunksAreHeldByNone, TablesAreRead}
 pub use Rattle.image_tables.specs.Tries.{Try, Accepts, Asks, Finishes, with_filter, tries_in, tries, tries_of, all_tries, finishes, accepts}

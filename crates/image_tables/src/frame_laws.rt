@@ -1,6 +1,6 @@
 //! What holds of the frames of every program that can be linked.
 
-ghost use Rattle.image_tables.specs.FrameLaws.{ImagesHaveText, TextsAreFixed, BodiesHaveFrames, LeavesHaveReturns, FunctionsAreInMemory, PartsAreInMemory, FunctionsKeepTheRules, PartsKeepTheRules, FramesAreFound, PartsAreFound, LeavesAreFound, ThunksAreFound, ProbesAreFound};
+ghost use Rattle.image_tables.specs.FrameLaws.{ImagesHaveText, TextsAreFixed, BodiesHaveFrames, LeavesHaveReturns, FunctionsAreInMemory, PartsAreInMemory, FunctionsKeepTheRules, PartsKeepTheRules, FramesAreFound, PartsAreFound, LeavesAreFound, ThunksAreFound, NameThunksAreFound, AddingStubsAreFound, RemovingStubsAreFound, ProbesAreFound};
 
 /// The text of a program is in memory when its image is loaded, and may not be written.
 pub fn text()
@@ -33,5 +33,8 @@ pub fn frames()
     ensures parts { PartsAreFound }
     ensures leaves { LeavesAreFound }
     ensures thunks { ThunksAreFound }
+    ensures names { NameThunksAreFound }
+    ensures adding { AddingStubsAreFound }
+    ensures removing { RemovingStubsAreFound }
     ensures probes { ProbesAreFound }
 {}

@@ -4,8 +4,9 @@
 //! Proved: the table is read again as the entries of the program's routines (`table_laws`); it has
 //! one scope record for each region, in order, and no frame larger than its weight allows
 //! (`shape_laws`); of a checked program it has one row for each `__try` (`region_laws`); callers
-//! are found at every instruction boundary of functions, funclets, thunks, leaf functions and
-//! `__chkstk` (`frame_laws`). Begin with `specs/Entries.antt`.
+//! are found at every instruction boundary of functions, funclets, thunks, leaf functions, the name
+//! thunks and stubs of vectored handlers, and `__chkstk` (`frame_laws`). Begin with
+//! `specs/Entries.antt`.
 #![tactic(auto)]
 
 pub mod frame_laws;

@@ -3,17 +3,17 @@
 use Rattle.std.proofs.Common.{◌≡◌, ℕ, suc, ◌+◌, List, [], ◌∷◌, ◌++◌, length, refl}
 use Rattle.std.specs.Prelude.{◌^◌, Bool, true, false, nat_eq, nat_lt, slice_get, get_or, Option, Some, None}
 use Rattle.seh_num.specs.declared.width.Width.TheVariants.{W32, W64}
-use Rattle.linear_machine.specs.Words.{Event, Ended, Exception, Instruction, Region, RegionKind, LinearProgram, depth_weight, BodyName, FunctionBody, FuncletBody, Handler, Target, Resumption, AfterCall, SameOperation, Item, Waits, Searches, Unwinds, Store, Configuration, Seen, Finished, Stuck, Next, pick, with_some, deeper, read, with_temporary, with_temporaries, last_temporaries, at_label, forth, regions_at, regions_left, handlers, flag_of, begin_finally, run_finally, arrive, target_past, left_store, leave_region, unwind_body, unwind, target_of, accept, begin_filter, consult, search, raise, resumed, answered, answer, is_constant, operand, written, computed, compute, tested, waiting, begin_function, count_of, built_in, return, end_finally, end_funclet, end_body, not_landed, act, instruction_at, exec, CallsBuiltIn, IsNotAt}
+use Rattle.linear_machine.specs.Words.{Event, Ended, Exception, Instruction, Region, RegionKind, LinearProgram, depth_weight, BodyName, FunctionBody, FuncletBody, Handler, Target, Resumption, AfterCall, SameOperation, FilterOf, VectoredAt, Item, Waits, Searches, Unwinds, Store, Configuration, Seen, Finished, Stuck, Next, pick, with_some, deeper, read, with_temporary, with_temporaries, last_temporaries, at_label, forth, regions_at, regions_left, handlers, flag_of, begin_finally, run_finally, arrive, target_past, left_store, leave_region, unwind_body, unwind, target_of, accept, begin_filter, consult, search, ask_vectored, ask_at, ask_from, raise, resumed, continued, vectored_answered, answered, answer, is_constant, operand, written, computed, compute, tested, waiting, begin_function, count_of, built_in, return, end_finally, end_funclet, end_body, not_landed, act, instruction_at, exec, CallsBuiltIn, IsNotAt}
 use Rattle.seh_num.specs.declared.event.Event.TheVariants as events
 use Rattle.seh_num.specs.Widths.{low, signed}
 use Rattle.c_operations.specs.declared.built_in.BuiltIn.{BuiltIn}
-use Rattle.c_operations.specs.declared.built_in.BuiltIn.TheVariants.{Put, Protect, RaiseException, Walk}
+use Rattle.c_operations.specs.declared.built_in.BuiltIn.TheVariants.{Put, Protect, RaiseException, Walk, AddVectored, RemoveVectored}
 use Rattle.c_operations.specs.declared.operation.Operation.{Operation}
 use Rattle.c_operations.specs.Performed as performing
 use Rattle.c_operations.specs.Performed.{performed}
 use Rattle.source_meaning.specs.declared.ended.Ended.TheVariants as ends
 use Rattle.source_meaning.specs.Source.{is_reserved}
-use Rattle.source_meaning.specs.Raises.{noncontinuable, raise_event}
+use Rattle.source_meaning.specs.Raises.{noncontinuable, raise_event, handler_arguments}
 use Rattle.source_meaning.specs.Expressions.{raised, field_of}
 use Rattle.source_meaning.specs.State.{walk_events}
 use Rattle.linear_machine.specs.Frames.{functions_in}
@@ -103,7 +103,7 @@ module _ (program : LinearProgram) (relation : SeenRelation program) where
         (regions_left left (regions_at program b.body b.next))
         (record { frame = b; below = below; store = store; events = es })
         (unwind_keeps (target_past b.body target) below None es)
-    unwind_keeps target (Searches exception resumption asked rest ∷ below) left es store =
+    unwind_keeps target (Searches exception resumption asked ∷ below) left es store =
         unwind_keeps target below None es store
     unwind_keeps target (Unwinds rest older ∷ below) left es store = unwind_keeps target below
         (Some rest) es store
@@ -125,7 +125,7 @@ module _ (program : LinearProgram) (relation : SeenRelation program) where
         (relation.event c.events (events.Filter (k + 1)) _ _ tt
         (h (begin_filter k x rest exception resumption c)))
 
-    pub search_keeps : (xs : List Handler) (exception : Exception) (resumption : Resumption)
+    search_keeps : (xs : List Handler) (exception : Exception) (resumption : Resumption)
         (c : Configuration) → keeps c.events (search program f xs exception resumption c)
         (search program g xs exception resumption c)
     search_keeps [] exception resumption c = relation.finished c.events
@@ -133,17 +133,57 @@ module _ (program : LinearProgram) (relation : SeenRelation program) where
     search_keeps (x ∷ rest) exception resumption c = consult_keeps x.filter x rest exception
         resumption c
 
+    ask_vectored_keeps : (k place : ℕ) (exception : Exception) (resumption : Resumption)
+        (c : Configuration)
+        → keeps c.events (ask_vectored program f k place exception resumption c)
+        (ask_vectored program g k place exception resumption c)
+    ask_vectored_keeps k place exception resumption c =
+        keeps_some c.events (slice_get program.functions k) _ _ λ function.
+        keeps_deeper (2 + depth_weight function) c.frame.held c.store c.events _ _
+        (h (begin_function k function (handler_arguments exception) (c.frame.held + 2)
+        (Searches exception resumption (VectoredAt place) ∷ Waits c.frame ∷ c.below) c.store
+        c.events))
+
+    pub ask_at_keeps : (o : Option ℕ) (place : ℕ) (exception : Exception) (resumption : Resumption)
+        (c : Configuration) → keeps c.events (ask_at program f o place exception resumption c)
+        (ask_at program g o place exception resumption c)
+    ask_at_keeps None place exception resumption c = search_keeps
+        (handlers program (Waits c.frame ∷ c.below) None) exception resumption c
+    ask_at_keeps (Some k) place exception resumption c = ask_vectored_keeps k place exception
+        resumption c
+
+    ask_keeps : (place : ℕ) (exception : Exception) (resumption : Resumption)
+        (c : Configuration) → keeps c.events (ask_from program f place exception resumption c)
+        (ask_from program g place exception resumption c)
+    ask_keeps place exception resumption c = ask_at_keeps (slice_get c.store.vectored place) place
+        exception resumption c
+
     raise_keeps : (exception : Exception) (resumption : Resumption) (c : Configuration)
         → keeps c.events (raise program f exception resumption c)
         (raise program g exception resumption c)
     raise_keeps exception resumption c = relation.event c.events (raise_event exception) _ _ tt
-        (search_keeps (handlers program (Waits c.frame ∷ c.below) None) exception resumption
+        (ask_keeps 0 exception resumption
         (record c { events = c.events ++ raise_event exception ∷ [] }))
 
     resumed_keeps : (resumption : Resumption) (c : Configuration)
         → keeps c.events (f (resumed resumption c)) (g (resumed resumption c))
     resumed_keeps AfterCall c = h _
     resumed_keeps SameOperation c = h _
+
+    continued_keeps : (exception : Exception) (resumption : Resumption) (c : Configuration)
+        → keeps c.events (continued program f exception resumption c)
+        (continued program g exception resumption c)
+    continued_keeps exception resumption c =
+        keeps_pick exception.flag c.events _ _ _ _ (raise_keeps noncontinuable resumption c)
+        (resumed_keeps resumption c)
+
+    vectored_keeps : (v place : ℕ) (exception : Exception) (resumption : Resumption)
+        (c : Configuration)
+        → keeps c.events (vectored_answered program f v place exception resumption c)
+        (vectored_answered program g v place exception resumption c)
+    vectored_keeps v place exception resumption c =
+        keeps_pick (nat_lt (low W32 v) (2 ^ 31)) c.events _ _ _ _
+        (ask_keeps (place + 1) exception resumption c) (continued_keeps exception resumption c)
 
     answered_keeps : (v : ℕ) (exception : Exception) (resumption : Resumption) (x : Handler)
         (rest : List Handler) (c : Configuration)
@@ -153,20 +193,22 @@ module _ (program : LinearProgram) (relation : SeenRelation program) where
         keeps_pick (nat_eq (low W32 v) 0) c.events _ _ _ _
         (search_keeps rest exception resumption c)
         (keeps_pick (nat_lt (low W32 v) (2 ^ 31)) c.events _ _ _ _ (accept_keeps x exception c)
-        (keeps_pick exception.flag c.events _ _ _ _ (raise_keeps noncontinuable resumption c)
-        (resumed_keeps resumption c)))
+        (continued_keeps exception resumption c))
 
     answer_keeps : (v : ℕ) (items : List Item) (es : List Event) (store : Store)
         → keeps es (answer program f v items es store) (answer program g v items es store)
     answer_keeps v [] es store = relation.stuck es
     answer_keeps v (Waits b ∷ below) es store = relation.stuck es
     answer_keeps v (Unwinds rest target ∷ below) es store = relation.stuck es
-    answer_keeps v (Searches exception resumption x rest ∷ []) es store = relation.stuck es
-    answer_keeps v (Searches exception resumption x rest ∷ Searches exception' resumption' x' rest'
-        ∷ below) es store = relation.stuck es
-    answer_keeps v (Searches exception resumption x rest ∷ Unwinds rest' target ∷ below) es store =
+    answer_keeps v (Searches exception resumption (VectoredAt place) ∷ below) es store =
         relation.stuck es
-    answer_keeps v (Searches exception resumption x rest ∷ Waits b ∷ below) es store =
+    answer_keeps v (Searches exception resumption (FilterOf x rest) ∷ []) es store =
+        relation.stuck es
+    answer_keeps v (Searches exception resumption (FilterOf x rest)
+        ∷ Searches exception' resumption' asked ∷ below) es store = relation.stuck es
+    answer_keeps v (Searches exception resumption (FilterOf x rest) ∷ Unwinds rest' target ∷ below)
+        es store = relation.stuck es
+    answer_keeps v (Searches exception resumption (FilterOf x rest) ∷ Waits b ∷ below) es store =
         relation.event es (events.Answer (signed W32 v)) _ _ tt
         (answered_keeps v exception resumption x rest
         (record {
@@ -221,23 +263,35 @@ module _ (program : LinearProgram) (relation : SeenRelation program) where
     built_in_keeps Protect called vs c = h _
     built_in_keeps RaiseException called vs c = raise_keeps (raised (get_or vs 0 0) (get_or vs 1 0))
         AfterCall c
+    built_in_keeps (AddVectored k) called vs c = h _
+    built_in_keeps (RemoveVectored k) called vs c = h _
     built_in_keeps Walk called vs c = relation.walk called c.events
         (functions_in (Waits c.frame ∷ c.below)) _ _ (h _)
 
     return_keeps : (v : ℕ) (items : List Item) (es : List Event) (store : Store)
-        → keeps es (return f v items es store) (return g v items es store)
+        → keeps es (return program f v items es store) (return program g v items es store)
     return_keeps v [] es store = relation.finished es (ends.Exit (signed W32 v))
     return_keeps v (Waits b ∷ below) es store = h _
-    return_keeps v (Searches exception resumption x rest ∷ below) es store = relation.stuck es
     return_keeps v (Unwinds rest target ∷ below) es store = relation.stuck es
+    return_keeps v (Searches exception resumption (FilterOf x rest) ∷ below) es store =
+        relation.stuck es
+    return_keeps v (Searches exception resumption (VectoredAt place) ∷ []) es store =
+        relation.stuck es
+    return_keeps v (Searches exception resumption (VectoredAt place)
+        ∷ Searches exception' resumption' asked ∷ below) es store = relation.stuck es
+    return_keeps v (Searches exception resumption (VectoredAt place) ∷ Unwinds rest target ∷ below)
+        es store = relation.stuck es
+    return_keeps v (Searches exception resumption (VectoredAt place) ∷ Waits b ∷ below) es store =
+        vectored_keeps v place exception resumption
+        (record { frame = b; below = below; store = store; events = es })
 
     end_finally_keeps : (items : List Item) (es : List Event) (store : Store)
         → keeps es (end_finally program f items es store) (end_finally program g items es store)
     end_finally_keeps [] es store = relation.stuck es
     end_finally_keeps (Waits b ∷ below) es store = h _
-    end_finally_keeps (Searches exception resumption x rest ∷ below) es store = relation.stuck es
+    end_finally_keeps (Searches exception resumption asked ∷ below) es store = relation.stuck es
     end_finally_keeps (Unwinds rest target ∷ []) es store = relation.stuck es
-    end_finally_keeps (Unwinds rest target ∷ Searches exception resumption x rest' ∷ below) es
+    end_finally_keeps (Unwinds rest target ∷ Searches exception resumption asked ∷ below) es
         store = relation.stuck es
     end_finally_keeps (Unwinds rest target ∷ Unwinds rest' older ∷ below) es store =
         relation.stuck es

@@ -1,9 +1,10 @@
 -- With more turns a run shows more, and an end stays.
 use Rattle.std.proofs.Common.{◌≡◌, ℕ, zero, suc, ◌+◌, List, ◌++◌, ◌∷◌, [], refl, subst, arith}
-use Rattle.linear_machine.specs.Words.{Event, Exception, IsPrefixOf, LinearProgram, Handler, Resumption, Configuration, Seen, Running, Finished, Stuck, search, exec, shown}
+use Rattle.std.specs.Prelude.{Option}
+use Rattle.linear_machine.specs.Words.{Event, Exception, IsPrefixOf, LinearProgram, Resumption, Configuration, Seen, Running, Finished, Stuck, ask_at, exec, shown}
 use Rattle.source_meaning.specs.State.{walk_events}
 use Rattle.linear_machine.proofs.Lemmas.{prefix_self, prefix_then}
-use Rattle.linear_machine.proofs.RunEvents.{SeenRelation, turn_keeps, search_keeps}
+use Rattle.linear_machine.proofs.RunEvents.{SeenRelation, turn_keeps, ask_at_keeps}
 
 abbrev pub events_of : Seen → List Event
 events_of seen = (shown seen).events
@@ -71,10 +72,10 @@ module _ (program : LinearProgram) where
   pub longer : (n m : ℕ) (c : Configuration) → More (exec program n c) (exec program (n + m) c)
   longer n m c = (longer_keeps n m c).grows
 
--- what a search shows before any turn
-pub search_shows : (program : LinearProgram) (xs : List Handler) (exception : Exception)
-    (resumption : Resumption) (c : Configuration)
-    → IsPrefixOf c.events (events_of (search program (exec program zero) xs exception resumption c))
-search_shows program xs exception resumption c =
-    (search_keeps program (keeping program) (exec program zero) (exec program zero)
-    (none_keeps program) xs exception resumption c).front
+-- what is shown before any turn where a vectored handler is asked, or the handlers of frames
+pub ask_shows : (program : LinearProgram) (handler : Option ℕ) (place : ℕ) (exception : Exception)
+    (resumption : Resumption) (c : Configuration) → IsPrefixOf c.events
+    (events_of (ask_at program (exec program zero) handler place exception resumption c))
+ask_shows program handler place exception resumption c =
+    (ask_at_keeps program (keeping program) (exec program zero) (exec program zero)
+    (none_keeps program) handler place exception resumption c).front

@@ -331,16 +331,25 @@ module _ (linear : LinearProgram) (rate : ℕ) where
   ThenNormal t w st q k = (mid : State) (store : Store) → mid.steps_left ≤ st.steps_left
       → w.kept mid store → mid.held ≡ w.held → Claim linear rate (t mid store) mid q w (k mid)
 
+  -- a value, with which so much is held
+  pub then_value_held : (s : Part) (v : ℕ → State → Store → Part) (held : ℕ) (w : Ways) (st : State)
+      (p q r : Price) (o : Outcome) (k : ℕ → State → Outcome) → Join p q r
+      → Claim linear rate s st p (record (value_ways v w.kept w.context w.site) { held = held }) o
+      → ((x : ℕ) (mid : State) (store : Store) → mid.steps_left ≤ st.steps_left
+      → w.kept mid store → mid.held ≡ held → Claim linear rate (v x mid store) mid q w (k x mid))
+      → Claim linear rate s st r w (with_value o k)
+  unfolding with_value
+  then_value_held s v held w st p q r (Gives (Value x) mid) k j a b = after s (v x mid a.store) st
+      mid p.turns p.extra p.slack q r w (k x mid) (joined p q r j) a.reaches
+      (b x mid a.store a.reaches.low a.fits a.same)
+  then_value_held s v held w st p q r (Gives x mid) k j a b = let lr = j.turns in
+      attains_out s st mid p r w x (omega arith) j.first_out a
+
   pub then_value : (s : Part) (v : ℕ → State → Store → Part) (w : Ways) (st : State) (p q r : Price)
       (o : Outcome) (k : ℕ → State → Outcome) → Join p q r
       → Claim linear rate s st p (value_ways v w.kept w.context w.site) o → ThenValue v w st q k
       → Claim linear rate s st r w (with_value o k)
-  unfolding with_value
-  then_value s v w st p q r (Gives (Value x) mid) k j a b = after s (v x mid a.store) st mid p.turns
-      p.extra p.slack q r w (k x mid) (joined p q r j) a.reaches
-      (b x mid a.store a.reaches.low a.fits a.same)
-  then_value s v w st p q r (Gives x mid) k j a b = let lr = j.turns in
-      attains_out s st mid p r w x (omega arith) j.first_out a
+  then_value s v w st p q r o k j a b = then_value_held s v w.site.held w st p q r o k j a b
 
   -- what is left where the first part of a block ends otherwise
   abbrev pub Passes : Price → Price → Type 0

@@ -119,7 +119,7 @@ module _ (linear : LinearProgram) where
   handlers_below (Waits b ∷ below) left level f p =
       picked_depth (regions_left left (regions_at linear b.body b.next)) b.activation (length below)
       (handlers linear below None) level f (handlers_below below None level f) p
-  handlers_below (Searches exception resumption asked rest ∷ below) left level f p =
+  handlers_below (Searches exception resumption asked ∷ below) left level f p =
       let e = handlers_below below None level f p in omega arith
   handlers_below (Unwinds rest target ∷ below) left level f p = let e = handlers_below below
       (Some rest) level f p in omega arith

@@ -78,12 +78,17 @@ pub data Resumption : Type 0 where
   AfterCall : Resumption
   SameOperation : Resumption
 
--- what waits: a body; a search, until the filter of a handler answers, with the handlers that
--- come next; an unwinding, until a `__finally` block ends, with the regions of the body below
--- that it has yet to leave
+-- what a search waits for: the answer of a handler's filter, with the handlers that come next; or
+-- that of the vectored handler at a place of their list
+pub data Asked : Type 0 where
+  FilterOf : Handler → List Handler → Asked
+  VectoredAt : ℕ → Asked
+
+-- what waits: a body; a search, until what it has asked answers; an unwinding, until a `__finally`
+-- block ends, with the regions of the body below that it has yet to leave
 pub data Item : Type 0 where
   Waits : Frame → Item
-  Searches : Exception → Resumption → Handler → List Handler → Item
+  Searches : Exception → Resumption → Asked → Item
   Unwinds : List Region → Target → Item
 
 -- the functions of bodies, innermost first, with one body more inside them; a funclet works on the
@@ -96,13 +101,15 @@ with_function (FuncletBody k) fs = fs
 abbrev pub functions_in : List Item → List ℕ
 functions_in [] = []
 functions_in (Waits f ∷ items) = with_function f.body (functions_in items)
-functions_in (Searches exc resumption h hs ∷ items) = functions_in items
+functions_in (Searches exc resumption asked ∷ items) = functions_in items
 functions_in (Unwinds rs target ∷ items) = functions_in items
 
--- memory, and the locals of the live activations, outermost first
+-- memory, the locals of the live activations, outermost first, and the vectored handlers, by the
+-- numbers of their functions, in the order in which they are asked
 pub record Store : Type 0 where
   pub memory : Memory
   pub activations : List (List ℕ)
+  pub vectored : List ℕ
 
 -- the body that runs; what waits, innermost first; the store; the events so far
 pub record Configuration : Type 0 where

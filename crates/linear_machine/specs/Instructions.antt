@@ -1,13 +1,13 @@
 -- What each instruction does.
-use Rattle.std.specs.Prelude.{ℕ, ◌+◌, ◌-◌, Bool, true, false, nat_eq, List, [], ◌∷◌, ◌++◌, length, take, get_or, replicate, slice_get, Option, Some, None}
+use Rattle.std.specs.Prelude.{ℕ, Bool, true, false, not, nat_eq, List, [], ◌∷◌, ◌++◌, length, take, get_or, slice_get, Option, Some, None}
 use Rattle.std.specs.Prelude.{is_some}
 use Rattle.seh_num.specs.declared.width.Width.TheVariants.{W32, W64}
 use Rattle.seh_num.specs.declared.event.Event.{Event}
 use Rattle.seh_num.specs.declared.event.Event.TheVariants as events
-use Rattle.seh_num.specs.Widths.{signed}
+use Rattle.seh_num.specs.Widths.{low, signed}
 use Rattle.flat_memory.specs.Memory.{protected, rights_asked}
 use Rattle.c_operations.specs.declared.built_in.BuiltIn.{BuiltIn}
-use Rattle.c_operations.specs.declared.built_in.BuiltIn.TheVariants.{Put, Protect, RaiseException, Walk}
+use Rattle.c_operations.specs.declared.built_in.BuiltIn.TheVariants.{Put, Protect, RaiseException, Walk, AddVectored, RemoveVectored}
 use Rattle.c_operations.specs.declared.operation.Operation.{Operation}
 use Rattle.c_operations.specs.declared.operation.Operation.TheVariants as operations
 use Rattle.c_operations.specs.declared.operation.Pure.TheVariants.{Constant}
@@ -18,14 +18,16 @@ use Rattle.linear_code.specs.declared.instruction.Instruction.{Instruction}
 use Rattle.linear_code.specs.declared.instruction.Instruction.TheVariants as instructions
 use Rattle.linear_code.specs.declared.program.FuncletKind.{FuncletKind}
 use Rattle.linear_code.specs.declared.program.FuncletKind.TheVariants.{Filter, Finally}
-use Rattle.linear_code.specs.Program.{LinearProgram, LinearFunction, depth_weight}
+use Rattle.linear_code.specs.Program.{LinearProgram, depth_weight}
 use Rattle.source_meaning.specs.declared.ended.Ended.TheVariants as ends
 use Rattle.source_meaning.specs.Source.{is_reserved}
 use Rattle.source_meaning.specs.State.{walk_events}
-use Rattle.source_meaning.specs.Expressions.{of_test, field_of, raised, no_exception}
-use Rattle.linear_machine.specs.Frames.{BodyName, FunctionBody, FuncletBody, AfterCall, SameOperation, Item, Waits, Unwinds, Store, Configuration, Seen, Finished, Stuck, Next, functions_in, pick, with_some, deeper, read, write, last_temporaries, at_label, forth, with_last}
+use Rattle.source_meaning.specs.Expressions.{of_test, field_of, raised}
+use Rattle.linear_machine.specs.Frames.{BodyName, FunctionBody, FuncletBody, AfterCall, SameOperation, VectoredAt, Item, Waits, Searches, Unwinds, Store, Configuration, Seen, Finished, Stuck, Next, functions_in, pick, with_some, deeper, read, write, last_temporaries, at_label, forth, with_last}
 use Rattle.linear_machine.specs.Unwinding.{left_store, run_finally, unwind}
-use Rattle.linear_machine.specs.Searching.{raise, answer}
+pub use Rattle.linear_machine.specs.FunctionBegin.{begin_function}
+use Rattle.linear_machine.specs.Searching.{raise, answer, vectored_answered}
+use Rattle.vectored_list.specs.Lists.{is_listed, can_be_added, added, removed}
 
 -- ---- operations
 
@@ -78,30 +80,6 @@ jump_if_zero next slot label c =
 abbrev pub waiting : Configuration → ℕ → Configuration
 waiting c first = with_last (take first c.frame.temporaries) c
 
--- a function begins: its arguments are its first locals, and the others are 0; what it counts above
--- 1 is held until it ends
-abbrev pub begin_function : ℕ → LinearFunction → List ℕ → ℕ → List Item → Store → List Event
-    → Configuration
-begin_function f function arguments held below store es = record {
-  frame =
-      record {
-        body = FunctionBody f;
-        next = 0;
-        activation = length store.activations;
-        exception = no_exception;
-        held = held + (function.surplus + function.data_surplus);
-        temporaries = [];
-        landed = None;
-      };
-  below = below;
-  store =
-      record store {
-        activations = store.activations ++ (arguments
-            ++ replicate (function.body.locals - function.parameters) 0) ∷ [];
-      };
-  events = es;
-}
-
 -- a call of a function with the last temporaries as its arguments
 abbrev pub call : LinearProgram → Next → ℕ → ℕ → ℕ → Configuration → Seen
 call program next f first count c =
@@ -117,10 +95,16 @@ count_of Put = 1
 count_of Protect = 2
 count_of RaiseException = 4
 count_of Walk = 0
+count_of (AddVectored f) = 1
+count_of (RemoveVectored f) = 0
 
 -- the result of a built-in function
 abbrev pub answers : Next → ℕ → Configuration → Seen
 answers next v c = next (forth (with_last (c.frame.temporaries ++ v ∷ []) c))
+
+-- the configuration with these vectored handlers
+abbrev pub with_handlers : List ℕ → Configuration → Configuration
+with_handlers vectored c = record c { store = record c.store { vectored = vectored } }
 
 -- what a call of a service does
 abbrev pub built_in : LinearProgram → Next → BuiltIn → List ℕ → Configuration → Seen
@@ -133,6 +117,12 @@ built_in program next Protect vs c =
     (record c { store = record c.store { memory = protected c.store.memory a number } })
 built_in program next RaiseException vs c =
     raise program next (raised (get_or vs 0 0) (get_or vs 1 0)) AfterCall c
+built_in program next (AddVectored f) vs c =
+    answers next (of_test (can_be_added f c.store.vectored))
+    (with_handlers (added (not (nat_eq (low W32 (get_or vs 0 0)) 0)) f c.store.vectored) c)
+built_in program next (RemoveVectored f) vs c =
+    answers next (of_test (is_listed f c.store.vectored))
+    (with_handlers (removed f c.store.vectored) c)
 built_in program next Walk vs c =
     let functions = functions_in (Waits c.frame ∷ c.below) in
     answers next 0 (record c { events = c.events ++ walk_events functions })
@@ -145,13 +135,17 @@ call_built_in program next f first c =
 
 -- ---- ends of bodies
 
--- the caller has the result after the temporaries that waited; where nothing waits, the program
--- ends
-abbrev pub return : Next → ℕ → List Item → List Event → Store → Seen
-return next v [] es store = Finished (ends.Exit (signed W32 v)) es
-return next v (Waits f ∷ below) es store =
+-- the caller has the result after the temporaries that waited, and a search the answer of its
+-- vectored handler; where nothing waits, the program ends
+abbrev pub return : LinearProgram → Next → ℕ → List Item → List Event → Store → Seen
+return program next v [] es store = Finished (ends.Exit (signed W32 v)) es
+return program next v (Waits f ∷ below) es store =
     answers next v (record { frame = f; below = below; store = store; events = es })
-return next v items es store = Stuck es
+return program next v (Searches exception resumption (VectoredAt place) ∷ Waits f ∷ below) es
+    store =
+    vectored_answered program next v place exception resumption
+    (record { frame = f; below = below; store = store; events = es })
+return program next v items es store = Stuck es
 
 -- after a `__finally` block an unwinding continues, or the body after its call
 abbrev pub end_finally : LinearProgram → Next → List Item → List Event → Store → Seen
@@ -169,7 +163,7 @@ end_funclet program next (Finally flag) v c = end_finally program next c.below c
 -- a function returns a number; a funclet ends by its kind
 abbrev pub end_body : LinearProgram → Next → BodyName → ℕ → Configuration → Seen
 end_body program next (FunctionBody f) v c =
-    return next v c.below c.events (left_store c.frame.body c.frame.activation c.store)
+    return program next v c.below c.events (left_store c.frame.body c.frame.activation c.store)
 end_body program next (FuncletBody k) v c =
     with_some c.events (slice_get program.funclets k) (λ f. end_funclet program next f.kind v c)
 

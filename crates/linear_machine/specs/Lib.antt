@@ -1,6 +1,7 @@
 pub mod Frames
 pub mod Regions
 pub mod Unwinding
+pub mod FunctionBegin
 pub mod Searching
 pub mod Instructions
 pub mod Run

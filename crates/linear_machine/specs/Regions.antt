@@ -46,7 +46,7 @@ handlers program [] left = []
 handlers program (Waits f ∷ below) left =
     handlers_in (regions_left left (regions_at program f.body f.next)) f.activation (length below)
     ++ handlers program below None
-handlers program (Searches exception resumption asked rest ∷ below) left =
+handlers program (Searches exception resumption asked ∷ below) left =
     handlers program below None
 handlers program (Unwinds rest target ∷ below) left = handlers program below (Some rest)
 

@@ -35,7 +35,7 @@ main_arguments parameters arg = if nat_eq parameters 0 then [] else wrapped W64 
 abbrev pub start : LinearProgram → ℤ → LinearFunction → Configuration
 start program arg main =
     begin_function program.main main (main_arguments main.parameters arg) 0 []
-    (record { memory = first_memory program.globals; activations = [] }) []
+    (record { memory = first_memory program.globals; activations = []; vectored = [] }) []
 
 -- what is seen of a program within n turns
 abbrev pub seen : LinearProgram → ℤ → ℕ → Seen

@@ -106,7 +106,7 @@ unwind program next target (Waits f ∷ below) left es store =
     (target_past f.body target) below None es store)
     (regions_left left (regions_at program f.body f.next))
     (record { frame = f; below = below; store = store; events = es })
-unwind program next target (Searches exception resumption asked rest ∷ below) left es store =
+unwind program next target (Searches exception resumption asked ∷ below) left es store =
     unwind program next target below None es store
 unwind program next target (Unwinds rest older ∷ below) left es store =
     unwind program next target below (Some rest) es store

@@ -2,10 +2,10 @@
 use Rattle.std.proofs.Common.{◌≡◌, ◌≤◌, ℕ, zero, suc, ◌+◌, [], subst, arith}
 use Rattle.std.specs.Prelude.{◌-◌, slice_get, Some}
 use Rattle.seh_num.specs.declared.event.Event.TheVariants as events
-use Rattle.lowering_follows.specs.Words.{Program, Function, LinearProgram, LinearFunction, deeper, begin_finally, begin_filter, raise, exec, expression_weight, lvalue_weight, optional_weight, statement_weight, statements_weight, FunctionPlaced}
+use Rattle.lowering_follows.specs.Words.{Program, Function, LinearProgram, LinearFunction, deeper, begin_finally, begin_filter, ask_vectored, raise, exec, expression_weight, lvalue_weight, optional_weight, statement_weight, statements_weight, FunctionPlaced}
 use Rattle.lowering_follows.proofs.Lemmas.{at, conf, stopped, shown_deep, prefix_less, from_none}
-use Rattle.lowering_follows.proofs.TaskClaims.{Runs, shown_raise}
-use Rattle.lowering_follows.proofs.TaskSteps.{eval_next, locate_next, raised_next, retry_next, filter_next}
+use Rattle.lowering_follows.proofs.TaskClaims.{Runs, shown_asked, shown_raise}
+use Rattle.lowering_follows.proofs.TaskSteps.{eval_next, locate_next, raised_next, asked_next, retry_next, filter_next}
 use Rattle.lowering_follows.proofs.BodyClaims.{BodyRuns}
 use Rattle.lowering_follows.proofs.BodyNext.{body_next}
 use Rattle.lowering_follows.proofs.Functions.{call_runs}
@@ -77,6 +77,12 @@ module _ (program : Program) (linear : LinearProgram) (rate body : ℕ)
         (conf context site pc temps st store)) st 0 0 rate (omega arith)
         (shown_raise program linear rate body exc resumption
         (conf context site pc temps st store));
+    asked = λ f place exc resumption names info z shapes context site base pc temps st store fits
+        steps t around kept held.
+        stopped linear rate (λ next. ask_vectored linear next f place exc resumption
+        (conf context site pc temps st store)) st 0 1 rate (omega arith)
+        (shown_asked program linear rate body f place exc resumption
+        (conf context site pc temps st store));
     retry = λ o x y to first second a b after names info z shapes context site base pc temps st
         store c steps has r alike around kept held. stopped linear rate
         (at (conf context site pc temps st store)) st 0 0 1 (omega arith)
@@ -89,12 +95,10 @@ module _ (program : Program) (linear : LinearProgram) (rate body : ℕ)
         (shown_deep linear rate 2 site.held store st.events (exec linear zero begins)
         (prefix_less st.events _ (events.Filter (j + 1))
         (from_none linear zero begins)));
-    call = λ k fn lf vs names info z shapes context site base pc temps st store steps h there len t
-        around kept held. call_runs program linear rate body same_globals zero bodies_zero k fn lf
-        vs names info z
-        shapes context site base pc temps st store (placed_at k fn lf h there) steps len t around
-        kept
-        held;
+    call = λ k fn lf vs below held_below part names info z shapes context site base pc temps st
+        store steps h there len to around kept held. call_runs program linear rate body same_globals
+        zero bodies_zero k fn lf vs below held_below part names info z shapes context site base pc
+        temps st store (placed_at k fn lf h there) steps len to around kept held;
   }
 
   tasks_next : (n : ℕ) → Both n → BodyRuns program linear rate body (suc n)
@@ -112,6 +116,10 @@ module _ (program : Program) (linear : LinearProgram) (rate body : ℕ)
         kept held. raised_next program linear rate body same_globals roomy functions_at n b.tasks
         names info z shapes context site base around exc resumption pc temps st store steps t kept
         held;
+    asked = λ f place exc resumption names info z shapes context site base pc temps st store fits
+        steps t around kept held. asked_next program linear rate body same_globals roomy
+        functions_at n b.tasks names info z shapes context site base around f place exc resumption
+        pc temps st store fits steps t kept held;
     retry = λ o x y to first second a c after names info z shapes context site base pc temps st
         store plain steps has r alike around kept held.
         retry_next program linear rate body same_globals roomy functions_at n b.tasks names info z
@@ -122,12 +130,10 @@ module _ (program : Program) (linear : LinearProgram) (rate body : ℕ)
         filter_next program linear rate body same_globals roomy functions_at n b.tasks names info z
         shapes context site base around k j e h f rest exc resumption pc temps st store steps
         fit.light t a fit kept held;
-    call = λ k fn lf vs names info z shapes context site base pc temps st store steps h there len t
-        around kept held. call_runs program linear rate body same_globals (suc n) bodies k fn lf vs
-        names info z
-        shapes context site base pc temps st store (placed_at k fn lf h there) steps len t around
-        kept
-        held;
+    call = λ k fn lf vs below held_below part names info z shapes context site base pc temps st
+        store steps h there len to around kept held. call_runs program linear rate body same_globals
+        (suc n) bodies k fn lf vs below held_below part names info z shapes context site base pc
+        temps st store (placed_at k fn lf h there) steps len to around kept held;
   }
 
   pub both : (n : ℕ) → Both n

@@ -1,10 +1,12 @@
 -- A function's beginning: its separators are the steps that its activation counts above 1.
 use Rattle.std.proofs.Common.{◌≡◌, ◌⊎◌, inl, inr, ◌<◌, ◌≤◌, ℕ, zero, suc, ◌+◌, [], refl, ap, sym, subst, arith}
 use Rattle.std.proofs.lemmas.Bool.{cases_lt, lt-ltb, le-ltb}
+use Rattle.std.proofs.lemmas.List.{length-replicate, replicate-append-replicate}
 use Rattle.std.specs.Prelude.{replicate}
 use Rattle.lowering_follows.specs.Words.{State, Outcome, Context, LinearProgram, Separator, Store, HasAt, exec, count_steps}
 use Rattle.source_meaning.specs.State.{counting}
 use Rattle.source_meaning.proofs.Counting.{too_few, enough}
+use Rattle.lowering_follows.proofs.Places.{has_front, has_after}
 use Rattle.lowering_follows.proofs.Lemmas.{Part, at, Site, conf, Ways, price, Claim, Reaches, reaches_after, after, fetch, still, stepped, stopped, prefix_self, from_none}
 
 module _ (linear : LinearProgram) (rate : ℕ) (roomy : 1 ≤ rate) (context : Context) (site : Site)
@@ -28,6 +30,20 @@ module _ (linear : LinearProgram) (rate : ℕ) (roomy : 1 ≤ rate) (context : C
       (λ k. fetch linear rate (conf context site pc [] st store) Separator k has.0))
       (subst (λ p. Reaches linear rate (place (pc + 1) st) (place p st) st st n n 0) end
       (separators_turn n (pc + 1) st has.2))
+
+  -- so many separators, and so many more after them
+  pub separators_then : (n k pc : ℕ)
+      → HasAt linear site.body site.regions pc (replicate (n + k) Separator)
+      → HasAt linear site.body site.regions pc (replicate n Separator)
+      × HasAt linear site.body site.regions (pc + n) (replicate k Separator)
+  separators_then n k pc has =
+      let all = subst (HasAt linear site.body site.regions pc)
+      (sym (replicate-append-replicate n k Separator)) has in (
+        has_front linear site.body site.regions pc (replicate n Separator) (replicate k Separator)
+            all,
+        has_after linear site.body site.regions pc n (replicate n Separator)
+            (replicate k Separator) (length-replicate n Separator) all,
+      )
 
   -- steps before a stretch pay for as many turns of it
   steps_pay : (s t : Part) (n : ℕ) (st : State) → n ≤ st.steps_left
@@ -75,3 +91,12 @@ module _ (linear : LinearProgram) (rate : ℕ) (roomy : 1 ≤ rate) (context : C
             (count_steps n st) 0 0 0 (price turns 0 slack slack) (price turns 0 slack slack) w
             (go (count_steps n st)) (omega arith, omega arith, omega arith)
             (separators_reach n pc st left has) a)
+
+    -- so many separators more, which are no steps
+    pub passed_claim : (n dearer pc : ℕ) (st : State) (o : Outcome) → n + turns ≤ dearer
+        → HasAt linear site.body site.regions pc (replicate n Separator)
+        → Comes (place (pc + n) st) st o
+        → Claim linear rate (place pc st) st (price dearer 0 slack slack) w o
+    passed_claim n dearer pc st o le has a = after linear rate (place pc st) (place (pc + n) st) st
+        st n n 0 (price turns 0 slack slack) (price dearer 0 slack slack) w o
+        (omega arith, omega arith, omega arith) (separators_turn n pc st has) a

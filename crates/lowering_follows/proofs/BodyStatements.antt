@@ -1,5 +1,5 @@
 -- Statements, after their step.
-use Rattle.std.proofs.Common.{◌∙◌, ◌≡◌, ◌≤◌, ℕ, ◌+◌, List, [], ◌∷◌, length, refl, sym, subst, arith}
+use Rattle.std.proofs.Common.{◌≡◌, ◌≤◌, ℕ, ◌+◌, List, [], ◌∷◌, length, refl, sym, subst, arith}
 use Rattle.std.specs.Prelude.{◌-◌, max, nat_eq, Option, Some, None}
 use Rattle.lowering_follows.specs.Words.{Expression, StackedVariable, Declared, Filter, Statement, Declare, Block, Evaluate, If, IfElse, For, DoWhile, Break, Continue, Leave, TryExcept, TryFinally, Statements, Program, Exception, State, Normal, Returned, Outcome, Gives, choose, and_then, Context, Handler, Run, ForIteration, DoIteration, TryBody, RunFinally, all, optional, declare_at, landing, finally_after, declare_each, reset_pointer, statement, within, Temporary, Jump, JumpIfZero, Region, LinearProgram, Store, set_local, LoweringContext, except_names, in_try, in_except, in_guarded, expression_size, discarded_size, declared_size, declared_at_size, all_declared_size, returned_size, statement_size, statements_size, statement_notes, statements_notes, stacked_notes, declared_notes, except_kind, region, expression_code, expression_weight, optional_weight, statement_weight, statements_weight, declared_weight, all_declared_weight, HasAt, reset_code, DeclaredPlaced, AllDeclaredPlaced, Placed, for_end, do_end, Return}
 use Rattle.linear_code.specs.declared.program.RegionKind.TheVariants as regions
@@ -9,7 +9,7 @@ use Rattle.lowering_follows.proofs.Places.{has_front, has_after}
 use Rattle.lowering_follows.proofs.Lengths.{expression_length}
 use Rattle.lowering_follows.proofs.Turns.{constant_turn, jump_turn, test_turn}
 use Rattle.lowering_follows.proofs.TaskClaims.{Runs}
-use Rattle.lowering_follows.proofs.Environments.{same_length}
+use Rattle.lowering_follows.proofs.Environments.{lists_same, same_length}
 use Rattle.lowering_follows.proofs.BodyClaims.{Inner, inner_part, statement_ways, Stays, Surroundings, surroundings_less, BodyRuns, statement_eval}
 use Rattle.lowering_follows.proofs.BodySequences.{max_left, max_right, all_runs}
 use Rattle.lowering_follows.proofs.StackPointers.{reset_store, reset_stays, reset_claim}
@@ -245,11 +245,12 @@ module _ (program : Program) (linear : LinearProgram) (rate body : ℕ) (roomy :
         context.data_part mid base' standing.env.shape standing.base_fits
         (noted_kept program linear rate body scope.names names' z shapes context base exc.code mid
         after refl standing.env.shape standing.past kept)) held))))
-        (λ e store k f m fr fn. (
+        (λ e store k f m fr fn v. (
           subst (λ fs. Alike shapes f.memory fs store) (sym fr)
               (subst (λ mm. Alike shapes mm e.frames store) (sym m) k.0),
           k.1,
-          fn ∙ k.2,
+          lists_same program linear rate body shapes e.functions f.functions e.vectored
+              f.vectored store.vectored fn v k.2,
         ))
         (bih.try_run ss (in_try done scope) z shapes within_it inside base pc st store steps
         (omega arith) has.body

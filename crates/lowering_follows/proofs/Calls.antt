@@ -2,16 +2,20 @@
 use Rattle.std.proofs.Common.{◌≡◌, ◌≤◌, ℕ, suc, ◌+◌, List, [], ◌∷◌, ◌++◌, length, refl, ap, sym, subst, ◌∙◌, arith, append_assoc, append-nil, length-append}
 use Rattle.std.proofs.lemmas.Bool.{eq-eqb}
 use Rattle.std.proofs.lemmas.List.{length_push, take_at, drop_at}
-use Rattle.std.specs.Prelude.{Bool, take, nat_eq, get_or, slice_get, if◌then◌else◌, Some, None}
+use Rattle.std.specs.Prelude.{Bool, not, take, nat_eq, get_or, slice_get, if◌then◌else◌, Some, None}
 use Rattle.std.specs.Prelude.{is_some, reverse}
-use Rattle.lowering_follows.specs.Words.{W64, W32, Arguments, Done, Program, Function, State, Value, Outcome, Gives, Exception, set_memory, emit, and_then, Context, Raise, of_test, enter, raised, each, call_built_in, within, Instruction, LinearProgram, LinearFunction, Store, Seen, Waits, deeper, with_some, AfterCall, last_temporaries, exec, Names, expression_size, arguments_size, expression_code, node_code, argument_count, arguments_code, NodeFits, ArgumentsFit, expression_weight, node_weight, arguments_weight, HasAt, signed, BuiltIn, Put, Protect, RaiseException, Walk, raise, count_of, begin_function, waiting, built_in, protected, rights_asked, Call, CallBuiltIn, Next}
+use Rattle.lowering_follows.specs.Words.{W64, W32, low, Arguments, Done, Program, Function, State, Value, Outcome, Gives, Exception, set_memory, set_vectored, emit, and_then, Context, Raise, of_test, enter, raised, each, call_built_in, within, Instruction, LinearProgram, LinearFunction, Store, Seen, Waits, handlers_in, handlers, deeper, with_some, AfterCall, last_temporaries, exec, Names, expression_size, arguments_size, expression_code, node_code, argument_count, arguments_code, NodeFits, ArgumentsFit, IsCalled, BuiltInFits, expression_weight, node_weight, arguments_weight, HasAt, signed, BuiltIn, Put, Protect, RaiseException, Walk, AddVectored, RemoveVectored, raise, count_of, begin_function, waiting, built_in, protected, rights_asked, Call, CallBuiltIn, Next}
 use Rattle.linear_code.specs.Program.{depth_weight}
 use Rattle.c_checked.specs.Expression as nodes
 use Rattle.lowering_follows.proofs.Lemmas.{Part, Site, conf, price, joins, frame_of, more, then_plain, fetch, first, stepped, prefix_self}
 use Rattle.lowering_follows.proofs.Stores.{Shape}
 use Rattle.lowering_follows.proofs.Places.{has_at, has_front, has_after}
 use Rattle.lowering_follows.proofs.Lengths.{expression_length}
+use Rattle.std.specs.List.{AllByRecursion}
+use Rattle.vectored_list.specs.Lists.{is_listed, can_be_added, added, removed}
+use Rattle.lowering_follows.proofs.Handlers.{each_added, each_left}
 use Rattle.lowering_follows.proofs.TaskClaims.{pushed, Around, Runs}
+use Rattle.lowering_follows.proofs.Raises.{unwound_is}
 use Rattle.lowering_follows.proofs.NodeParts.{Kp, Wv, From, from_at, here_value}
 use Rattle.lowering_follows.proofs.Nodes.{RunsIn, NodeRuns, operand_runs}
 use Rattle.seh_num.specs.declared.event.Event.TheVariants as events
@@ -141,14 +145,23 @@ module _ (program : Program) (linear : LinearProgram) (rate body : ℕ)
         (λ next. deeper (depth_weight lf.0) site.held store st.events
         (next (begin_function f lf.0 vs site.held
         (Waits (frame_of context site pc temps) ∷ site.below) store st.events))) st st
-        (price 13 0 body body) (price 14 x o o)
+        (price 13 4 0 0) (price 14 x o o)
         (Wv program linear rate body same_globals roomy n ih names info z shapes context site base
         around (pushed context site (pc + 1) temps))
         (enter program (within program n) f (Some fn) vs context st)
         (omega arith, omega arith, omega arith) refl refl (prefix_self st.events)
         (λ k. call_turn f count pc temps vs lf.0 st store k has len lf.1)
-        (ih.call f fn lf.0 vs names info z shapes context site base pc temps st store steps there
-        lf.1 (len ∙ same) has.1 around kept held)
+        (ih.call f fn lf.0 vs (Waits (frame_of context site pc temps) ∷ site.below) site.held
+        (pushed context site (pc + 1) temps) names info z shapes context site base pc temps st store
+        steps there lf.1 (len ∙ same)
+        (record {
+          same_found = ap (λ rs. handlers_in rs context.activation (length site.below)
+              ++ handlers linear site.below None) has.1;
+          same_functions = refl;
+          onward = λ next target st store. unwound_is program linear rate body target context site
+              pc temps st store next has.1;
+          returns = λ next v st store. refl;
+        }) around kept held)
 
     pub call_node : (f : ℕ) (es : Arguments) (pc : ℕ) (temps : List ℕ) (st : State) (store : Store)
         → st.steps_left ≤ n → 1 + node_weight (nodes.Call f es) + body + 4 ≤ rate
@@ -190,12 +203,47 @@ module _ (program : Program) (linear : LinearProgram) (rate body : ℕ)
         ∙ ap (λ ts. built_in linear (exec linear k) b vs (conf context site pc ts st store))
         (take_at temps vs d refl)
 
+    -- the vectored handlers change
+    handlers_set : (pc : ℕ) (temps vs : List ℕ) (st : State) (store : Store) (x o v : ℕ)
+        (handlers : List ℕ) → AllByRecursion (λ f. IsCalled program f 2) handlers → Km st store
+        → st.held ≡ site.held
+        → ((k : ℕ) → exec linear (suc k) (conf context site pc (temps ++ vs) st store)
+        ≡ pushed context site (pc + 1) temps v st (record store { vectored = handlers })
+        (exec linear k))
+        → x ≤ rate + o → G pc (temps ++ vs) st store 13 x o o (pushed context site (pc + 1) temps)
+        (Gives (Value v) (set_vectored st handlers))
+    handlers_set pc temps vs st store x o v handlers each kept held turns le =
+        let st' : State = set_vectored st handlers in
+        let store' : Store = record store { vectored = handlers } in
+        record {
+          store = store';
+          fits = (
+            record {
+              same_memory = kept.0.same_memory;
+              count = kept.0.count;
+              activations = kept.0.activations;
+              each = kept.0.each;
+            },
+            kept.1,
+            record {
+              functions_are = kept.2.functions_are;
+              same_handlers = refl;
+              are_called = each;
+            },
+          );
+          same = held;
+          reaches = stepped linear rate (conf context site pc (temps ++ vs) st store)
+              (pushed context site (pc + 1) temps v st' store') st st' 13 x o refl (omega arith) le
+              refl (prefix_self st.events) turns;
+        }
+
     built_in_runs : (b : BuiltIn) (pc : ℕ) (temps vs : List ℕ) (st : State) (store : Store)
-        (x o : ℕ) → length vs ≡ count_of b → st.steps_left ≤ n → o + 1 + body + 3 ≤ rate → x ≤ o
-        → At pc (CallBuiltIn b (length temps) ∷ []) → Km st store → st.held ≡ site.held
+        (x o : ℕ) → BuiltInFits program b → length vs ≡ count_of b → st.steps_left ≤ n
+        → o + 1 + body + 3 ≤ rate → x ≤ o → At pc (CallBuiltIn b (length temps) ∷ [])
+        → Km st store → st.held ≡ site.held
         → G pc (temps ++ vs) st store 13 x o o (pushed context site (pc + 1) temps)
         (call_built_in (within program n) b vs context st)
-    built_in_runs Put pc temps vs st store x o len steps light le has kept held =
+    built_in_runs Put pc temps vs st store x o fits len steps light le has kept held =
         let e = events.Put (signed W64 (get_or vs 0 0)) in
         record {
           store = store;
@@ -206,7 +254,7 @@ module _ (program : Program) (linear : LinearProgram) (rate body : ℕ)
               (omega arith) (omega arith) refl (e ∷ [], refl)
               (λ k. built_in_turn Put pc temps vs st store k has len);
         }
-    built_in_runs Protect pc temps vs st store x o len steps light le has kept held =
+    built_in_runs Protect pc temps vs st store x o fits len steps light le has kept held =
         let a = get_or vs 0 0 in
         let mode = signed W32 (get_or vs 1 0) in
         let v = of_test (is_some (rights_asked a mode)) in
@@ -225,7 +273,7 @@ module _ (program : Program) (linear : LinearProgram) (rate body : ℕ)
               (record store { memory = protected q a mode }) (exec linear k))
               kept.0.same_memory);
         }
-    built_in_runs RaiseException pc temps vs st store x o len steps light le has kept held =
+    built_in_runs RaiseException pc temps vs st store x o fits len steps light le has kept held =
         let exc : Exception = raised (get_or vs 0 0) (get_or vs 1 0) in
         let part : Part = λ next. raise linear next exc AfterCall
         (conf context site pc temps st store) in
@@ -246,10 +294,29 @@ module _ (program : Program) (linear : LinearProgram) (rate body : ℕ)
         (λ mid after lower kept held. here_value program linear rate body same_globals roomy n ih
         names info z shapes context site base around (pc + 1) temps 0 mid after 0 0 0 0
         (omega arith) kept held))
-    built_in_runs Walk pc temps vs st store x o len steps light le has kept held =
+    built_in_runs (AddVectored f) pc temps vs st store x o fits len steps light le has kept held =
+        let first = not (nat_eq (low W32 (get_or vs 0 0)) 0) in
+        handlers_set pc temps vs st store x o (of_test (can_be_added f st.vectored))
+        (added first f st.vectored)
+        (each_added (λ f. IsCalled program f 2) first f st.vectored fits.called
+        kept.2.are_called) kept held
+        (λ k. built_in_turn (AddVectored f) pc temps vs st store k has len
+        ∙ ap (λ fs. pushed context site (pc + 1) temps (of_test (can_be_added f fs)) st
+        (record store { vectored = added first f fs }) (exec linear k)) kept.2.same_handlers)
+        (omega arith)
+    built_in_runs (RemoveVectored f) pc temps vs st store x o fits len steps light le has kept
+        held =
+        handlers_set pc temps vs st store x o (of_test (is_listed f st.vectored))
+        (removed f st.vectored)
+        (each_left (λ f. IsCalled program f 2) f st.vectored kept.2.are_called) kept held
+        (λ k. built_in_turn (RemoveVectored f) pc temps vs st store k has len
+        ∙ ap (λ fs. pushed context site (pc + 1) temps (of_test (is_listed f fs)) st
+        (record store { vectored = removed f fs }) (exec linear k)) kept.2.same_handlers)
+        (omega arith)
+    built_in_runs Walk pc temps vs st store x o fits len steps light le has kept held =
         let es = walk_events (reverse st.functions) in
         let same : functions_here site ≡ reverse st.functions = around.functions
-        ∙ ap reverse (sym kept.2) in
+        ∙ ap reverse (sym kept.2.functions_are) in
         record {
           store = store;
           fits = kept;
@@ -280,5 +347,5 @@ module _ (program : Program) (linear : LinearProgram) (rate body : ℕ)
         (λ vs mid after len steps kept held last.
         subst (λ q. G pc1 (temps ++ vs) mid after 13 w w w (pushed context site q temps)
         (call_built_in (within program n) b vs context mid)) end
-        (built_in_runs b pc1 temps vs mid after w w (len ∙ fits.1) steps (omega arith) (omega arith)
-        last kept held))
+        (built_in_runs b pc1 temps vs mid after w w fits.2 (len ∙ fits.1) steps (omega arith)
+        (omega arith) last kept held))

@@ -1,8 +1,9 @@
 -- What is around a part of a program while its linear code runs: where codes and flags are kept,
 -- and which handlers a search meets.
-use Rattle.std.proofs.Common.{◌≡◌, ◌≤◌, ℕ, suc, ◌+◌, List, [], ◌∷◌, ◌++◌, length, refl, ap, ◌∙◌}
+use Rattle.std.proofs.Common.{◌≡◌, ◌≤◌, ℕ, suc, ◌+◌, List, [], ◌∷◌, ◌++◌, length, refl, ap, sym, subst, ◌∙◌}
+use Rattle.std.specs.List.{AllByRecursion}
 use Rattle.std.specs.Prelude.{Bool, true, false, get_or, slice_get, reverse, Option, Some, None}
-use Rattle.lowering_follows.specs.Words.{Expression, Filter, Always, Funclet, Program, Exception, State, Context, Handler, of_test, Temporary, LinearProgram, LinearFunclet, FuncletBody, Store, ExceptionSource, Names, NoException, OfFilter, KeptIn, expression_code, ExpressionFits, expression_weight, HasAt, with_function, functions_in}
+use Rattle.lowering_follows.specs.Words.{Expression, Filter, Always, Funclet, Program, Exception, State, Context, Handler, of_test, Temporary, LinearProgram, LinearFunclet, FuncletBody, Store, ExceptionSource, Names, NoException, OfFilter, KeptIn, expression_code, ExpressionFits, IsCalled, expression_weight, HasAt, with_function, functions_in}
 use Rattle.linear_code.specs.declared.instruction.Instruction.TheVariants.{Return}
 use Rattle.linear_code.specs.declared.program.FuncletKind.TheVariants as kinds
 use Rattle.linear_machine.specs.Frames as machine
@@ -191,10 +192,26 @@ module _ (program : Program) (linear : LinearProgram) (rate body : ℕ) where
 
   -- ---- all of it
 
+  -- the functions of the live activations; and the same vectored handlers, which are functions that
+  -- take a code and flags
+  pub record ListsAlike (shapes : List Shape) (functions handlers below : List ℕ) : Type 0 where
+    pub functions_are : functions ≡ functions_of shapes
+    pub same_handlers : below ≡ handlers
+    pub are_called : AllByRecursion (λ f. IsCalled program f 2) handlers
+
+  pub lists_same : (shapes : List Shape) (functions functions' handlers handlers' below : List ℕ)
+      → functions' ≡ functions → handlers' ≡ handlers → ListsAlike shapes functions handlers below
+      → ListsAlike shapes functions' handlers' below
+  lists_same shapes functions functions' handlers handlers' below f h lists = record {
+    functions_are = f ∙ lists.functions_are;
+    same_handlers = lists.same_handlers ∙ sym h;
+    are_called = subst (AllByRecursion (λ f. IsCalled program f 2)) (sym h) lists.are_called;
+  }
+
   -- a store that may be there since another one
   abbrev pub KeptFrom : Places → List Shape → Store → State → Store → Type 0
   KeptFrom ok shapes base st store = Alike shapes st.memory st.frames store
-      × NotesKept ok shapes base store × (st.functions ≡ functions_of shapes)
+      × NotesKept ok shapes base store × ListsAlike shapes st.functions st.vectored store.vectored
 
   -- what is around a part of a program, as it was at a store
   pub record Env (ok : Places) (names : Names) (info : Bool) (z : Shape) (shapes : List Shape)

@@ -3,20 +3,19 @@ use Rattle.std.proofs.Common.{◌≡◌, ◌<◌, ◌≤◌, ℕ, zero, suc, ◌
 use Rattle.std.proofs.lemmas.List.{length-replicate}
 use Rattle.std.proofs.lemmas.Option.{slice_get_within}
 use Rattle.std.specs.Prelude.{◌-◌, Bool, false, take, replicate, get_or, slice_get, Option, Some, None}
-use Rattle.lowering_follows.specs.Words.{Filter, Always, Funclet, Program, Function, DataFrame, part_of, close_part, open_frame, body_start, State, Value, Normal, Returned, Target, Outcome, Gives, Context, Handler, no_exception, all, ended_call, enter, within, Temporary, LinearProgram, LinearFunction, FunctionBody, Item, Waits, Store, with_some, deeper, regions_at, handlers_in, handlers, target_past, unwind, target_of, begin_function, exec, Names, LoweringContext, statements_size, statements_notes, own_locals, scope_of, statements_weight, HasAt, FunctionPlaced, with_activation, with_outermost, hold_surplus, let_go_surplus, count_steps, surplus}
+use Rattle.lowering_follows.specs.Words.{Filter, Always, Funclet, Program, Function, DataFrame, part_of, close_part, open_frame, body_start, State, Value, Normal, Returned, Target, Outcome, Gives, Context, Handler, no_exception, all, ended_call, enter, within, Temporary, LinearProgram, LinearFunction, FunctionBody, Item, Store, with_some, deeper, target_past, unwind, target_of, begin_function, exec, Names, LoweringContext, statements_size, statements_notes, own_locals, asking, scope_of, statements_weight, HasAt, FunctionPlaced, with_activation, with_outermost, hold_surplus, let_go_surplus, count_steps, surplus}
 use Rattle.linear_code.specs.Program.{depth_weight}
 use Rattle.source_meaning.specs.State.{counting}
 use Rattle.linear_code.specs.declared.instruction.Instruction.TheVariants as instructions
 use Rattle.linear_machine.specs.Frames as machine
-use Rattle.lowering_follows.proofs.Lemmas.{Part, at, Site, frame_of, conf, Picked, Ways, price, found, Reaches, Arrives, Claim, value_ways, more, attains_out, reaches_after, stepped, first, fetch, sooner, deep_claim, prefix_self, handlers_below, leaves}
+use Rattle.lowering_follows.proofs.Lemmas.{Part, at, Site, conf, Picked, Ways, price, found, Reaches, Arrives, Claim, value_ways, more, attains_out, reaches_after, stepped, first, fetch, sooner, deep_claim, prefix_self, handlers_below, leaves, asking_within}
 use Rattle.linear_machine.proofs.Stretch.{Kept, To}
 use Rattle.lowering_follows.proofs.Stores.{at_push_old, Shape, FrameAlike, Places, NotesKept, everywhere, below_slot, kept_itself, kept_through, get_push_new, get_pushed, push_alike, take_alike, call_kept, push_functions, push_inwards, take_functions}
 use Rattle.lowering_follows.proofs.Environments.{FlagBound, HowFits, Match, match_kept}
-use Rattle.lowering_follows.proofs.TaskClaims.{pushed, Within, Around}
-use Rattle.lowering_follows.proofs.Raises.{unwound_is}
+use Rattle.lowering_follows.proofs.TaskClaims.{Within, Around, ReturnsTo}
 use Rattle.lowering_follows.proofs.BodyClaims.{statement_ways, Stays, Surroundings, BodyRuns}
 use Rattle.lowering_follows.proofs.BodySequences.{all_runs}
-use Rattle.lowering_follows.proofs.Beginnings.{separators_claim}
+use Rattle.lowering_follows.proofs.Beginnings.{separators_then, separators_claim, passed_claim}
 use Rattle.lowering_follows.proofs.StackPointers.{base_of}
 use Rattle.lowering_follows.proofs.Openings.{opened_claim}
 use Rattle.lowering_follows.proofs.Closings.{closed_stays, closes, ended_ways, last_of, last_has}
@@ -112,10 +111,11 @@ module _ (program : Program) (linear : LinearProgram) (rate body : ℕ) where
 
   module _ (k : ℕ) (lf : LinearFunction) (scope : LoweringContext) (new : Shape)
       (shapes : List Shape) (context : Context) (site : Site) (base : Store) (pc : ℕ)
-      (temps : List ℕ) (m extra : ℕ) (frame : Option DataFrame) (store : Store) (locals : List ℕ)
+      (temps : List ℕ) (below : List Item) (held_below : ℕ) (part : ℕ → State → Store → Part)
+      (m extra : ℕ) (frame : Option DataFrame) (store : Store) (locals : List ℕ)
       (same_extra : lf.surplus + lf.data_surplus ≡ extra) (same_m : m ≡ length shapes)
       (same : length store.activations ≡ length shapes)
-      (walked : regions_at linear site.body pc ≡ site.regions)
+      (to : ReturnsTo program linear rate body below context site pc temps part)
       (kept : NotesKept everywhere shapes base store) where
     abbrev callee : Context
     callee = record {
@@ -130,10 +130,14 @@ module _ (program : Program) (linear : LinearProgram) (rate body : ℕ) where
     csite = record {
       body = FunctionBody k;
       regions = [];
-      below = Waits (frame_of context site pc temps) ∷ site.below;
+      below = below;
       exception = no_exception;
-      held = site.held + (lf.surplus + lf.data_surplus);
+      held = held_below + (lf.surplus + lf.data_surplus);
     }
+
+    abbrev ways : Ways
+    ways = record (value_ways part (Within program linear rate body shapes base) context site)
+        { held = held_below }
 
     abbrev base' : Store
     base' = record store { activations = store.activations ++ locals ∷ [] }
@@ -160,7 +164,11 @@ module _ (program : Program) (linear : LinearProgram) (rate body : ℕ) where
           take_alike shapes new mid.memory mid.frames after m same_m p.0,
           kept_through everywhere shapes base store (left after) kept
               (call_kept everywhere shapes new store after locals m same_m same whole),
-          take_functions shapes new mid.functions m same_m p.2,
+          record {
+            functions_are = take_functions shapes new mid.functions m same_m p.2.functions_are;
+            same_handlers = p.2.same_handlers;
+            are_called = p.2.are_called;
+          },
         )
 
     ended_reaches : (s t : Part) (st mid : State) (r e d : ℕ) → Reaches linear rate s t st mid r e d
@@ -180,31 +188,29 @@ module _ (program : Program) (linear : LinearProgram) (rate body : ℕ) where
     last_turn : (v done : ℕ) (mid : State) (after : Store) (j : ℕ)
         → HasAt linear (FunctionBody k) [] done (instructions.Return (Temporary 0) ∷ [])
         → exec linear (suc j) (conf callee csite done (v ∷ []) mid after)
-        ≡ pushed context site (pc + 1) temps v (ended mid) (left after) (exec linear j)
+        ≡ part v (ended mid) (left after) (exec linear j)
     unfolding with_some
     last_turn v done mid after j has = fetch linear rate (conf callee csite done (v ∷ []) mid after)
         (instructions.Return (Temporary 0)) j has.0
+        ∙ to.returns (exec linear j) v (ended mid) (left after)
 
     returned_by : (s : Part) (st : State) (t x done v : ℕ) (mid : State) → scope.names.free
         ≡ new.own
         → HasAt linear (FunctionBody k) [] done (instructions.Return (Temporary 0) ∷ [])
         → Arrives linear rate s st (price t 0 x x) Kc csite.held mid
         (To (λ st store. at (conf callee csite done (v ∷ []) st store)))
-        → Claim linear rate s st (price (1 + t) 0 x x)
-        (value_ways (pushed context site (pc + 1) temps)
-        (Within program linear rate body shapes base) context site) (Gives (Value v) (ended mid))
+        → Claim linear rate s st (price (1 + t) 0 x x) ways (Gives (Value v) (ended mid))
     returned_by s st t x done v mid e has a =
         let c = conf callee csite done (v ∷ []) mid a.store in
         record {
           store = left a.store;
           fits = call_fits e mid a.store a.fits;
           same = omega (arith, a.same, same_extra);
-          reaches = reaches_after linear rate s (at c)
-              (pushed context site (pc + 1) temps v (ended mid) (left a.store)) st mid (ended mid) t
-              0 x 1 0 0 (1 + t) 0 x (omega arith) (omega arith) a.reaches
-              (stepped linear rate c (pushed context site (pc + 1) temps v (ended mid)
-              (left a.store)) mid (ended mid) 1 0 0 refl (omega arith) (omega arith) refl
-              (prefix_self mid.events) (λ j. last_turn v done mid a.store j has));
+          reaches = reaches_after linear rate s (at c) (part v (ended mid) (left a.store)) st mid
+              (ended mid) t 0 x 1 0 0 (1 + t) 0 x (omega arith) (omega arith) a.reaches
+              (stepped linear rate c (part v (ended mid) (left a.store)) mid (ended mid) 1 0 0 refl
+              (omega arith) (omega arith) refl (prefix_self mid.events)
+              (λ j. last_turn v done mid a.store j has));
         }
 
     function_ends : (s : Part) (st : State) (t x done : ℕ) (o : Outcome) → scope.names.free
@@ -212,26 +218,20 @@ module _ (program : Program) (linear : LinearProgram) (rate body : ℕ) where
         → HasAt linear (FunctionBody k) [] done (instructions.Return (Temporary 0) ∷ [])
         → Claim linear rate s st (price t 0 x x)
         (ended_ways program linear rate body callee csite Kc done) o
-        → Claim linear rate s st (price (1 + t) 0 x x)
-        (value_ways (pushed context site (pc + 1) temps)
-        (Within program linear rate body shapes base) context site) (ended_call m extra o)
+        → Claim linear rate s st (price (1 + t) 0 x x) ways (ended_call m extra o)
     unfolding ended_call
     function_ends s st t x done (Gives (Value v) mid) e has a = absurd a
     function_ends s st t x done (Gives Normal mid) e has a = returned_by s st t x done 0 mid e has a
     function_ends s st t x done (Gives (Returned v) mid) e has a =
         returned_by s st t x done v mid e has a
     function_ends s st t x done (Gives (Target level exc) mid) e has q =
-        let to = target_of q.handler exc.code mid.held in
-        let past = target_past (FunctionBody k) to in
-        let f : handlers linear csite.below None
-        ≡ found linear rate context site = ap
-        (λ rs. handlers_in rs context.activation (length site.below)
-        ++ handlers linear site.below None) walked in
+        let target = target_of q.handler exc.code mid.held in
+        let past = target_past (FunctionBody k) target in
         let low : q.handler.depth < length csite.below = handlers_below linear csite.below None
         level q.handler q.picked in
         record {
           handler = q.handler;
-          picked = subst (λ fs. Picked fs level q.handler) f q.picked;
+          picked = subst (λ fs. Picked fs level q.handler) to.same_found q.picked;
           temps = temps;
           pc = pc;
           store = left q.store;
@@ -252,41 +252,38 @@ module _ (program : Program) (linear : LinearProgram) (rate body : ℕ) where
                   y.0,
                   y.1,
                   y.2
-                      ∙ leaves linear (exec linear i) to
+                      ∙ leaves linear (exec linear i) target
                       (λ store. unwind linear (exec linear i) past csite.below None mid.events
                       store) (conf callee csite q.pc q.temps mid q.store) low
-                      ∙ unwound_is program linear rate body past context site pc temps
-                      (left_by_target mid) (left q.store) (exec linear i) walked,
+                      ∙ to.onward (exec linear i) past (left_by_target mid) (left q.store),
                 );
               };
         }
     function_ends s st t x done (Gives r mid) e has a =
-        attains_out linear rate s st mid (price t 0 x x) (price (1 + t) 0 x x)
-        (value_ways (pushed context site (pc + 1) temps)
-        (Within program linear rate body shapes base) context site) r (omega arith) (omega arith) a
+        attains_out linear rate s st mid (price t 0 x x) (price (1 + t) 0 x x) ways r (omega arith)
+        (omega arith) a
 
   -- ---- a call
 
   pub call_runs : (same_globals : linear.globals ≡ program.globals) (n : ℕ)
       (bih : BodyRuns program linear rate body n) (k : ℕ) (fn : Function)
-      (lf : LinearFunction) (vs : List ℕ) (names : Names) (info : Bool) (z : Shape)
+      (lf : LinearFunction) (vs : List ℕ) (below : List Item) (held_below : ℕ)
+      (part : ℕ → State → Store → Part) (names : Names) (info : Bool) (z : Shape)
       (shapes : List Shape) (context : Context) (site : Site) (base : Store) (pc : ℕ)
       (temps : List ℕ) (st : State) (store : Store)
       → FunctionPlaced program linear rate body k fn lf → st.steps_left ≤ n
-      → length vs ≡ length fn.parameters → regions_at linear site.body pc ≡ site.regions
+      → length vs ≡ length fn.parameters
+      → ReturnsTo program linear rate body below context site pc temps part
       → Around program linear rate body names info z shapes context site base
-      → Within program linear rate body shapes base st store → st.held ≡ site.held
-      → Claim linear rate (λ next. deeper (depth_weight lf) site.held store st.events
-      (next (begin_function k lf vs site.held
-      (Waits (frame_of context site pc temps) ∷ site.below) store st.events))) st
-      (price 13 0 body body)
-      (value_ways (pushed context site (pc + 1) temps) (Within program linear rate body shapes base)
-      context site) (enter program (within program n) k (Some fn) vs context st)
-  call_runs same_globals n bih k fn lf vs names info z shapes context site base pc temps st store f
-      steps len
-      walked around kept held =
-      let w : Ways = value_ways (pushed context site (pc + 1) temps)
-      (Within program linear rate body shapes base) context site in
+      → Within program linear rate body shapes base st store → st.held ≡ held_below
+      → Claim linear rate (λ next. deeper (depth_weight lf) held_below store st.events
+      (next (begin_function k lf vs held_below below store st.events))) st (price 13 4 0 0)
+      (record (value_ways part (Within program linear rate body shapes base) context site)
+      { held = held_below }) (enter program (within program n) k (Some fn) vs context st)
+  call_runs same_globals n bih k fn lf vs below held_below part names info z shapes context site
+      base pc temps st store f steps len to around kept held =
+      let w : Ways = record (value_ways part (Within program linear rate body shapes base) context
+      site) { held = held_below } in
       let s = surplus fn in
       let x = statements_weight fn.body in
       let m = length st.frames in
@@ -305,15 +302,14 @@ module _ (program : Program) (linear : LinearProgram) (rate body : ℕ) where
         exception = no_exception;
         abnormal = false;
       } in
-      let below : List Item = Waits (frame_of context site pc temps) ∷ site.below in
       let csite : Site = record {
         body = FunctionBody k;
         regions = [];
         below = below;
         exception = no_exception;
-        held = site.held + (lf.surplus + lf.data_surplus);
+        held = held_below + (lf.surplus + lf.data_surplus);
       } in
-      let begins = begin_function k lf vs site.held below store st.events in
+      let begins = begin_function k lf vs held_below below store st.events in
       let deep : length store.activations ≡ m = kept.0.activations ∙ sym kept.0.count in
       let here : conf inner csite 0 [] st' store' ≡ begins = ap (λ a. record {
         frame = record {
@@ -321,7 +317,7 @@ module _ (program : Program) (linear : LinearProgram) (rate body : ℕ) where
           next = 0;
           activation = a;
           exception = no_exception;
-          held = site.held + (lf.surplus + lf.data_surplus);
+          held = held_below + (lf.surplus + lf.data_surplus);
           temporaries = [];
           landed = None;
         };
@@ -333,9 +329,6 @@ module _ (program : Program) (linear : LinearProgram) (rate body : ℕ) where
       let alike : FrameAlike new given locals = subst
       (λ p. FrameAlike new given (vs ++ replicate (lf.body.locals - p) 0)) (sym f.parameters)
       (begins_alike k (length fn.parameters) (length fn.locals) lf.body.locals vs len roomy) in
-      let walk : handlers linear below None ≡ found linear rate context site = ap
-      (λ rs. handlers_in rs context.activation (length site.below)
-      ++ handlers linear site.below None) walked in
       let top : slice_get shapes' m ≡ Some new = ap (slice_get shapes') kept.0.count
       ∙ get_push_new shapes new in
       let standing : Surroundings program linear rate body scope.names new shapes' inner csite
@@ -350,12 +343,13 @@ module _ (program : Program) (linear : LinearProgram) (rate body : ℕ) where
               store' context.handlers (found linear rate inner csite)) (sym kept.0.count)
               (subst (λ fs. Match program linear rate body
               (below_slot (length shapes) (own_locals fn)) shapes' store' context.handlers fs)
-              (sym walk)
+              (sym to.same_found)
               (match_pushed shapes new store locals kept.0.activations context.handlers
               (found linear rate context site)
               (match_kept program linear rate body everywhere shapes base store context.handlers
               (found linear rate context site) kept.1 around.handlers)));
-          functions = ap (λ fs. k ∷ fs) around.functions ∙ push_inwards shapes new;
+          functions = ap (λ fs. k ∷ fs) (to.same_functions ∙ around.functions)
+              ∙ push_inwards shapes new;
         };
         past = omega arith;
         room = omega (arith, f.locals);
@@ -388,14 +382,20 @@ module _ (program : Program) (linear : LinearProgram) (rate body : ℕ) where
       let first_kept : Ki st' store' = (
         push_alike shapes st.memory st.frames store new given locals alike kept.0,
         kept_itself (below_slot m (own_locals fn)) shapes' store',
-        push_functions shapes new st.functions kept.2,
+        record {
+          functions_are = push_functions shapes new st.functions kept.2.functions_are;
+          same_handlers = kept.2.same_handlers;
+          are_called = kept.2.are_called;
+        },
       ) in
+      let starts = separators_then linear rate (omega arith) inner csite store' s (asking fn) 1
+      f.starts.2 in
+      let takes = asking_within fn 8 (λ e. omega arith) few in
       let body_done : Claim linear rate (at (conf inner csite (1 + s) [] st' store')) st'
       (price 9 0 x x) (statement_ways program linear rate body scope inner csite Ki done) opened =
-      more linear rate (at (conf inner csite (1 + s) [] st' store')) st'
-      (price (1 + length fn.parameters) 0 x x) (price 9 0 x x)
-      (statement_ways program linear rate body scope inner csite Ki done) opened
-      (omega arith, omega arith, omega arith)
+      passed_claim linear rate (omega arith) inner csite store' (1 + length fn.parameters) x
+      (statement_ways program linear rate body scope inner csite Ki done) (asking fn) 9 (1 + s) st'
+      opened (omega arith) starts.1
       (opened_claim program linear rate body same_globals scope.names new shapes' inner csite store'
       top (omega arith) fn f.frame f.opens st' store' x
       (statement_ways program linear rate body scope inner csite Ki done) (runs m) first_kept
@@ -407,8 +407,9 @@ module _ (program : Program) (linear : LinearProgram) (rate body : ℕ) where
       kept held)) in
       let whole : Claim linear rate (at (conf inner csite (1 + s) [] st' store')) st'
       (price 12 0 x x) w (ended_call m s (close_part (part_of frame) m opened)) =
-      function_ends k lf scope new shapes context site base pc temps m s frame store locals weighs
-      kept.0.count kept.0.activations walked kept.1 (at (conf inner csite (1 + s) [] st' store'))
+      function_ends k lf scope new shapes context site base pc temps below held_below part m s frame
+      store locals weighs kept.0.count kept.0.activations to kept.1
+      (at (conf inner csite (1 + s) [] st' store'))
       st' 11 x (last_of frame done) (close_part (part_of frame) m opened) refl
       (last_has program linear rate body csite.body frame done f.ends)
       (closes program linear rate body inner csite Ki frame scope.names
@@ -418,23 +419,23 @@ module _ (program : Program) (linear : LinearProgram) (rate body : ℕ) where
       let counts : Claim linear rate (at (conf inner csite 1 [] st store')) st
       (price 12 0 body body) w (counting s st activation) =
       separators_claim linear rate (omega arith) inner csite store' 12 body w s 1 st activation
-      f.starts.2 (omega arith)
+      starts.0 (omega arith)
       (more linear rate (at (conf inner csite (1 + s) [] counted store')) counted (price 12 0 x x)
       (price 12 0 body body) w (activation counted) (omega arith, omega arith, omega arith)
       (sooner linear rate (at (conf inner csite (1 + s) [] counted store')) counted st'
       (price 12 0 x x) w (activation counted) refl (prefix_self st.events) whole)) in
       let all_of_it : Claim linear rate (at (conf inner csite 0 [] st store')) st
-      (price 13 0 body body) w (counting s st activation) =
+      (price 13 4 0 0) w (counting s st activation) =
       first linear rate (conf inner csite 0 [] st store') (at (conf inner csite 1 [] st store')) st
-      st (price 12 0 body body) (price 13 0 body body) w (counting s st activation)
+      st (price 12 0 body body) (price 13 4 0 0) w (counting s st activation)
       (omega arith, omega arith, omega arith) refl refl (prefix_self st.events)
       (λ j. fetch linear rate (conf inner csite 0 [] st store') instructions.Separator j
       f.starts.0) counts in
-      subst (λ extra. Claim linear rate (λ next. deeper (1 + extra) site.held store st.events
-      (next begins)) st (price 13 0 body body) w
+      subst (λ extra. Claim linear rate (λ next. deeper (1 + extra) held_below store st.events
+      (next begins)) st (price 13 4 0 0) w
       (enter program (within program n) k (Some fn) vs context st))
       (sym weighs)
-      (deep_claim linear rate (1 + s) site.held store (at begins) st (price 13 0 body body) w
+      (deep_claim linear rate (1 + s) held_below store (at begins) st (price 13 4 0 0) w
       (λ st. counting s st activation) deep held
-      (subst (λ c. Claim linear rate (at c) st (price 13 0 body body) w (counting s st activation))
+      (subst (λ c. Claim linear rate (at c) st (price 13 4 0 0) w (counting s st activation))
       here all_of_it))

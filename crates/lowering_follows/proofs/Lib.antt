@@ -18,9 +18,11 @@ pub mod Functions
 pub mod AllClaims
 pub mod WholeProgram
 pub mod Lengths
+pub mod Handlers
 pub mod Environments
 pub mod TaskClaims
 pub mod Raises
+pub mod VectoredHandlers
 pub mod Turns
 pub mod Operations
 pub mod NodeParts

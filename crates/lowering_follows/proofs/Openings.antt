@@ -2,8 +2,7 @@
 -- stand there are brought there.
 use Rattle.std.proofs.Common.{◌≡◌, ◌<◌, ◌≤◌, ℕ, suc, ◌+◌, List, [], ◌∷◌, length, refl, ap, sym, subst, ◌∙◌, arith}
 use Rattle.std.specs.Prelude.{slice_get, Option, Some, None}
-use Rattle.lowering_follows.specs.Words.{W64, low, Operation, performed, pointer_of, with_pointer, DataFrame, StackedParameter, Program, State, Outcome, Context, set_memory, allocate, bring, open_frame, is_reserved, Compute, LinearProgram, Store, local_of, set_local, computed, with_some, exec, Names, bring_code, open_code, open_size, HasAt, ParametersFit, FrameFits, Function, body_start}
-use Rattle.c_checked.specs.Program.{weight}
+use Rattle.lowering_follows.specs.Words.{W64, low, Operation, performed, pointer_of, with_pointer, DataFrame, StackedParameter, Program, State, Outcome, Context, set_memory, allocate, bring, open_frame, is_reserved, Compute, LinearProgram, Store, local_of, set_local, computed, with_some, exec, Names, bring_code, open_code, open_size, HasAt, ParametersFit, FrameFits, Function, first_count, body_start}
 use Rattle.source_meaning.specs.State as model
 use Rattle.linear_code.specs.declared.slot.Slot.TheVariants.{Local}
 use Rattle.c_operations.specs.declared.operation.Operation.TheVariants as operations
@@ -176,7 +175,7 @@ module _ (program : Program) (linear : LinearProgram) (rate body : ℕ) where
       (shapes : List Shape) (context : Context) (site : Site) (base : Store)
       → slice_get shapes context.activation ≡ Some z → z.own ≤ names.free → (fn : Function)
       → FrameFits z.own (length fn.parameters) fn.data_frame
-      → HasAt linear site.body site.regions (weight fn) (open_code fn.data_frame)
+      → HasAt linear site.body site.regions (first_count fn) (open_code fn.data_frame)
       → (st : State) (store : Store) (x : ℕ) (w : Ways) (go : State → Outcome)
       → Stays program linear rate body names shapes context base st store → st.held ≡ site.held
       → ((mid : State) (after : Store) → mid.steps_left ≡ st.steps_left
@@ -184,16 +183,16 @@ module _ (program : Program) (linear : LinearProgram) (rate body : ℕ) where
       → mid.held ≡ site.held
       → Claim linear rate (at (conf context site (body_start fn) [] mid after)) mid (price 0 0 x x)
       w (go mid))
-      → Claim linear rate (at (conf context site (weight fn) [] st store)) st
+      → Claim linear rate (at (conf context site (first_count fn) [] st store)) st
       (price (1 + length fn.parameters) 0 x x) w
       (open_frame program fn.data_frame context.activation st go)
   opened_claim same_globals names z shapes context site base shape past fn frame has st store x w go
       kept held next =
       let few = few_opened fn.data_frame z.own (length fn.parameters) frame in
-      more linear rate (at (conf context site (weight fn) [] st store)) st
+      more linear rate (at (conf context site (first_count fn) [] st store)) st
       (price (open_size fn.data_frame + 0) 0 x x) (price (1 + length fn.parameters) 0 x x) w
       (open_frame program fn.data_frame context.activation st go)
       (omega arith, omega arith, omega arith)
       (opens program linear rate body same_globals names z shapes context site base shape past
-      fn.data_frame (length fn.parameters) (weight fn) st store (price 0 0 x x) w go frame has kept
-      held next)
+      fn.data_frame (length fn.parameters) (first_count fn) st store (price 0 0 x x) w go frame has
+      kept held next)

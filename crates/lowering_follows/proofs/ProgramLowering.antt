@@ -1,16 +1,15 @@
 -- The linear code of a sound program is linked, and follows the program.
 use Rattle.std.proofs.Common.{◌≡◌, ℕ, inl, inr, zero, suc, ◌+◌, ◌^◌, ◌<◌, ◌≤◌, List, [], ◌∷◌, ◌++◌, length, refl, ap, subst, ◌∙◌, arith, length-append}
 use Rattle.std.proofs.lemmas.Bool.{leb-true, ltb-true}
-use Rattle.std.proofs.lemmas.List.{length-replicate}
 use Rattle.std.proofs.lemmas.Option.{slice_get-map}
 use Rattle.std.specs.Prelude.{true, ◌||◌, slice_get, option_map, Option, Some, None}
-use Rattle.lowering_follows.specs.Words.{Size, Int, Long, DataFrame, Program, Function, data_sound, first_separators, open_code, close_code, body_start, are_sizes, funclets, count_up, function_sound, some_sizes, functions_sound, main_sound, Temporary, FunctionBody, body_of, function_body, Owner, statements_size, constant, statements_code, statements_regions, statements_funclets, own_locals, scope_of, all_locals, lowered_function, lowered_funclets, all_funclets, lowered, FunctionPlaced, statements_weight, Instruction, surplus}
+use Rattle.lowering_follows.specs.Words.{Size, Int, Long, DataFrame, Program, Function, data_sound, first_separators, first_count, open_code, close_code, body_start, are_sizes, funclets, count_up, function_sound, some_sizes, functions_sound, main_sound, Temporary, FunctionBody, body_of, function_body, Owner, statements_size, constant, statements_code, statements_regions, statements_funclets, own_locals, scope_of, all_locals, lowered_function, lowered_funclets, all_funclets, lowered, FunctionPlaced, statements_weight, surplus}
 use Rattle.seh_num.specs.declared.limit.TheConstants.{MOST_LOCALS, MOST_PARAMETERS}
 use Rattle.c_checked.specs.Program.{weight, declared_locals, data_size}
 use Rattle.source_meaning.specs.declared.depth.TheConstants.{DEEPEST}
 use Rattle.c_checked.specs.Sound as sound
 use Rattle.linear_code.specs.declared.instruction.Instruction.TheVariants as instructions
-use Rattle.lowering_follows.proofs.Lemmas.{statements_length, statements_count, open_length}
+use Rattle.lowering_follows.proofs.Lemmas.{statements_length, statements_count, length_first, open_length}
 use Rattle.lowering_follows.proofs.WholeProgram.{linked_follows}
 use Rattle.lowering_follows.specs.StepsPerTurn.{weight_of, steps_per_turn_of}
 use Rattle.lowering_follows.specs.LoweringLaws.{LoweredIsLinked, LoweredFollows, LoweredShowsNoMore}
@@ -111,17 +110,16 @@ module _ (program : Program) where
       let code = statements_code (scope_of fn) fn.body begin in
       let ends = constant 0 0 ∷ (close_code fn.data_frame ++ instructions.Return (Temporary 0)
       ∷ []) in
-      let n = length-replicate {A = Instruction} (surplus fn) instructions.Separator in
+      let n = length_first fn in
       let o = open_length fn.data_frame in
       let l = statements_length (scope_of fn) fn.body begin in
       let long = length-append starts (opens ++ (code ++ ends)) in
       let longer = length-append opens (code ++ ends) in
       let longest = length-append code ends in
       let whole = whole_is_at lb.code in
-      let after_starts = back lb.code 0 (weight fn) starts (opens ++ (code ++ ends)) (omega arith)
-      whole in
-      let after_opens = back lb.code (weight fn) begin opens (code ++ ends) (omega arith)
-      after_starts in
+      let at = first_count fn in
+      let after_starts = back lb.code 0 at starts (opens ++ (code ++ ends)) (omega arith) whole in
+      let after_opens = back lb.code at begin opens (code ++ ends) (omega arith) after_starts in
       let cover = whole_cover linear (FunctionBody k) lb home 0
       (length lb.code) in
       let before = λ (q : ℕ) (h : q < begin) (is : q < length lb.code). bare linear (FunctionBody k)
@@ -139,7 +137,7 @@ module _ (program : Program) where
             starts (front lb.code 0 starts (opens ++ (code ++ ends)) whole)
             (λ q lo hi. before q (omega arith) (omega arith));
         opens = code_is_at program linear rate most (own_locals fn) (FunctionBody k) lb home []
-            (weight fn) opens (front lb.code (weight fn) opens (code ++ ends) after_starts)
+            at opens (front lb.code at opens (code ++ ends) after_starts)
             (λ q lo hi. before q (omega arith) (omega arith));
         placed = place_all program linear rate most (own_locals fn) quick fn.body (FunctionBody k)
             lb home (inside_function program fn) (scope_of fn) (whole_alike fn) g.owner [] begin

@@ -1,7 +1,7 @@
--- A raise asks the handlers that a search finds, in order.
+-- A search asks the handlers that it finds, in order.
 use Rattle.std.proofs.Common.{◌≡◌, ◌<◌, ◌≤◌, ℕ, suc, ◌+◌, ◌^◌, List, [], ◌∷◌, ◌++◌, length, refl, ap, sym, subst, ◌∙◌, arith, append_assoc}
 use Rattle.std.specs.Prelude.{Bool, true, false, nat_eq, nat_lt, slice_get, Option, Some, None}
-use Rattle.lowering_follows.specs.Words.{W32, low, signed, Expression, Filter, Always, Funclet, Program, Exception, State, Value, Normal, Target, Outcome, Gives, choose, emit, hold, let_go, with_value, Context, Handler, Eval, Raise, RunFilter, raise_event, noncontinuable, within, Temporary, LinearProgram, LinearFunclet, FuncletBody, Resumption, Item, Waits, Store, pick, with_some, deeper, Searches, regions_at, handlers_in, handlers, target_past, unwind_body, unwind, left_store, target_of, begin_filter, raise, resumed, answered, accept, consult, search, end_funclet, exec, Names, expression_size, expression_code, expression_weight, HasAt}
+use Rattle.lowering_follows.specs.Words.{W32, low, signed, Expression, Filter, Always, Funclet, Program, Exception, State, Value, Normal, Target, Outcome, Gives, choose, emit, hold, let_go, with_value, Context, Handler, Eval, Raise, RunFilter, noncontinuable, within, Temporary, LinearProgram, LinearFunclet, FuncletBody, Resumption, Item, Waits, Store, pick, with_some, deeper, FilterOf, Searches, regions_at, handlers_in, handlers, target_past, unwind_body, unwind, left_store, target_of, begin_filter, raise, resumed, answered, accept, consult, search, end_funclet, exec, Names, expression_size, expression_code, expression_weight, HasAt}
 use Rattle.linear_machine.specs.Frames.{Next}
 use Rattle.linear_code.specs.declared.instruction.Instruction.TheVariants.{Return}
 use Rattle.seh_num.specs.declared.event.Event.TheVariants as events
@@ -169,6 +169,33 @@ module _ (program : Program) (linear : LinearProgram) (rate body : ℕ) where
       let lr = t.turns in attains_out linear rate s st mid p r w x (omega arith) t.first_out a
 
   module _ (n : ℕ) (ih : Runs program linear rate body n) where
+    -- an exception is continued, unless it can't be
+    pub continued_runs : (b : Bool) (resumption : Resumption) (names : Names) (info : Bool)
+        (z : Shape) (shapes : List Shape) (context : Context) (site : Site) (base : Store) (pc : ℕ)
+        (temps : List ℕ) (st : State) (store : Store) → st.steps_left ≤ n
+        → regions_at linear site.body pc ≡ site.regions
+        → Around program linear rate body names info z shapes context site base
+        → Within program linear rate body shapes base st store → st.held ≡ site.held
+        → Claim linear rate (λ next. pick b (raise linear next noncontinuable resumption
+        (conf context site pc temps st store))
+        (next (resumed resumption (conf context site pc temps st store)))) st (price 0 0 1 rate)
+        (normal_ways (resumes program linear rate body resumption context site pc temps)
+        (Within program linear rate body shapes base) context site)
+        (choose b (λ st. within program n (Raise noncontinuable) context st)
+        (λ st. Gives Normal st) st)
+    unfolding choose pick
+    continued_runs true resumption names info z shapes context site base pc temps st store steps t
+        around kept held = ih.raised noncontinuable resumption names info z shapes context site base
+        pc temps st store steps t around kept held
+    continued_runs false resumption names info z shapes context site base pc temps st store steps t
+        around kept held = record {
+          store = store;
+          fits = kept;
+          same = held;
+          reaches = still linear rate _ _ st st 0 0 1 refl (omega arith) (prefix_self st.events)
+              (λ k. refl);
+        }
+
     -- what a filter's answer comes to
     answered_runs : (b1 b2 b3 : Bool) (hs : List Handler) (f : machine.Handler)
         (pre rest : List machine.Handler) (exc : Exception) (resumption : Resumption)
@@ -179,7 +206,7 @@ module _ (program : Program) (linear : LinearProgram) (rate body : ℕ) where
         → Around program linear rate body names info z shapes context site base
         → Within program linear rate body shapes base st store → st.held ≡ site.held
         → Claim linear rate (λ next. search linear next rest exc resumption
-        (conf context site pc temps st store)) st (price 16 1 1 rate)
+        (conf context site pc temps st store)) st (price 0 1 1 rate)
         (normal_ways (resumes program linear rate body resumption context site pc temps)
         (Within program linear rate body shapes base) context site)
         (source.search (within program n) hs exc context st)
@@ -189,7 +216,7 @@ module _ (program : Program) (linear : LinearProgram) (rate body : ℕ) where
         (pick b3 (raise linear next noncontinuable resumption
         (conf context site pc temps st store))
         (next (resumed resumption (conf context site pc temps st store))))))
-        st (price 16 0 1 rate) (normal_ways (resumes program linear rate body resumption context
+        st (price 0 0 1 rate) (normal_ways (resumes program linear rate body resumption context
         site pc temps) (Within program linear rate body shapes base) context site)
         (choose b1 (λ st. source.search (within program n) hs exc context st)
         (choose b2 (λ st. Gives (Target (length hs) exc) st)
@@ -198,7 +225,7 @@ module _ (program : Program) (linear : LinearProgram) (rate body : ℕ) where
     unfolding choose pick
     answered_runs true b2 b3 hs f pre rest exc resumption names info z shapes context site base pc
         temps st store len t w le steps around kept held h =
-        more linear rate _ st (price 16 1 1 rate) (price 16 0 1 rate)
+        more linear rate _ st (price 0 1 1 rate) (price 0 0 1 rate)
         (normal_ways (resumes program linear rate body resumption context site pc temps)
         (Within program linear rate body shapes base) context site)
         (source.search (within program n) hs exc context st) (
@@ -209,25 +236,12 @@ module _ (program : Program) (linear : LinearProgram) (rate body : ℕ) where
     answered_runs false true b3 hs f pre rest exc resumption names info z shapes context site base
         pc temps st store len t w le steps around kept held h =
         takes_over (λ next. accept linear f exc next (conf context site pc temps st store)) f pre
-        rest (length hs) 16 0 exc (Within program linear rate body shapes base) context site pc
+        rest (length hs) 0 0 exc (Within program linear rate body shapes base) context site pc
         temps st store len w (omega arith) t held kept (λ next. refl)
-    answered_runs false false true hs f pre rest exc resumption names info z shapes context site
+    answered_runs false false b3 hs f pre rest exc resumption names info z shapes context site
         base pc temps st store len t w le steps around kept held h =
-        more linear rate _ st (price 0 0 1 rate) (price 16 0 1 rate)
-        (normal_ways (resumes program linear rate body resumption context site pc temps)
-        (Within program linear rate body shapes base) context site)
-        (within program n (Raise noncontinuable) context st) (omega arith, omega arith, omega arith)
-        (ih.raised noncontinuable resumption names info z shapes context site base pc temps st
-        store steps t around kept held)
-    answered_runs false false false hs f pre rest exc resumption names info z shapes context site
-        base pc temps st store len t w le steps around kept held h =
-        record {
-          store = store;
-          fits = kept;
-          same = held;
-          reaches = still linear rate _ _ st st 16 0 1 refl (omega arith)
-              (prefix_self st.events) (λ k. refl);
-        }
+        continued_runs b3 resumption names info z shapes context site base pc temps st store steps
+        t around kept held
 
     -- one handler
     consult_runs : (filter : Filter) (how : Option ℕ) (h : Handler) (hs : List Handler)
@@ -244,12 +258,12 @@ module _ (program : Program) (linear : LinearProgram) (rate body : ℕ) where
         → ((st : State) (store : Store) → st.steps_left ≤ n
         → Within program linear rate body shapes base st store → st.held ≡ site.held
         → Claim linear rate (λ next. search linear next rest exc resumption
-        (conf context site pc temps st store)) st (price 16 1 1 rate)
+        (conf context site pc temps st store)) st (price 0 1 1 rate)
         (normal_ways (resumes program linear rate body resumption context site pc temps)
         (Within program linear rate body shapes base) context site)
         (source.search (within program n) hs exc context st))
         → Claim linear rate (λ next. consult linear how f rest exc resumption next
-        (conf context site pc temps st store)) st (price 16 1 1 rate)
+        (conf context site pc temps st store)) st (price 0 1 1 rate)
         (normal_ways (resumes program linear rate body resumption context site pc temps)
         (Within program linear rate body shapes base) context site)
         (source.search_by (within program n) filter h (length hs) exc context st
@@ -261,7 +275,7 @@ module _ (program : Program) (linear : LinearProgram) (rate body : ℕ) where
     consult_runs Always None h hs f pre rest exc resumption names info z shapes context site base pc
         temps st store fit a len steps le t w around kept held go =
         takes_over (λ next. accept linear f exc next (conf context site pc temps st store)) f pre
-        rest (length hs) 16 1 exc (Within program linear rate body shapes base) context site pc
+        rest (length hs) 0 1 exc (Within program linear rate body shapes base) context site pc
         temps st store len w (omega arith) t held kept (λ next. refl)
     consult_runs (Funclet k e) (Some j) h hs f pre rest exc resumption names info z shapes context
         site base pc temps st store fit a len steps le t w around kept held go =
@@ -270,7 +284,7 @@ module _ (program : Program) (linear : LinearProgram) (rate body : ℕ) where
         context site pc temps)
         (normal_ways (resumes program linear rate body resumption context site pc temps)
         (Within program linear rate body shapes base) context site) st
-        (price 0 1 0 (2 + expression_weight e)) (price 16 0 1 rate) (price 16 1 1 rate)
+        (price 0 1 0 (2 + expression_weight e)) (price 0 0 1 rate) (price 0 1 1 rate)
         (within program n (RunFilter k e h exc) context st)
         (λ v st. source.answered (within program n) v (length hs) exc context st
         (λ st. source.search (within program n) hs exc context st))
@@ -292,7 +306,7 @@ module _ (program : Program) (linear : LinearProgram) (rate body : ℕ) where
         → Around program linear rate body names info z shapes context site base
         → Within program linear rate body shapes base st store → st.held ≡ site.held
         → Claim linear rate (λ next. search linear next rest exc resumption
-        (conf context site pc temps st store)) st (price 16 1 1 rate)
+        (conf context site pc temps st store)) st (price 0 1 1 rate)
         (normal_ways (resumes program linear rate body resumption context site pc temps)
         (Within program linear rate body shapes base) context site)
         (source.search (within program n) hs exc context st)
@@ -312,33 +326,6 @@ module _ (program : Program) (linear : LinearProgram) (rate body : ℕ) where
         shapes context site base pc temps st store steps le t
         (w ∙ sym (append_assoc pre (f ∷ []) rest)) m.1 around kept held)
 
-    pub raise_runs : (exc : Exception) (resumption : Resumption) (names : Names) (info : Bool)
-        (z : Shape) (shapes : List Shape) (context : Context) (site : Site) (base : Store) (pc : ℕ)
-        (temps : List ℕ) (st : State) (store : Store)
-        → st.steps_left ≤ n → 2 ≤ rate → regions_at linear site.body pc ≡ site.regions
-        → Around program linear rate body names info z shapes context site base
-        → Within program linear rate body shapes base st store → st.held ≡ site.held
-        → Claim linear rate (λ next. raise linear next exc resumption
-        (conf context site pc temps st store)) st (price 16 1 1 rate)
-        (normal_ways (resumes program linear rate body resumption context site pc temps)
-        (Within program linear rate body shapes base) context site)
-        (source.search (within program n) context.handlers exc context (emit (raise_event exc) st))
-    raise_runs exc resumption names info z shapes context site base pc temps st store steps le t
-        around kept held =
-        let w = normal_ways (resumes program linear rate body resumption context site pc temps)
-        (Within program linear rate body shapes base) context site in
-        let o = source.search (within program n) context.handlers exc context
-        (emit (raise_event exc) st) in
-        subst (λ rs. Claim linear rate (λ next. search linear next
-        (handlers_in rs context.activation (length site.below) ++ handlers linear site.below None)
-        exc resumption (conf context site pc temps (emit (raise_event exc) st) store)) st
-        (price 16 1 1 rate) w o) (sym t)
-        (sooner linear rate _ st (emit (raise_event exc) st) (price 16 1 1 rate) w o refl
-        (raise_event exc ∷ [], refl)
-        (search_runs context.handlers [] (found linear rate context site) exc resumption names info
-        z shapes context site base pc temps (emit (raise_event exc) st) store steps le t refl
-        around.handlers around kept held))
-
     -- ---- a filter
 
     ends_filter : (e : Expression) (v j : ℕ) (funclet : LinearFunclet) (inner : Context)
@@ -350,7 +337,7 @@ module _ (program : Program) (linear : LinearProgram) (rate body : ℕ) where
         → exec linear (suc k) (conf inner (record {
           body = FuncletBody j;
           regions = [];
-          below = Searches exc resumption f rest ∷ Waits (frame_of context site pc temps)
+          below = Searches exc resumption (FilterOf f rest) ∷ Waits (frame_of context site pc temps)
               ∷ site.below;
           exception = exc;
           held = site.held + 2;
@@ -364,7 +351,7 @@ module _ (program : Program) (linear : LinearProgram) (rate body : ℕ) where
         let c = conf inner (record {
           body = FuncletBody j;
           regions = [];
-          below = Searches exc resumption f rest ∷ Waits (frame_of context site pc temps)
+          below = Searches exc resumption (FilterOf f rest) ∷ Waits (frame_of context site pc temps)
               ∷ site.below;
           exception = exc;
           held = site.held + 2;
@@ -392,7 +379,7 @@ module _ (program : Program) (linear : LinearProgram) (rate body : ℕ) where
         (source.run_filter (within program n) k e h exc context st)
     filter_runs k j e h f rest exc resumption names info z shapes context site base pc temps st
         store steps light t a fit around kept held =
-        let below : List Item = Searches exc resumption f rest
+        let below : List Item = Searches exc resumption (FilterOf f rest)
         ∷ Waits (frame_of context site pc temps) ∷ site.below in
         let isite : Site = record {
           body = FuncletBody j;

@@ -2,7 +2,7 @@
 use Rattle.std.proofs.Common.{◌≡◌, ◌<◌, ℕ, zero, suc, ◌^◌, List, [], ◌∷◌, length, refl, sym, ap, subst, ◌∙◌, arith}
 use Rattle.std.proofs.lemmas.Bool.{ltb-true}
 use Rattle.std.specs.Prelude.{Bool, true, false, ◌&&◌, slice_get, Option, Some, None}
-use Rattle.lowering_follows.specs.Words.{BuiltIn, Put, Protect, RaiseException, Walk, Operation, Pure, Size, Int, Long, Conversion, Expression, On, Node, Lvalue, Global, Stacked, Indirection, Element, Arguments, Done, Program, Function, are_sizes, TypingContext, is_number, size_after, unary_takes, takes, built_in_takes, constant_fits, amount_fits, change_fits, call_fits, lvalue_size, argument_sizes, expression_sound, node_sound, lvalue_sound, arguments_sound, place_sound, is_constant, count_of, argument_count, ExpressionFits, LvalueFits, ArgumentsFit, NodeFits, IsCalled, IsStackedPlace, Local, Next}
+use Rattle.lowering_follows.specs.Words.{BuiltIn, Put, Protect, RaiseException, Walk, AddVectored, RemoveVectored, Operation, Pure, Size, Int, Long, Conversion, Expression, On, Node, Lvalue, Global, Stacked, Indirection, Element, Arguments, Done, Program, Function, are_sizes, TypingContext, is_number, size_after, unary_takes, takes, built_in_takes, constant_fits, amount_fits, change_fits, call_fits, is_pair_of_ints, can_handle, handler_fits, lvalue_size, argument_sizes, expression_sound, node_sound, lvalue_sound, arguments_sound, place_sound, is_constant, count_of, argument_count, ExpressionFits, LvalueFits, ArgumentsFit, NodeFits, IsCalled, IsVectoredHandler, BuiltInFits, IsStackedPlace, Local, Next}
 use Rattle.c_operations.specs.declared.operation.Operation.TheVariants as operations
 use Rattle.c_operations.specs.declared.operation.Pure.TheVariants as pures
 use Rattle.c_checked.specs.Expression as nodes
@@ -62,6 +62,8 @@ built_in_count Put = refl
 built_in_count Protect = refl
 built_in_count RaiseException = refl
 built_in_count Walk = refl
+built_in_count (AddVectored f) = refl
+built_in_count (RemoveVectored f) = refl
 
 called : (program : Program) (s : TypingContext) (f : ℕ) (es : Arguments) (o : Option Function)
     → slice_get program.functions f ≡ o → call_fits o (argument_sizes s es) ≡ true
@@ -72,6 +74,39 @@ called program s f es (Some function) e h = record {
   there = e;
   takes = counted s function.parameters es h;
 }
+
+-- ---- vectored handlers
+
+two_parameters : (zs : List Size) → is_pair_of_ints zs ≡ true → 2 ≡ length zs
+two_parameters [] h = absurd (cc)
+two_parameters (Long ∷ zs) h = absurd (cc)
+two_parameters (Int ∷ []) h = absurd (cc)
+two_parameters (Int ∷ Long ∷ zs) h = absurd (cc)
+two_parameters (Int ∷ Int ∷ []) h = refl
+two_parameters (Int ∷ Int ∷ z ∷ zs) h = absurd (cc)
+
+vectored_handler : (program : Program) (f : ℕ) (o : Option Function)
+    → slice_get program.functions f ≡ o → can_handle o ≡ true → IsVectoredHandler program f
+vectored_handler program f None e h = absurd (cc)
+vectored_handler program f (Some function) e h = record {
+  called = record {
+    function = function;
+    there = e;
+    takes = two_parameters function.parameters (both_left _ _ h);
+  };
+  handles = h;
+}
+
+built_in_fits : (program : Program) (k : BuiltIn) → handler_fits program.functions k ≡ true
+    → BuiltInFits program k
+built_in_fits program Put h = tt
+built_in_fits program Protect h = tt
+built_in_fits program RaiseException h = tt
+built_in_fits program Walk h = tt
+built_in_fits program (AddVectored f) h =
+    vectored_handler program f (slice_get program.functions f) refl h
+built_in_fits program (RemoveVectored f) h =
+    vectored_handler program f (slice_get program.functions f) refl h
 
 -- ---- places on the data stack
 
@@ -189,8 +224,10 @@ module _ (program : Program) (own : ℕ) (info : Bool) where
             called program s f es (slice_get program.functions f) refl fits,
           )
       node_fits (nodes.CallBuiltIn f es) h = (
-        arguments_fit es (both_left _ _ h),
-        counted s (built_in_takes f) es (both_right _ _ h) ∙ built_in_count f,
+        arguments_fit es (both_left _ _ (both_left _ _ h)),
+        counted s (built_in_takes f) es (both_right _ _ (both_left _ _ h)) ∙ built_in_count f,
+        built_in_fits program f
+            (sym (ap (λ fs. handler_fits fs f) k.functions) ∙ both_right _ _ h),
       )
       node_fits nodes.ExceptionCode h = tt
       node_fits (nodes.Information f) h = sym k.information ∙ h

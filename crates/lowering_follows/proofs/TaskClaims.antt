@@ -1,14 +1,15 @@
 -- What is claimed of each kind of task inside expressions.
 use Rattle.std.proofs.Common.{◌≡◌, ◌≤◌, ℕ, zero, ◌+◌, List, [], ◌∷◌, ◌++◌, length}
 use Rattle.std.specs.Prelude.{Bool, false, slice_get, Some, None}
-use Rattle.lowering_follows.specs.Words.{Memory, Operation, performed, Expression, Lvalue, Global, Stacked, Indirection, Element, Program, Function, is_reserved, Exception, State, Context, Handler, Eval, Locate, Raise, RunFilter, Retry, raise_event, enter, within, Temporary, LinearProgram, LinearFunction, Resumption, Waits, Store, Configuration, deeper, with_temporary, regions_at, handlers, begin_filter, raise, resumed, answered, begin_function, is_constant, exec, Names, expression_size, locate_size, expression_code, locate_code, ExpressionFits, LvalueFits, expression_weight, lvalue_weight, HasAt, IsPrefixOf, Local}
+use Rattle.lowering_follows.specs.Words.{Memory, Operation, performed, Expression, Lvalue, Global, Stacked, Indirection, Element, Program, Function, is_reserved, Exception, State, Context, Handler, Eval, Locate, Raise, AskVectored, RunFilter, Retry, raise_event, enter, within, Temporary, LinearProgram, LinearFunction, Resumption, Item, Store, Configuration, deeper, functions_in, with_temporary, regions_at, handlers, unwind, begin_filter, ask_vectored, raise, resumed, vectored_answered, answered, return, begin_function, is_constant, exec, Names, expression_size, locate_size, expression_code, locate_code, ExpressionFits, LvalueFits, IsCalled, expression_weight, lvalue_weight, HasAt, IsPrefixOf, Local}
 use Rattle.linear_code.specs.Program.{depth_weight}
 use Rattle.linear_code.specs.declared.instruction.Instruction.TheVariants as instructions
-use Rattle.lowering_follows.proofs.Lemmas.{prefix_less, events_of, search_shows, Part, at, Site, frame_of, conf, value_ways, normal_ways, price, Claim}
+use Rattle.lowering_follows.proofs.Lemmas.{prefix_less, events_of, ask_shows, Part, at, Site, found, conf, value_ways, normal_ways, price, Claim}
 use Rattle.linear_machine.specs.Frames as machine
-use Rattle.linear_machine.proofs.Stretch.{Kept}
+use Rattle.linear_machine.specs.Frames.{Next}
+use Rattle.linear_machine.proofs.Stretch.{Kept, unwound}
 use Rattle.lowering_follows.proofs.Stores.{Shape, everywhere}
-use Rattle.lowering_follows.proofs.Environments.{FilterFits, KeptFrom, Env}
+use Rattle.lowering_follows.proofs.Environments.{FilterFits, KeptFrom, Env, functions_at}
 
 -- the temporaries after a place was located: its address, and of a local nothing
 abbrev pub located : Lvalue → List ℕ → ℕ → List ℕ
@@ -53,6 +54,23 @@ module _ (program : Program) (linear : LinearProgram) (rate body : ℕ) where
       → Context → Site → ℕ → List ℕ → ℕ → State → Store → Part
   answers_search exc resumption f rest context site pc temps v st store next = answered linear next
       v exc resumption f rest (conf context site pc temps st store)
+
+  abbrev pub answers_vectored : (place : ℕ) → Exception → Resumption → Context → Site → ℕ → List ℕ
+      → ℕ → State → Store → Part
+  answers_vectored place exc resumption context site pc temps v st store next = vectored_answered
+      linear next v place exc resumption (conf context site pc temps st store)
+
+  -- what lies below a function: a search and an unwinding make of it what they make of a place, and
+  -- a return leads from it to a part
+  pub record ReturnsTo (below : List Item) (context : Context) (site : Site) (pc : ℕ)
+      (temps : List ℕ) (part : ℕ → State → Store → Part) : Type 0 where
+    pub same_found : handlers linear below None ≡ found linear rate context site
+    pub same_functions : functions_in below ≡ functions_at site
+    pub onward : (next : Next) (target : machine.Target) (st : State) (store : Store)
+        → unwind linear next target below None st.events store
+        ≡ unwound linear rate context site target temps st store pc next
+    pub returns : (next : Next) (v : ℕ) (st : State) (store : Store)
+        → return linear next v below st.events store ≡ part v st store next
 
   -- what is claimed of each kind of task, inside at most n others
   pub record Runs (n : ℕ) : Type 0 where
@@ -116,24 +134,39 @@ module _ (program : Program) (linear : LinearProgram) (rate body : ℕ) where
         (price 0 1 0 (2 + expression_weight e))
         (value_ways (answers_search exc resumption f rest context site pc temps)
         (Within shapes base) context site) (within program n (RunFilter k e h exc) context st)
-    pub call : (k : ℕ) (fn : Function) (lf : LinearFunction) (vs : List ℕ) (names : Names)
+    pub asked : (f place : ℕ) (exc : Exception) (resumption : Resumption) (names : Names)
+        (info : Bool) (z : Shape) (shapes : List Shape) (context : Context) (site : Site)
+        (base : Store) (pc : ℕ) (temps : List ℕ) (st : State) (store : Store)
+        → IsCalled program f 2 → st.steps_left ≤ n
+        → regions_at linear site.body pc ≡ site.regions
+        → Around names info z shapes context site base → Within shapes base st store
+        → st.held ≡ site.held
+        → Claim linear rate (λ next. ask_vectored linear next f place exc resumption
+        (conf context site pc temps st store)) st (price 0 1 1 rate)
+        (normal_ways (resumes resumption context site pc temps) (Within shapes base) context site)
+        (within program n (AskVectored f place exc) context st)
+    pub call : (k : ℕ) (fn : Function) (lf : LinearFunction) (vs : List ℕ) (below : List Item)
+        (held : ℕ) (part : ℕ → State → Store → Part) (names : Names)
         (info : Bool) (z : Shape) (shapes : List Shape) (context : Context) (site : Site)
         (base : Store) (pc : ℕ) (temps : List ℕ) (st : State) (store : Store)
         → st.steps_left ≤ n → slice_get program.functions k ≡ Some fn
         → slice_get linear.functions k ≡ Some lf → length vs ≡ length fn.parameters
-        → regions_at linear site.body pc ≡ site.regions
+        → ReturnsTo below context site pc temps part
         → Around names info z shapes context site base → Within shapes base st store
-        → st.held ≡ site.held
-        → Claim linear rate (λ next. deeper (depth_weight lf) site.held store st.events
-        (next (begin_function k lf vs site.held
-        (Waits (frame_of context site pc temps) ∷ site.below) store st.events))) st
-        (price 13 0 body body)
-        (value_ways (pushed context site (pc + 1) temps) (Within shapes base) context site)
+        → st.held ≡ held
+        → Claim linear rate (λ next. deeper (depth_weight lf) held store st.events
+        (next (begin_function k lf vs held below store st.events))) st (price 13 4 0 0)
+        (record (value_ways part (Within shapes base) context site) { held = held })
         (enter program (within program n) k (Some fn) vs context st)
+
+  pub shown_asked : (f place : ℕ) (exc : Exception) (resumption : Resumption) (c : Configuration)
+      → IsPrefixOf c.events
+      (events_of (ask_vectored linear (exec linear zero) f place exc resumption c))
+  shown_asked f place exc resumption c = ask_shows linear (Some f) place exc resumption c
 
   pub shown_raise : (exc : Exception) (resumption : Resumption) (c : Configuration)
       → IsPrefixOf c.events (events_of (raise linear (exec linear zero) exc resumption c))
   shown_raise exc resumption c =
       prefix_less c.events _ (raise_event exc)
-      (search_shows linear (handlers linear (Waits c.frame ∷ c.below) None) exc resumption
+      (ask_shows linear (slice_get c.store.vectored 0) 0 exc resumption
       (record c { events = c.events ++ raise_event exc ∷ [] }))

@@ -2,7 +2,7 @@
 use Rattle.std.proofs.Common.{◌≡◌, ◌≤◌, ℕ, zero, suc, ◌+◌, List, [], ◌∷◌, length, arith}
 use Rattle.std.specs.Prelude.{Bool, false, slice_get, Some}
 use Rattle.seh_num.specs.declared.event.Event.TheVariants as events
-use Rattle.lowering_follows.specs.Words.{Operation, Expression, On, Node, Lvalue, Program, Function, Exception, State, Value, Gives, Context, Handler, Eval, Locate, Raise, RunFilter, Retry, converted, operate, locate, perform, within, Temporary, LinearProgram, LinearFunction, Resumption, Store, deeper, regions_at, begin_filter, raise, is_constant, exec, Names, conversion_size, expression_size, locate_size, node_size, conversion_code, expression_code, locate_code, node_code, ExpressionFits, LvalueFits, NodeFits, expression_weight, lvalue_weight, node_weight, HasAt}
+use Rattle.lowering_follows.specs.Words.{Operation, Expression, On, Node, Lvalue, Program, Function, Exception, State, Value, Gives, Context, Handler, Eval, Locate, Raise, AskVectored, RunFilter, Retry, converted, operate, locate, perform, within, Temporary, LinearProgram, LinearFunction, Resumption, Store, deeper, regions_at, begin_filter, ask_vectored, raise, is_constant, exec, Names, conversion_size, expression_size, locate_size, node_size, conversion_code, expression_code, locate_code, node_code, ExpressionFits, LvalueFits, NodeFits, IsCalled, expression_weight, lvalue_weight, node_weight, HasAt}
 use Rattle.c_checked.specs.Expression as nodes
 use Rattle.source_meaning.specs.Expressions as model
 use Rattle.linear_code.specs.declared.instruction.Instruction.TheVariants as instructions
@@ -12,8 +12,9 @@ use Rattle.lowering_follows.proofs.Stores.{Shape, everywhere}
 use Rattle.lowering_follows.proofs.Places.{has_front, has_after}
 use Rattle.lowering_follows.proofs.Lengths.{node_length}
 use Rattle.lowering_follows.proofs.Environments.{FilterFits}
-use Rattle.lowering_follows.proofs.TaskClaims.{pushed, with_address, Operands, Around, SameOperation', resumes, answers_search, Runs, shown_raise}
-use Rattle.lowering_follows.proofs.Raises.{raise_runs, filter_runs}
+use Rattle.lowering_follows.proofs.TaskClaims.{pushed, with_address, Operands, Around, SameOperation', resumes, answers_search, Runs, shown_raise, shown_asked}
+use Rattle.lowering_follows.proofs.Raises.{filter_runs}
+use Rattle.lowering_follows.proofs.VectoredHandlers.{raise_runs, vectored_runs}
 use Rattle.lowering_follows.proofs.Operations.{locate_runs, operate_runs}
 use Rattle.lowering_follows.proofs.NodeParts.{Kp, Wv, conversion_then, here_other}
 use Rattle.lowering_follows.proofs.Nodes.{NodeRuns, RunsIn, spares, binary_runs, not_runs, comma_runs, unary_runs, and_runs, or_runs, conditional_runs}
@@ -242,6 +243,30 @@ module _ (program : Program) (linear : LinearProgram) (rate body : ℕ)
           (λ m less. raise_runs program linear rate body n ih exc resumption names info z shapes
           context site base pc temps (record st { steps_left = m }) store (omega arith)
           (omega arith) t around kept held)
+
+      pub asked_next : (f place : ℕ) (exc : Exception) (resumption : Resumption) (pc : ℕ)
+          (temps : List ℕ) (st : State) (store : Store) → IsCalled program f 2
+          → st.steps_left ≤ suc n → regions_at linear site.body pc ≡ site.regions
+          → Kp program linear rate body same_globals roomy n ih names info z shapes context site
+          base around st store → st.held ≡ site.held
+          → Claim linear rate (λ next. ask_vectored linear next f place exc resumption
+          (conf context site pc temps st store)) st (price 0 1 1 rate)
+          (normal_ways (resumes program linear rate body resumption context site pc temps)
+          (Kp program linear rate body same_globals roomy n ih names info z shapes context site
+          base around) context site) (within program (suc n) (AskVectored f place exc) context st)
+      asked_next f place exc resumption pc temps st store fits steps t kept held =
+          let lf = functions_at f fits.function fits.there in
+          counted_claim linear rate (λ next. ask_vectored linear next f place exc resumption
+          (conf context site pc temps st store))
+          (normal_ways (resumes program linear rate body resumption context site pc temps)
+          (Kp program linear rate body same_globals roomy n ih names info z shapes context site
+          base around) context site) st 1 1 rate
+          (λ st. perform program (within program n) (AskVectored f place exc) context st)
+          (omega arith) (shown_asked program linear rate body f place exc resumption
+          (conf context site pc temps st store))
+          (λ m less. vectored_runs program linear rate body n ih f place fits.function lf.0 exc
+          resumption names info z shapes context site base pc temps (record st { steps_left = m })
+          store fits.there lf.1 fits.takes (omega arith) (omega arith) t around kept held)
 
       pub retry_next : (o : Operation) (x y to first second a b : ℕ) (after : ℕ → List ℕ) (pc : ℕ)
           (temps : List ℕ) (st : State) (store : Store) → is_constant o ≡ false

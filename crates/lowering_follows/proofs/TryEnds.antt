@@ -140,7 +140,7 @@ module _ (program : Program) (linear : LinearProgram) (rate body : ℕ) where
         (set_local store context.activation free exc.code))) st (price 1 0 y y)
         (statement_ways program linear rate body scope context site kept done) (go exc st))
         → ((e : State) (store : Store) → kept e store → (f : State) → f.memory ≡ e.memory
-        → f.frames ≡ e.frames → f.functions ≡ e.functions → kept f store)
+        → f.frames ≡ e.frames → f.functions ≡ e.functions → f.vectored ≡ e.vectored → kept f store)
         → Claim linear rate s from (price 0 0 x x)
         (statement_ways program linear rate body (in_try done scope) inner inside kept pc) o
         → Claim linear rate s from (price 3 0 (x + y) (x + y))
@@ -256,7 +256,7 @@ module _ (program : Program) (linear : LinearProgram) (rate body : ℕ) where
             (omega arith, omega arith, omega arith) refl refl
             (prefix_self landed.events)
             (λ j. landing_turn free exc st p.store j lands_has)
-            (g exc landed p.store low (alike st p.store p.fits landed refl refl refl) refl))))
+            (g exc landed p.store low (alike st p.store p.fits landed refl refl refl refl) refl))))
           where
             at_target : ℕ → Configuration
             at_target t = record (landed_at exc st p.store)

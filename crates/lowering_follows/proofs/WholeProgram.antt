@@ -4,7 +4,7 @@ use native.Mathlib.Nat.{mul-add, mul_comm, mul-one}
 use Rattle.std.proofs.lemmas.Bool.{cases_lt, lt-ltb, le-ltb, ne_eqb}
 use Rattle.std.specs.Prelude.{false, nat_eq, if◌then◌else◌, replicate, slice_get, ℤ, Some, None}
 use Rattle.seh_num.specs.declared.event.Event.{Event}
-use Rattle.lowering_follows.specs.Words.{W32, W64, signed, wrapped, Size, Program, Function, part_of, close_part, open_frame, body_start, State, Value, Normal, Returned, Target, End, Outcome, Gives, choose, Context, no_exception, all, ended_call, enter, within, does, for_parameters, outside, ran, shows, meaning, Temporary, LinearProgram, LinearFunction, FunctionBody, Store, Configuration, Seen, Finished, with_some, Running, Stuck, begin_function, exec, main_arguments, start, seen, shown, statements_size, statements_notes, own_locals, scope_of, statements_weight, HasAt, FunctionPlaced, first_memory, IsPrefixOf, surplus, hold_surplus, count_steps}
+use Rattle.lowering_follows.specs.Words.{W32, W64, signed, wrapped, Size, Program, Function, part_of, close_part, open_frame, body_start, State, Value, Normal, Returned, Target, End, Outcome, Gives, choose, Context, no_exception, all, ended_call, enter, within, does, for_parameters, outside, ran, shows, meaning, Temporary, LinearProgram, LinearFunction, FunctionBody, Store, Configuration, Seen, Finished, with_some, Running, Stuck, begin_function, exec, main_arguments, start, seen, shown, statements_size, statements_notes, own_locals, asking, scope_of, statements_weight, HasAt, FunctionPlaced, first_memory, IsPrefixOf, surplus, hold_surplus, count_steps}
 use Rattle.source_meaning.specs.declared.ended.Ended.{Ended}
 use Rattle.source_meaning.specs.declared.ended.Ended.TheVariants.{Exit, Deep}
 use Rattle.source_meaning.specs.State.{deeper, counting, with_activation}
@@ -13,14 +13,14 @@ use Rattle.source_meaning.proofs.Counting as counts
 use Rattle.source_meaning.specs.Meaning as source
 use Rattle.source_meaning.proofs.RemainingSteps.{enters_within}
 use Rattle.linear_code.specs.declared.instruction.Instruction.TheVariants as instructions
-use Rattle.lowering_follows.proofs.Lemmas.{events_of, More, longer, prefix_same, prefix_then, Part, at, Site, conf, price, Claim, Stops, more, first, fetch, prefix_self, after, sooner, stopped, from_none}
+use Rattle.lowering_follows.proofs.Lemmas.{events_of, More, longer, prefix_same, prefix_then, Part, at, Site, conf, price, Claim, Stops, first, fetch, prefix_self, after, sooner, stopped, from_none, asking_within}
 use Rattle.linear_machine.proofs.MoreTurns.{front}
 use Rattle.linear_machine.proofs.Stretch.{Kept}
 use Rattle.lowering_follows.specs.FollowLaws.{Follows, NoMore, LinkedFollows}
 use Rattle.lowering_follows.proofs.Stores.{Shape, FrameAlike, Alike, below_slot, kept_itself, push_alike}
 use Rattle.lowering_follows.proofs.BodyClaims.{statement_ways, Stays, Surroundings}
 use Rattle.lowering_follows.proofs.BodySequences.{all_runs}
-use Rattle.lowering_follows.proofs.Beginnings.{separators_reach}
+use Rattle.lowering_follows.proofs.Beginnings.{separators_then, separators_reach, passed_claim}
 use Rattle.lowering_follows.proofs.StackPointers.{base_of}
 use Rattle.lowering_follows.proofs.Openings.{opened_claim}
 use Rattle.lowering_follows.proofs.Closings.{closed_stays, closes, ended_ways, last_of, last_has}
@@ -171,10 +171,14 @@ module _ (program : Program) (linear : LinearProgram) (rate body : ℕ)
         (runs n (length st.frames))))
 
     abbrev first_store : Store
-    first_store = record { memory = first_memory linear.globals; activations = [] }
+    first_store = record { memory = first_memory linear.globals; activations = []; vectored = [] }
 
     abbrev store' : Store
-    store' = record { memory = first_memory linear.globals; activations = locals ∷ [] }
+    store' = record {
+      memory = first_memory linear.globals;
+      activations = locals ∷ [];
+      vectored = [];
+    }
 
     abbrev c0 : Configuration
     c0 = begin_function program.main lf vs 0 [] first_store []
@@ -269,15 +273,18 @@ module _ (program : Program) (linear : LinearProgram) (rate body : ℕ)
         let first_part = at (conf inner csite 1 [] (origin n) store') in
         let body_part = at (conf inner csite (1 + s) [] (begun n) store') in
         let quick = f.quick in
+        let starts = separators_then linear rate (omega arith) inner csite store' s (asking fn) 1
+        f.starts.2 in
+        let takes = asking_within fn 1 (λ e. omega arith) few in
         let begins : Claim linear rate body_part (begun n) (price 2 0 w w) ways opened =
-        more linear rate body_part (begun n) (price (1 + length fn.parameters) 0 w w)
-        (price 2 0 w w) ways opened (omega arith, omega arith, omega arith)
+        passed_claim linear rate (omega arith) inner csite store' (1 + length fn.parameters) w ways
+        (asking fn) 2 (1 + s) (begun n) opened (omega arith) starts.1
         (opened_claim program linear rate body same_globals scope.names new (new ∷ []) inner csite
         store' refl (omega arith) fn f.frame f.opens (begun n) store' w ways (runs n 0) (
           push_alike [] (first_memory program.globals) [] first_store new given locals alike
               nothing,
           kept_itself (below_slot 0 (own_locals fn)) (new ∷ []) store',
-          refl,
+          record { functions_are = refl; same_handlers = refl; are_called = tt },
         ) (ap (λ held. 0 + held) (sym weighs))
         (λ mid after left kept held.
         all_runs program linear rate body n bodies scope new (new ∷ []) inner csite store' fn.body
@@ -297,7 +304,7 @@ module _ (program : Program) (linear : LinearProgram) (rate body : ℕ)
         (after linear rate first_part body_part (origin n) (counted n) 0 0 0 (price 2 0 w w)
         (price 2 0 x x) ways opened (omega arith, omega arith, omega arith)
         (separators_reach linear rate (omega arith) inner csite store' s 1 (origin n) left
-        f.starts.2)
+        starts.0)
         (sooner linear rate body_part (counted n) (begun n) (price 2 0 w w) ways opened refl
         (prefix_self (origin n).events) begins))))
 

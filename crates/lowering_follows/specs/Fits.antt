@@ -2,10 +2,12 @@
 -- numbers of 64 bits.
 use Rattle.std.specs.Prelude.{◌≡◌, ◌<◌, ℕ, ◌^◌, Bool, true, false, length, slice_get, Some}
 use Rattle.c_operations.specs.declared.operation.Operation.TheVariants.{Pure}
+use Rattle.c_operations.specs.declared.built_in.BuiltIn.{BuiltIn}
+use Rattle.c_operations.specs.declared.built_in.BuiltIn.TheVariants.{AddVectored, RemoveVectored}
 use Rattle.c_checked.specs.Expression as nodes
 use Rattle.c_checked.specs.Expression.{Expression, On, Node, Lvalue, Local, Global, Stacked, Indirection, Element, Arguments, Done, Next}
 use Rattle.c_checked.specs.Program.{Program, Function}
-use Rattle.c_checked.specs.Sound.{is_in_memory}
+use Rattle.c_checked.specs.Sound.{is_in_memory, can_handle}
 use Rattle.linear_machine.specs.Instructions.{is_constant, count_of}
 use Rattle.lowering_expressions.specs.Expressions.{argument_count}
 
@@ -14,6 +16,17 @@ pub record IsCalled (program : Program) (f count : ℕ) : Type 0 where
   pub function : Function
   pub there : slice_get program.functions f ≡ Some function
   pub takes : count ≡ length function.parameters
+
+-- a function that can be a vectored handler: it takes a code and flags, and gives an answer
+pub record IsVectoredHandler (program : Program) (f : ℕ) : Type 0 where
+  pub called : IsCalled program f 2
+  pub handles : can_handle (Some called.function) ≡ true
+
+-- a function that a call puts among the vectored handlers, or takes out, can be one
+abbrev pub BuiltInFits : Program → BuiltIn → Type 0
+BuiltInFits program (AddVectored f) = IsVectoredHandler program f
+BuiltInFits program (RemoveVectored f) = IsVectoredHandler program f
+BuiltInFits program k = Unit {0}
 
 -- the size of what pointers that are subtracted point to
 pub record IsElementSize (n : ℕ) : Type 0 where
@@ -75,7 +88,7 @@ abbrev mutual
   NodeFits program own info (nodes.Call f es) =
       ArgumentsFit program own info es × IsCalled program f (argument_count es)
   NodeFits program own info (nodes.CallBuiltIn k es) =
-      ArgumentsFit program own info es × (argument_count es ≡ count_of k)
+      ArgumentsFit program own info es × (argument_count es ≡ count_of k) × BuiltInFits program k
   NodeFits program own info nodes.ExceptionCode = Unit {0}
   NodeFits program own info (nodes.Information f) = info ≡ true
   NodeFits program own info nodes.AbnormalTermination = Unit {0}

@@ -25,7 +25,7 @@ use Rattle.lowering_expressions.specs.Scope.{filter_names, finally_scope, in_loo
 use Rattle.lowering_sizes.specs.Sizes.{expression_size, discarded_size, condition_size, declared_size, all_declared_size, returned_size, statement_size, statements_size}
 use Rattle.lowering_expressions.specs.Expressions.{constant, expression_code}
 use Rattle.seh_ir.specs.Funclets.{finally_begin}
-use Rattle.seh_ir.specs.Lowered.{own_locals, all_locals, first_separators, open_code, close_code, body_start, scope_of}
+use Rattle.seh_ir.specs.Lowered.{own_locals, all_locals, first_separators, first_count, open_code, close_code, body_start, scope_of}
 use Rattle.seh_ir.specs.Regions.{except_kind, region}
 use Rattle.seh_ir.specs.Statements.{jump_code, return_code, leave_code, discarded_code, returned_code, condition_code, declared_code, reset_code}
 use Rattle.lowering_follows.specs.Fits.{ExpressionFits, IsStackedPlace}
@@ -296,7 +296,7 @@ module _ (program : Program) (linear : LinearProgram) (steps_per_turn body : ℕ
     pub frame : FrameFits (own_locals fn) (length fn.parameters) fn.data_frame
     pub few : length fn.parameters ≤ MOST_PARAMETERS
     pub starts : HasAt linear (FunctionBody k) [] 0 (first_separators fn)
-    pub opens : HasAt linear (FunctionBody k) [] (weight fn) (open_code fn.data_frame)
+    pub opens : HasAt linear (FunctionBody k) [] (first_count fn) (open_code fn.data_frame)
     pub placed : AllPlaced program linear steps_per_turn body (own_locals fn) (FunctionBody k)
         (scope_of fn) fn.body [] (body_start fn)
     pub ends : HasAt linear (FunctionBody k) [] (body_start fn + statements_size fn.body)

@@ -140,6 +140,6 @@ module _ (program : LinearProgram) where
   filter_owned h k (Waits f ∷ below) e (inr p) w =
       let q = filter_owned h k below e p w.1 in
       (q.0, q.1, own_more f.body (owners_of below) h.activation q.0 q.2)
-  filter_owned h k (Searches exception resumption asked rest ∷ below) e p w = filter_owned h k below
+  filter_owned h k (Searches exception resumption asked ∷ below) e p w = filter_owned h k below
       e p w
   filter_owned h k (Unwinds rest target ∷ below) e p w = filter_owned h k below e p w

@@ -6,7 +6,7 @@ use Rattle.c_checked.specs.declared.function.DataPart.{DataPart}
 use Rattle.seh_ir.specs.Funclets.{finally_begin}
 use Rattle.seh_ir.specs.Lowered.{body_start}
 use Rattle.seh_ir.specs.Statements.{reset_code}
-use Rattle.lowering_invariants.specs.Words.{Field, Program, Function, weight, funclets, functions_sound, Statements, Slot, Local, Instruction, FuncletKind, LinearBody, LinearFunction, LinearFunclet, BodyName, FunctionBody, FuncletBody, function_body, funclet_body, body_of, Names, LoweringContext, finally_scope, statements_code, own_locals, all_locals, first_separators, scope_of, lowered_function, lowered_funclets, all_funclets, lowered, IsBlind, IsFilterBody, statements_notes, ExpressionFits, LoweredInformsFilters}
+use Rattle.lowering_invariants.specs.Words.{Field, Program, Function, funclets, functions_sound, Statements, Slot, Local, Instruction, FuncletKind, LinearBody, LinearFunction, LinearFunclet, BodyName, FunctionBody, FuncletBody, function_body, funclet_body, body_of, Names, LoweringContext, finally_scope, statements_code, own_locals, all_locals, scope_of, lowered_function, lowered_funclets, all_funclets, lowered, IsBlind, IsFilterBody, statements_notes, ExpressionFits, LoweredInformsFilters}
 use Rattle.linear_code.specs.declared.instruction.Instruction.TheVariants as instructions
 use Rattle.linear_code.specs.declared.program.FuncletKind.TheVariants as kinds
 use Rattle.lowering_invariants.proofs.Lemmas.{both_left, both_right, all_append, HoldsOfInstructions, statements_all, any_numbers, HoldsOfFunclets, all_funclets_every, StatementsFit, function_fits}

@@ -41,7 +41,7 @@ expression_blind program own names outside e d at f =
     expression_every IsBlind operations_blind program own false names
     (record {
       of_call = λ g first count h. tt;
-      of_built_in = λ k first. tt;
+      of_built_in = λ k first h. tt;
       of_code = λ first. code_blind names.exception first outside;
       of_information = λ field to h. absurd (not_allowed h);
     }) e d at f

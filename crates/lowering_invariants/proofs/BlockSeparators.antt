@@ -5,7 +5,7 @@ use Rattle.c_checked.specs.declared.function.DataPart.{DataPart}
 use Rattle.seh_ir.specs.Lowered.{body_start}
 use Rattle.seh_ir.specs.Funclets.{finally_begin}
 use Rattle.seh_ir.specs.Statements.{put_code, reset_code}
-use Rattle.lowering_invariants.specs.Words.{Expression, Function, weight, Statements, Local, Temporary, Instruction, JumpIfZero, Separator, Owner, Names, Way, Nowhere, Jumps, LoweringContext, finally_scope, copy, expression_code, return_code, returned_code, repeated, statements_code, finally_funclet, first_separators, scope_of, lowered_function, runs_blocks, IsFollowed, LoweredIsFollowed, filter_funclet}
+use Rattle.lowering_invariants.specs.Words.{Expression, Function, Statements, Local, Temporary, Instruction, JumpIfZero, Separator, Owner, Names, Way, Nowhere, Jumps, LoweringContext, finally_scope, copy, expression_code, return_code, returned_code, repeated, statements_code, finally_funclet, scope_of, lowered_function, runs_blocks, IsFollowed, LoweredIsFollowed, filter_funclet}
 use Rattle.linear_code.specs.declared.instruction.Instruction.TheVariants as instructions
 use Rattle.lowering_expressions.specs.declared.scope.Way.TheVariants.{Unwinds}
 use Rattle.lowering_invariants.proofs.EveryBody.{every_body}

@@ -7,10 +7,10 @@ use Rattle.linear_code.specs.declared.program.LabelRange.{LabelRange}
 use Rattle.linear_code.specs.declared.instruction.Instruction.TheVariants as instructions
 use Rattle.seh_ir.specs.ColdParts.{statement_calls, statement_tries}
 use Rattle.seh_ir.specs.Lowered.{body_start}
-use Rattle.lowering_invariants.specs.Words.{Expression, Function, weight, Statements, Instruction, Jump, LinearBody, Owner, Names, statement_size, statements_size, statement_code, statements_code, statements_cold, first_separators, scope_of, lowered_function, filter_funclet, finally_funclet}
+use Rattle.lowering_invariants.specs.Words.{Expression, Function, Statements, Instruction, Jump, LinearBody, Owner, Names, statement_size, statements_size, statement_code, statements_cold, scope_of, lowered_function, filter_funclet, finally_funclet}
 use Rattle.lowering_invariants.specs.ColdParts.{IsApart, IsOutOf, IsColdPart, AreRising, HasColdParts}
 use Rattle.lowering_invariants.specs.PlaceLaws.{LoweredHasColdParts}
-use Rattle.lowering_invariants.proofs.Lemmas.{length_first, statement_length, statements_length, all_append, IsSegmentAt, front, back}
+use Rattle.lowering_invariants.proofs.Lemmas.{statement_length, statements_length, all_append, IsSegmentAt, front, back}
 use Rattle.lowering_invariants.proofs.StackTargets.{all_at, same_it}
 use Rattle.lowering_invariants.proofs.Separators.{all_with}
 use Rattle.lowering_invariants.proofs.FirstSeparators.{open_every, function_begin, function_body_code, function_end, begin_every, end_every, begin_length, end_length, code_is, code_every, body_at}

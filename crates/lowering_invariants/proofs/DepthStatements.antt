@@ -9,10 +9,10 @@ use Rattle.seh_ir.specs.Lowered.{bring_code, open_code, close_code, body_start}
 use Rattle.seh_ir.specs.Funclets.{finally_begin}
 use Rattle.seh_ir.specs.Statements.{put_code, landed}
 use Rattle.lowering_invariants.specs.Words.{constant}
-use Rattle.lowering_invariants.specs.Words.{Expression, Program, Function, surplus, weight, Statements, Local, Temporary, Instruction, JumpIfZero, Separator, LinearBody, BodyName, body_of, statements_size, statements_notes, Owner, Names, Way, Nowhere, Jumps, LoweringContext, finally_scope, copy, expression_code, return_code, returned_code, repeated, statements_code, finally_funclet, first_separators, scope_of, lowered_function, lowered, depth_at, filter_funclet}
+use Rattle.lowering_invariants.specs.Words.{Expression, Program, Function, surplus, asking, Statements, Local, Temporary, Instruction, JumpIfZero, Separator, LinearBody, BodyName, body_of, statements_size, statements_notes, Owner, Names, Way, Nowhere, Jumps, LoweringContext, finally_scope, copy, expression_code, return_code, returned_code, repeated, statements_code, finally_funclet, first_separators, scope_of, lowered_function, lowered, depth_at, filter_funclet}
 use Rattle.linear_code.specs.declared.instruction.Instruction.TheVariants as instructions
 use Rattle.lowering_expressions.specs.declared.scope.Way.TheVariants.{Unwinds}
-use Rattle.lowering_invariants.proofs.Lemmas.{length_first, statements_length, statements_have, WayHas, WaysHave, IsPlaced, HoldsOfPieces, statements_every, HoldsOfAnyPieces, statements_any, neutral_of}
+use Rattle.lowering_invariants.proofs.Lemmas.{statements_length, statements_have, WayHas, WaysHave, IsPlaced, HoldsOfPieces, statements_every, HoldsOfAnyPieces, statements_any, neutral_of}
 use Rattle.lowering_invariants.proofs.Scans.{past, past_to, past_both, Scans, scan_start, scan_front, scan_back, scan_end, scanned, AllLead, lead_both}
 use Rattle.lowering_invariants.proofs.FirstSeparators.{function_begin, function_body_code, function_end, begin_length, code_is}
 use Rattle.lowering_invariants.proofs.EveryBody.{every_body}
@@ -258,7 +258,7 @@ function_leads f = subst (λ code. AllLead (depth_at code) 0 code) (code_is f) w
         let l = statements_length (scope_of f) f.body (body_start f) in
         let m = length-append first code in
         let none = past_both (first_separators f) (open_code f.data_frame) 0 0 0
-        (separators_past (surplus f)) (open_past f.data_frame) in
+        (separators_past (surplus f + asking f)) (open_past f.data_frame) in
         let past = past_both first code 0 0 0 none
         (statements_past f.body (scope_of f) (body_start f)) in
         let ends = scan_back depth 0 (body_start f + statements_size f.body) 0 0 (first ++ code)
@@ -268,7 +268,7 @@ function_leads f = subst (λ code. AllLead (depth_at code) 0 code) (code_is f) w
         lead_both depth (first ++ code) (function_end f) 0 0 past
         (lead_both depth first code 0 0 none
         (lead_both depth (first_separators f) (open_code f.data_frame) 0 0
-        (separators_past (surplus f)) (tt, separators_lead depth (surplus f))
+        (separators_past (surplus f + asking f)) (tt, separators_lead depth (surplus f + asking f))
         (open_leads depth f.data_frame))
         (statements_lead depth f.body (scope_of f) (body_start f) (record {
           exit = exit_depth depth (body_start f + statements_size f.body) f.data_frame ends;

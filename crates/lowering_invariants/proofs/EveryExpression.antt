@@ -2,7 +2,7 @@
 use Rattle.std.proofs.Common.{◌≡◌, ℕ, ◌+◌, List, [], ◌∷◌, ◌++◌}
 use Rattle.std.specs.List.{AllByRecursion}
 use Rattle.std.specs.Prelude.{Bool, true, Option, Some, None}
-use Rattle.lowering_invariants.specs.Words.{Width, BuiltIn, Field, Operation, Pure, Signed, Long, Access, Conversion, Kept, Extend, Scale, Expression, On, Node, Lvalue, Global, Stacked, Indirection, Element, Arguments, Done, Program, Slot, Local, Temporary, Instruction, Names, address_count, locate_size, read_size, conversion_size, expression_size, constant, copy, change, combine, conversion_code, unary_code, choice_code, code_code, abnormal_code, load_code, read_code, write_code, address_code, chosen_of, expression_code, locate_code, arguments_code, node_code, store_code, IsCalled, ExpressionFits, LvalueFits, ArgumentsFit, NodeFits}
+use Rattle.lowering_invariants.specs.Words.{Width, BuiltIn, Field, Operation, Pure, Signed, Long, Access, Conversion, Kept, Extend, Scale, Expression, On, Node, Lvalue, Global, Stacked, Indirection, Element, Arguments, Done, Program, Slot, Local, Temporary, Instruction, Names, address_count, locate_size, read_size, conversion_size, expression_size, constant, copy, change, combine, conversion_code, unary_code, choice_code, code_code, abnormal_code, load_code, read_code, write_code, address_code, chosen_of, expression_code, locate_code, arguments_code, node_code, store_code, IsCalled, BuiltInFits, ExpressionFits, LvalueFits, ArgumentsFit, NodeFits}
 use Rattle.c_operations.specs.declared.operation.Operation.TheVariants as operations
 use Rattle.c_operations.specs.declared.operation.Pure.TheVariants as pures
 use Rattle.c_checked.specs.Expression as nodes
@@ -29,7 +29,8 @@ pub record HoldsOfOperations (P : Instruction → Type 0) : Type 0 where
 pub record HoldsOfCalls (program : Program) (info : Bool) (names : Names)
     (P : Instruction → Type 0) : Type 0 where
   pub of_call : (f d count : ℕ) → IsCalled program f count → P (instructions.Call f d count)
-  pub of_built_in : (k : BuiltIn) (d : ℕ) → P (instructions.CallBuiltIn k d)
+  pub of_built_in : (k : BuiltIn) (d : ℕ) → BuiltInFits program k
+      → P (instructions.CallBuiltIn k d)
   pub of_code : (d : ℕ) → P (code_code names.exception d)
   pub of_information : (field : Field) (d : ℕ) → info ≡ true
       → P (instructions.Information (Temporary d) field)
@@ -232,7 +233,7 @@ module _ (P : Instruction → Type 0) (holds : HoldsOfOperations P) where
       node_every (nodes.Call g es) d at f = append (arguments_code names es d at) (_ ∷ [])
           (arguments_every es d at f.0) (calls.of_call g d _ f.1, tt)
       node_every (nodes.CallBuiltIn k es) d at f = append (arguments_code names es d at) (_ ∷ [])
-          (arguments_every es d at f.0) (calls.of_built_in k d, tt)
+          (arguments_every es d at f.0) (calls.of_built_in k d f.2, tt)
       node_every nodes.ExceptionCode d at f = (calls.of_code d, tt)
       node_every (nodes.Information field) d at f = (calls.of_information field d f, tt)
       node_every nodes.AbnormalTermination d at f = (flag_every names.abnormal d, tt)

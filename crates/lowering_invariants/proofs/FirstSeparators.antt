@@ -1,6 +1,6 @@
--- The code of a function: it begins with as many separators as the function weighs, and with what
--- takes its part of the data stack; then come its body and its end.
-use Rattle.std.proofs.Common.{◌≡◌, ◌≤◌, ℕ, zero, suc, ◌+◌, List, [], ◌∷◌, ◌++◌, length, replicate, Option, None, Some, refl, sym, subst, ◌∙◌, arith, append_assoc}
+-- The code of a function: it begins with its separators, and with what takes its part of the data
+-- stack; then come its body and its end.
+use Rattle.std.proofs.Common.{◌≡◌, ◌≤◌, ℕ, zero, suc, ◌+◌, List, [], ◌∷◌, ◌++◌, length, replicate, Option, None, Some, sym, subst, ◌∙◌, arith, append_assoc}
 use Rattle.std.specs.List.{AllByRecursion}
 use Rattle.c_checked.specs.Program.{DataFrame}
 use Rattle.c_checked.specs.declared.function.StackedParameter.{StackedParameter}
@@ -8,7 +8,7 @@ use Rattle.c_operations.specs.declared.operation.Operation.TheVariants.{Allocate
 use Rattle.seh_ir.specs.Lowered.{bring_code, open_code, close_code, body_start, function_code}
 use Rattle.seh_ir.specs.Statements.{set_pointer}
 use Rattle.seh_ir.proofs.FunctionCodes.{start_length}
-use Rattle.lowering_invariants.specs.Words.{Function, surplus, weight, Local, Temporary, Instruction, Separator, constant, statements_code, first_separators, scope_of, lowered_function}
+use Rattle.lowering_invariants.specs.Words.{Function, surplus, asking, Local, Temporary, Instruction, Separator, constant, statements_code, first_separators, scope_of, lowered_function}
 use Rattle.linear_code.specs.declared.instruction.Instruction.TheVariants.{Compute, Return}
 use Rattle.lowering_invariants.proofs.Lemmas.{all_append, IsSegmentAt, back, whole_is_at}
 
@@ -20,7 +20,7 @@ separators_every P h (suc n) = (h, separators_every P h n)
 
 pub first_every : (P : Instruction → Type 0) → P Separator → (f : Function)
     → AllByRecursion P (first_separators f)
-first_every P h f = (h, separators_every P h (surplus f))
+first_every P h f = (h, separators_every P h (surplus f + asking f))
 
 -- what takes a part of the data stack
 pub open_every : (P : Instruction → Type 0) (d : Option DataFrame)

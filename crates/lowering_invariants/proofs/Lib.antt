@@ -4,11 +4,13 @@ pub mod Moves
 pub mod Turns
 pub mod Ready
 pub mod StackTargets
+pub mod StackTurns
 pub mod TurnStack
 pub mod ActivationOwners
 pub mod TurnActivations
 pub mod Results
 pub mod SmallLists
+pub mod SmallStores
 pub mod TurnNumbers
 pub mod EveryExpression
 pub mod Calls
@@ -21,6 +23,7 @@ pub mod ReturnRegions
 pub mod Scans
 pub mod DepthExpressions
 pub mod DepthStatements
+pub mod DepthPlaces
 pub mod TurnDepths
 pub mod Reached
 pub mod PlainExpressions

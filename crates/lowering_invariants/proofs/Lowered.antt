@@ -3,25 +3,44 @@ use Rattle.std.proofs.Common.{◌≡◌, ℕ, ◌+◌, ◌<◌, ◌≤◌, List,
 use Rattle.std.proofs.lemmas.List.{length-map}
 use Rattle.std.proofs.lemmas.Option.{slice_get-map, slice_get_within}
 use Rattle.std.specs.List.{AllByRecursion}
-use Rattle.std.specs.Prelude.{true, slice_get, option_map, Option, Some, None}
-use Rattle.seh_ir.specs.Lowered.{body_start}
-use Rattle.lowering_invariants.specs.Words.{Program, Function, weight, IsSound, funclets, count_up, function_sound, functions_sound, LinearBody, LinearFunction, LinearFunclet, FunctionBody, FuncletBody, function_body, funclet_body, body_of, Owner, statements_code, own_locals, all_locals, first_separators, scope_of, lowered_function, lowered_funclets, all_funclets, lowered, IsCalled, IsCallee, IsInstructionOf, IsBodyOf, AreBodies, LoweredIsWhole}
+use Rattle.std.specs.Prelude.{if◌then◌else◌, true, slice_get, option_map, Option, Some, None}
+use Rattle.seh_ir.specs.Lowered.{body_start, open_code}
+use Rattle.seh_ir.specs.Statements.{statements_code}
+use Rattle.linear_code.specs.Program.{depth_weight}
+use Rattle.lowering_invariants.specs.Words.{Program, Function, asking, IsSound, funclets, count_up, function_sound, functions_sound, LinearBody, LinearFunction, LinearFunclet, FunctionBody, FuncletBody, function_body, funclet_body, body_of, Owner, own_locals, all_locals, scope_of, lowered_function, lowered_funclets, all_funclets, lowered, IsCalled, IsVectoredHandler, IsCallee, IsVectoredCallee, IsInstructionOf, IsBodyOf, AreBodies, LoweredIsWhole}
 use Rattle.c_checked.specs.Sound as sound
-use Rattle.lowering_invariants.proofs.Lemmas.{Range, part_of, both_parts, no_part, one_part, all_append, statements_count, count_front, count_back, IsSegmentAt, front, back, whole_is_at, both_left, both_right, lowered_is_linked}
+use Rattle.lowering_invariants.proofs.Lemmas.{first_are, Range, part_of, both_parts, no_part, one_part, statements_count, count_front, count_back, IsSegmentAt, front, back, whole_is_at, both_left, both_right, lowered_is_linked}
 use Rattle.lowering_invariants.proofs.FirstSeparators.{open_every, function_body_code, function_end, begin_every, end_every, code_every, body_at}
 use Rattle.lowering_invariants.proofs.StackTargets.{same_it, all_at}
-use Rattle.lowering_invariants.proofs.Wholes.{Fine}
-use Rattle.lowering_invariants.proofs.Wholes.{statements_have, typed}
+use Rattle.lowering_invariants.proofs.Calls.{HasCallees}
+use Rattle.lowering_invariants.proofs.Wholes.{Fine, statements_have, typed}
 use Rattle.lowering_follows.proofs.SoundStatements.{function_fits}
 
 module _ (program : Program) where
-  callee : (f count : ℕ) → IsCalled program f count → IsCallee (lowered program) f count
+  abbrev callee : (f count : ℕ) → IsCalled program f count → IsCallee (lowered program) f count
   callee f count c = record {
     function = lowered_function c.function;
     there = slice_get-map lowered_function program.functions f
         ∙ ap (option_map lowered_function) c.there;
     takes = c.takes;
   }
+
+  -- one that can be a vectored handler begins with one separator more than it counts in the depth
+  vectored : (f : ℕ) → IsVectoredHandler program f → IsVectoredCallee (lowered program) f
+  vectored f h =
+      let fn = h.called.function in
+      let one : asking fn ≡ 1 = ap (λ b. if b then 1 else 0) h.handles in
+      let body = statements_code (scope_of fn) fn.body (body_start fn) in
+      let rest = open_code fn.data_frame ++ (body ++ function_end fn) in
+      record {
+        callee = callee f 2 h.called;
+        rest = rest;
+        begins = ap (λ is. is ++ rest)
+            (sym (first_are fn (depth_weight (lowered_function fn) + 1) (omega arith)));
+      }
+
+  callees : HasCallees program (lowered program)
+  callees = record { callee = callee; handler = vectored }
 
   -- the body of the function of a number, and that of a funclet
   abbrev Good : ℕ → Type 0
@@ -45,9 +64,9 @@ module _ (program : Program) where
       let Calls = IsInstructionOf linear (FunctionBody number) in
       let there' = ap function_body there in
       let fits = function_fits program fn ok in
-      let x = statements_have program linear callee (own_locals fn) fn.body (FunctionBody number)
+      let x = statements_have program linear callees (own_locals fn) fn.body (FunctionBody number)
       owner (record { parent = refl; function = refl }) (scope_of fn).names at fits j f c in
-      let y = typed program linear callee (own_locals fn) (FunctionBody number) body there' fn.body
+      let y = typed program linear callees (own_locals fn) (FunctionBody number) body there' fn.body
       (scope_of fn) at fits x.named (front body.code at code (function_end fn) (body_at fn)) in
       let whole : IsBodyOf linear (FunctionBody number)
       body = record {

@@ -12,10 +12,10 @@ use Rattle.seh_ir.specs.Lowered.{bring_code, open_code, close_code, body_start}
 use Rattle.seh_ir.specs.Statements.{landed}
 use Rattle.linear_code.specs.declared.instruction.Instruction.TheVariants.{Compute}
 use Rattle.lowering_invariants.proofs.DepthStatements.{begin_three}
-use Rattle.lowering_invariants.specs.Words.{Expression, Program, Function, surplus, weight, Statements, Local, Temporary, Instruction, Jump, JumpIfZero, Separator, LocalUnwind, Region, LinearBody, BodyName, body_of, holds, statements_notes, Owner, Names, Way, Nowhere, Jumps, LoweringContext, finally_scope, constant, copy, expression_code, return_code, returned_code, statements_code, statements_regions, finally_funclet, first_separators, scope_of, lowered_function, lowered, LoweredIsApart, filter_funclet}
+use Rattle.lowering_invariants.specs.Words.{Expression, Program, Function, surplus, asking, Statements, Local, Temporary, Instruction, Jump, JumpIfZero, Separator, LocalUnwind, Region, LinearBody, BodyName, body_of, holds, statements_notes, Owner, Names, Way, Nowhere, Jumps, LoweringContext, finally_scope, constant, copy, expression_code, return_code, returned_code, statements_code, statements_regions, finally_funclet, first_separators, scope_of, lowered_function, lowered, LoweredIsApart, filter_funclet}
 use Rattle.linear_code.specs.declared.instruction.Instruction.TheVariants.{Return}
 use Rattle.lowering_expressions.specs.declared.scope.Way.TheVariants.{Unwinds}
-use Rattle.lowering_invariants.proofs.Lemmas.{length_first, statements_have, WaysHave, IsPlaced, HoldsOfPieces, statements_every, HoldsOfAnyPieces, statements_any, neutral_of, all_append, IsSegmentAt, front, back, whole_is_at}
+use Rattle.lowering_invariants.proofs.Lemmas.{statements_have, WaysHave, IsPlaced, HoldsOfPieces, statements_every, HoldsOfAnyPieces, statements_any, neutral_of, all_append, IsSegmentAt, front, back, whole_is_at}
 use Rattle.lowering_invariants.specs.ReturnRegions.{is_call}
 use Rattle.lowering_invariants.proofs.FirstSeparators.{function_begin, function_body_code, function_end, begin_length, code_is, body_at}
 use Rattle.lowering_invariants.proofs.EveryBody.{every_body}
@@ -259,7 +259,7 @@ function_stays f =
     let code = function_body_code f in
     let l = begin_length f in
     let begins = ends_both (first_separators f) (open_code f.data_frame)
-    (separators_end (surplus f)) (open_ends f.data_frame) in
+    (separators_end (surplus f + asking f)) (open_ends f.data_frame) in
     let whole = subst (λ is. IsSegmentAt b.code 0 is) (sym (code_is f)) (whole_is_at b.code) in
     statements_stay f.body (scope_of f) b (body_start f) (constant 0 0)
     (close_code f.data_frame ++ Return (Temporary 0) ∷ [])

@@ -2,7 +2,7 @@
 use Rattle.std.proofs.Common.{◌≡◌, ℕ, zero, suc, List, [], ◌∷◌, refl, ap}
 use Rattle.std.proofs.Math.Path.{fun_ext}
 use Rattle.std.specs.Prelude.{Bool, true, false, if◌then◌else◌, Option, Some, None}
-use Rattle.lowering_invariants.specs.Words.{Event, Memory, Region, RegionKind, Deep, Exception, BodyName, FunctionBody, FuncletBody, Frame, Handler, Target, Resumption, AfterCall, SameOperation, Item, Waits, Searches, Unwinds, Store, Configuration, Seen, Running, Finished, SeenAlikeIsSame}
+use Rattle.lowering_invariants.specs.Words.{Event, Memory, Region, RegionKind, Deep, Exception, BodyName, FunctionBody, FuncletBody, Frame, Handler, Target, Resumption, AfterCall, SameOperation, Asked, FilterOf, VectoredAt, Item, Waits, Searches, Unwinds, Store, Configuration, Seen, Running, Finished, SeenAlikeIsSame}
 use Rattle.flat_memory.specs.declared.protection.Protection.{Protection}
 use Rattle.flat_memory.specs.declared.protection.Rights.{Rights}
 use Rattle.flat_memory.specs.declared.protection.Rights.TheVariants.{Nothing, Read, ReadWrite}
@@ -158,37 +158,49 @@ resumption SameOperation SameOperation h = refl
 resumption AfterCall SameOperation h = absurd (none_apart (h (of_resumption 0 1)))
 resumption SameOperation AfterCall h = absurd (some_apart (h (of_resumption 0 1)))
 
-abbrev of_item : (Frame → ℕ) → (Exception → Resumption → Handler → List Handler → ℕ)
+abbrev of_asked : (Handler → List Handler → ℕ) → (ℕ → ℕ) → Asked → ℕ
+of_asked f g (FilterOf h rest) = f h rest
+of_asked f g (VectoredAt place) = g place
+
+asked : IsDetermined Asked
+asked (FilterOf x s) (FilterOf y t) h =
+    let a = handler x y (λ f. h (of_asked (λ z zs. f z) (λ n. 0))) in
+    let b = listed handler s t (λ f. h (of_asked (λ z zs. f zs) (λ n. 0))) in
+    λ i. FilterOf (a i) (b i)
+asked (VectoredAt n) (VectoredAt m) h = ap (λ z. VectoredAt z) (h (of_asked (λ z zs. 0) (λ n. n)))
+asked (FilterOf x s) (VectoredAt m) h = absurd (none_apart (h (of_asked (λ z zs. 0) (λ n. 1))))
+asked (VectoredAt n) (FilterOf y t) h = absurd (some_apart (h (of_asked (λ z zs. 0) (λ n. 1))))
+
+abbrev of_item : (Frame → ℕ) → (Exception → Resumption → Asked → ℕ)
     → (List Region → Target → ℕ) → Item → ℕ
 of_item f g h (Waits w) = f w
-of_item f g h (Searches e r a rest) = g e r a rest
+of_item f g h (Searches e r a) = g e r a
 of_item f g h (Unwinds rest t) = h rest t
 
 item : IsDetermined Item
 item (Waits w) (Waits v) h = ap (λ z. Waits z)
-    (frame w v (λ f. h (of_item f (λ e r a s. 0) (λ s t. 0))))
-item (Searches e r a s) (Searches e' r' a' s') h =
-    let x = exception e e' (λ f. h (of_item (λ w. 0) (λ e r a s. f e) (λ s t. 0))) in
-    let y = resumption r r' (λ f. h (of_item (λ w. 0) (λ e r a s. f r) (λ s t. 0))) in
-    let z = handler a a' (λ f. h (of_item (λ w. 0) (λ e r a s. f a) (λ s t. 0))) in
-    let u = listed handler s s' (λ f. h (of_item (λ w. 0) (λ e r a s. f s) (λ s t. 0))) in
-    λ i. Searches (x i) (y i) (z i) (u i)
+    (frame w v (λ f. h (of_item f (λ e r a. 0) (λ s t. 0))))
+item (Searches e r a) (Searches e' r' a') h =
+    let x = exception e e' (λ f. h (of_item (λ w. 0) (λ e r a. f e) (λ s t. 0))) in
+    let y = resumption r r' (λ f. h (of_item (λ w. 0) (λ e r a. f r) (λ s t. 0))) in
+    let z = asked a a' (λ f. h (of_item (λ w. 0) (λ e r a. f a) (λ s t. 0))) in
+    λ i. Searches (x i) (y i) (z i)
 item (Unwinds s t) (Unwinds s' t') h =
-    let x = listed region s s' (λ f. h (of_item (λ w. 0) (λ e r a s. 0) (λ s t. f s))) in
-    let y = target t t' (λ f. h (of_item (λ w. 0) (λ e r a s. 0) (λ s t. f t))) in
+    let x = listed region s s' (λ f. h (of_item (λ w. 0) (λ e r a. 0) (λ s t. f s))) in
+    let y = target t t' (λ f. h (of_item (λ w. 0) (λ e r a. 0) (λ s t. f t))) in
     λ i. Unwinds (x i) (y i)
-item (Waits w) (Searches e r a s) h = absurd (none_apart
-    (h (of_item (λ w. 0) (λ e r a s. 1) (λ s t. 1))))
+item (Waits w) (Searches e r a) h = absurd (none_apart
+    (h (of_item (λ w. 0) (λ e r a. 1) (λ s t. 1))))
 item (Waits w) (Unwinds s t) h = absurd (none_apart
-    (h (of_item (λ w. 0) (λ e r a s. 1) (λ s t. 1))))
-item (Searches e r a s) (Waits w) h = absurd (some_apart
-    (h (of_item (λ w. 0) (λ e r a s. 1) (λ s t. 1))))
-item (Searches e r a s) (Unwinds s' t) h = absurd
-    (some_apart (h (of_item (λ w. 0) (λ e r a s. 1) (λ s t. 0))))
+    (h (of_item (λ w. 0) (λ e r a. 1) (λ s t. 1))))
+item (Searches e r a) (Waits w) h = absurd (some_apart
+    (h (of_item (λ w. 0) (λ e r a. 1) (λ s t. 1))))
+item (Searches e r a) (Unwinds s' t) h = absurd
+    (some_apart (h (of_item (λ w. 0) (λ e r a. 1) (λ s t. 0))))
 item (Unwinds s t) (Waits w) h = absurd (some_apart
-    (h (of_item (λ w. 0) (λ e r a s. 1) (λ s t. 1))))
-item (Unwinds s t) (Searches e r a s') h = absurd
-    (none_apart (h (of_item (λ w. 0) (λ e r a s. 1) (λ s t. 0))))
+    (h (of_item (λ w. 0) (λ e r a. 1) (λ s t. 1))))
+item (Unwinds s t) (Searches e r a) h = absurd
+    (none_apart (h (of_item (λ w. 0) (λ e r a. 1) (λ s t. 0))))
 
 -- ---- the store
 
@@ -225,7 +237,8 @@ store : IsDetermined Store
 store x y h =
     let a = memory x.memory y.memory (λ f. h (λ z. f z.memory)) in
     let b = listed (listed number) x.activations y.activations (λ f. h (λ z. f z.activations)) in
-    λ i. record { memory = a i; activations = b i }
+    let c = listed number x.vectored y.vectored (λ f. h (λ z. f z.vectored)) in
+    λ i. record { memory = a i; activations = b i; vectored = c i }
 
 -- ---- configurations
 

@@ -11,11 +11,11 @@ use Rattle.seh_ir.specs.Statements.{set_pointer}
 use Rattle.lowering_invariants.proofs.DepthStatements.{begin_three}
 use Rattle.std.specs.Prelude.{Option, None}
 use Rattle.lowering_invariants.specs.Words.{constant}
-use Rattle.lowering_invariants.specs.Words.{Expression, Filter, Always, Funclet, Function, Program, weight, Statements, Local, Temporary, Instruction, CallFinally, LocalUnwind, Region, RegionKind, LinearBody, BodyName, FunctionBody, FuncletBody, body_of, holds, statements_size, Owner, Names, LoweringContext, finally_scope, expression_code, statements_code, except_kind, statements_regions, finally_funclet, filter_funclet, first_separators, scope_of, lowered_function, lowered, IsInside, BeginsApart, HasBlock, LandsInside, HasLanding, is_target, HoldsStrictly, LeadsForth, LoweredHasSeparators}
+use Rattle.lowering_invariants.specs.Words.{Expression, Filter, Always, Funclet, Function, Program, Statements, Local, Temporary, Instruction, CallFinally, LocalUnwind, Region, RegionKind, LinearBody, BodyName, FunctionBody, FuncletBody, body_of, holds, statements_size, Owner, Names, LoweringContext, finally_scope, expression_code, statements_code, except_kind, statements_regions, finally_funclet, filter_funclet, scope_of, lowered_function, lowered, IsInside, BeginsApart, HasBlock, LandsInside, HasLanding, is_target, HoldsStrictly, LeadsForth, LoweredHasSeparators}
 use Rattle.linear_code.specs.declared.instruction.Instruction.TheVariants.{Landing, Return}
 use Rattle.linear_code.specs.declared.program.RegionKind.TheVariants as kinds
 use Rattle.linear_machine.proofs.Walks.{holds_yes}
-use Rattle.lowering_invariants.proofs.Lemmas.{length_first, statements_length, HoldsOfAnyPieces, statements_any, all_append, IsSegmentAt, front, back, whole_is_at}
+use Rattle.lowering_invariants.proofs.Lemmas.{statements_length, HoldsOfAnyPieces, statements_any, all_append, IsSegmentAt, front, back, whole_is_at}
 use Rattle.lowering_invariants.proofs.BlockSeparators.{lowered_is_followed}
 use Rattle.lowering_invariants.proofs.EveryBody.{every_body, every_function}
 use Rattle.lowering_invariants.proofs.FirstSeparators.{open_every, function_begin, function_body_code, function_end, begin_every, begin_length, end_length, code_is, body_at}

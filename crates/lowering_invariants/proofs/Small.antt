@@ -12,12 +12,12 @@ use Rattle.seh_ir.specs.Lowered.{bring_code, open_code, close_code, body_start, 
 use Rattle.linear_code.specs.declared.instruction.Instruction.TheVariants as instructions
 use Rattle.c_operations.specs.declared.operation.Size.{Size}
 use Rattle.lowering_invariants.specs.Words.{constant, Temporary}
-use Rattle.lowering_invariants.specs.Words.{Program, Function, surplus, weight, funclets, function_sound, functions_sound, main_sound, statements_code, statements_regions, statements_cold, own_locals, all_locals, first_separators, scope_of, lowered_function, lowered_funclets, all_funclets, lowered, expression_nesting, expression_reads, AreShallow, IsShallow, IsSmallFunction, IsSmallFunclet, statements_notes}
+use Rattle.lowering_invariants.specs.Words.{Program, Function, funclets, function_sound, functions_sound, main_sound, statements_regions, statements_cold, own_locals, all_locals, scope_of, lowered_function, lowered_funclets, all_funclets, lowered, expression_nesting, expression_reads, AreShallow, IsShallow, IsSmallFunction, IsSmallFunclet, statements_notes}
 use Rattle.c_checked.specs.Sound as sound
 use Rattle.lowering_invariants.proofs.Lemmas.{both_left, both_right, all_append, StatementsHave, all_front, all_back, all_funclets_every, functions_count, inside_function, knows_function, statements_sound_have}
 use Rattle.lowering_invariants.specs.BoundLaws.{LoweredIsSmall}
 use Rattle.lowering_invariants.proofs.FirstSeparators.{begin_every, code_every}
-use Rattle.lowering_invariants.proofs.PlainExpressions.{PartAmong, NamesAmong, Good, AllGood, append, constant_good}
+use Rattle.lowering_invariants.proofs.PlainExpressions.{PartAmong, NamesAmong, Good, AllGood, constant_good}
 use Rattle.lowering_invariants.proofs.PlainStatements.{small_body, statements_good, statements_within, numbers_within, Value, Named, Fitting, funclets_small, Within}
 use Rattle.seh_num.specs.declared.limit.TheConstants.{MOST_GLOBALS}
 

@@ -112,7 +112,7 @@ module _ (program : LinearProgram) (bodies : AreBodies program) where
       (handlers_are_at f rs below (left_are left f below l))
       (all_map (λ h. IsHandler program h below) (λ h. IsHandler program h (Waits f ∷ below))
       (handlers program below None) (λ h p. inr p) (handlers_are below None tt w.2))
-  handlers_are (Searches exception resumption asked rest ∷ below) left l w =
+  handlers_are (Searches exception resumption asked ∷ below) left l w =
       handlers_are below None tt w.2
   handlers_are (Unwinds rest target ∷ below) left l w = handlers_are below (Some rest) w.0 w.2
 
@@ -134,14 +134,14 @@ module _ (program : LinearProgram) (bodies : AreBodies program) where
             h.target p.is_there.kind p.handles;
       })
   aimed h code held (Waits f ∷ below) (inr p) = inr (aimed h code held below p)
-  aimed h code held (Searches exception resumption asked rest ∷ below) p = aimed h code held below p
+  aimed h code held (Searches exception resumption asked ∷ below) p = aimed h code held below p
   aimed h code held (Unwinds rest target ∷ below) p = aimed h code held below p
 
   pub low : (t : Target) (items : List Item) → IsTarget program t items → t.depth < length items
   low t [] p = absurd p
   low t (Waits f ∷ below) (inl p) = let e = p.depth in omega arith
   low t (Waits f ∷ below) (inr p) = let r = low t below p in omega arith
-  low t (Searches exception resumption asked rest ∷ below) p = let r = low t below p in omega arith
+  low t (Searches exception resumption asked ∷ below) p = let r = low t below p in omega arith
   low t (Unwinds rest target ∷ below) p = let r = low t below p in omega arith
 
   pub here : (t : Target) (f : Frame) (below : List Item) → IsTarget program t (Waits f ∷ below)
@@ -160,7 +160,7 @@ module _ (program : LinearProgram) (bodies : AreBodies program) where
   held_apart t n [] p = p
   held_apart t n (Waits f ∷ below) (inl p) = inl (record { depth = p.depth; lands = p.lands })
   held_apart t n (Waits f ∷ below) (inr p) = inr (held_apart t n below p)
-  held_apart t n (Searches exception resumption asked rest ∷ below) p = held_apart t n below p
+  held_apart t n (Searches exception resumption asked ∷ below) p = held_apart t n below p
   held_apart t n (Unwinds rest target ∷ below) p = held_apart t n below p
 
   pub past_target : (name : BodyName) (t : Target) (items : List Item) → IsTarget program t items

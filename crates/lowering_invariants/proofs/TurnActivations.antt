@@ -2,7 +2,7 @@
 use Rattle.std.proofs.Common.{◌≡◌, ℕ, zero, suc, ◌+◌, ◌-◌, ◌^◌, ◌≤◌, List, [], ◌∷◌, ◌++◌, length, refl, sym, ap, subst, ◌∙◌, arith, length-append}
 use Rattle.std.proofs.lemmas.List.{length-replicate}
 use Rattle.std.specs.Prelude.{Bool, true, false, nat_eq, nat_lt, slice_get, take, replicate, get_or, ℤ, Option, Some, None}
-use Rattle.lowering_invariants.specs.Words.{Event, W32, low, signed, BuiltIn, Put, Protect, RaiseException, Walk, OperationResult, Gives, Raises, Undefined, performed, Exception, is_reserved, of_test, field_of, raised, noncontinuable, raise_event, Slot, Local, Temporary, Instruction, Region, RegionKind, FuncletKind, LinearProgram, LinearFunction, BodyName, FunctionBody, FuncletBody, Handler, Target, Resumption, AfterCall, SameOperation, Item, Waits, Searches, Unwinds, Store, Configuration, Seen, Finished, Stuck, Next, pick, read, write, with_temporary, with_temporaries, last_temporaries, set_local, at_label, forth, with_last, regions_at, regions_left, handlers, stops, flag_of, run_finally, arrive, target_past, left_store, leave_region, unwind_body, unwind, target_of, accept, consult, search, raise, resumed, answer, is_constant, operand, written, computed, tested, waiting, count_of, built_in, return, end_finally, end_funclet, end_body, not_landed, act, begin_function, instruction_at, start, main_arguments, IsTurn, IsReached, IsFinallyKind, IsFuncletOf, IsKindOf, IsWhole, MayWait, IsHandler, AreHandlers, IsStacked, owners_of, AreWorking, IsActivationOf, AreActivations, HasActivations}
+use Rattle.lowering_invariants.specs.Words.{Event, W32, low, signed, BuiltIn, Put, Protect, RaiseException, Walk, AddVectored, RemoveVectored, OperationResult, Gives, Raises, Undefined, performed, Exception, is_reserved, of_test, field_of, raised, noncontinuable, raise_event, handler_arguments, Slot, Local, Temporary, Instruction, Region, RegionKind, FuncletKind, LinearProgram, LinearFunction, BodyName, FunctionBody, FuncletBody, Handler, Target, Resumption, AfterCall, SameOperation, FilterOf, VectoredAt, Item, Waits, Searches, Unwinds, Store, Configuration, Seen, Finished, Stuck, Next, pick, read, write, with_temporary, with_temporaries, last_temporaries, set_local, at_label, forth, with_last, regions_at, regions_left, handlers, stops, flag_of, run_finally, arrive, target_past, left_store, leave_region, unwind_body, unwind, target_of, accept, consult, search, ask_at, ask_from, raise, resumed, continued, answer, is_constant, operand, written, computed, tested, waiting, count_of, built_in, return, end_finally, end_funclet, end_body, not_landed, act, begin_function, instruction_at, start, main_arguments, IsTurn, IsReached, IsFinallyKind, IsFuncletOf, IsKindOf, IsCallee, IsAskable, IsWhole, MayWait, IsHandler, AreHandlers, CanBeAsked, IsStacked, owners_of, AreWorking, IsActivationOf, AreActivations, HasActivations}
 use Rattle.seh_num.specs.declared.event.Event.TheVariants as events
 use Rattle.source_meaning.specs.declared.ended.Ended.TheVariants as ends
 use Rattle.linear_code.specs.Program.{depth_weight}
@@ -10,7 +10,8 @@ use Rattle.linear_code.specs.declared.instruction.Instruction.TheVariants as ins
 use Rattle.linear_code.specs.declared.program.RegionKind.TheVariants as kinds
 use Rattle.linear_code.specs.declared.program.FuncletKind.TheVariants as funclets
 use Rattle.lowering_invariants.proofs.Moves.{Turn, Halts, Moves, pick_turn, some_turn, deeper_turn, kept, kept_by_all}
-use Rattle.lowering_invariants.proofs.StackTargets.{same_it, Left, Regions, left_are, handlers_are, taken}
+use Rattle.lowering_invariants.proofs.StackTargets.{same_it, Left, Regions, left_are, handlers_are, taken, all_at}
+use Rattle.lowering_invariants.proofs.StackTurns.{left_askable}
 use Rattle.lowering_invariants.proofs.TurnStack.{instruction_fits, is_landing, waits, stays_stacked, starts_stacked}
 use Rattle.lowering_invariants.proofs.ActivationOwners.{last_count, as_many, one_more, set_kept, Over, Ok, Items, left_over, owned, filter_owned}
 
@@ -79,7 +80,7 @@ module _ (program : LinearProgram) (whole : IsWhole program) where
       (left_are program whole.bodies left f below l) o
       (λ p. unwind_turn (target_past f.body t) below None es (left_store f.body f.activation store)
       tt w.2 p)
-  unwind_turn t (Searches exception resumption asked rest ∷ below) left es store l w o = unwind_turn
+  unwind_turn t (Searches exception resumption asked ∷ below) left es store l w o = unwind_turn
       t below None es store tt w.2 o
   unwind_turn t (Unwinds rest older ∷ below) left es store l w o = unwind_turn t below (Some rest)
       es store w.0 w.2 o
@@ -110,31 +111,95 @@ module _ (program : LinearProgram) (whole : IsWhole program) where
   search_turn (h ∷ rest) exception resumption c p w o = consult_turn h.filter h rest exception
       resumption c refl p.0 w o
 
-  raise_turn : (exception : Exception) (resumption : Resumption) (c : Configuration)
+  -- ---- vectored handlers
+
+  -- a function's activation has as many locals as it has
+  entered : (f : ℕ) (function : LinearFunction) (vs : List ℕ)
+      → slice_get program.functions f ≡ Some function → length vs ≡ function.parameters
+      → IsActivationOf program f (vs ++ replicate (function.body.locals - function.parameters) 0)
+  entered f function vs e n =
+      let zeros = replicate (function.body.locals - function.parameters) 0 in
+      let room = whole.parameters f function e in
+      record {
+        function = function;
+        there = e;
+        count = length-append vs zeros
+            ∙ ap (λ k. length vs + k) (length-replicate
+            (function.body.locals - function.parameters) 0) ∙ omega (arith, n, room);
+      }
+
+  -- what a callee takes is what its function has
+  takes_of : (f count : ℕ) (function : LinearFunction) → IsCallee program f count
+      → slice_get program.functions f ≡ Some function → count ≡ function.parameters
+  takes_of f count function callee e = callee.takes ∙ ap (λ (h : LinearFunction). h.parameters)
+      (same_it callee.function function (sym callee.there ∙ e))
+
+  ask_turn : (h : Option ℕ) (place : ℕ) (exception : Exception) (resumption : Resumption)
+      (c : Configuration) → ((f : ℕ) → h ≡ Some f → IsCallee program f 2)
       → Items program (Waits c.frame ∷ c.below) → at_rest c
-      → Turn (Ok program) (λ next. raise program next exception resumption c)
-  raise_turn exception resumption c w o =
-      search_turn (handlers program (Waits c.frame ∷ c.below) None) exception resumption
-      (record c { events = c.events ++ raise_event exception ∷ [] })
+      → Turn (Ok program) (λ next. ask_at program next h place exception resumption c)
+  ask_turn None place exception resumption c k w o =
+      search_turn (handlers program (Waits c.frame ∷ c.below) None) exception resumption c
       (handlers_are program whole.bodies (Waits c.frame ∷ c.below) None tt w) w o
+  ask_turn (Some f) place exception resumption c k w o =
+      let owners = owners_of (Waits c.frame ∷ c.below) in
+      some_turn (Ok program) c.events (slice_get program.functions f) _ (λ function e.
+      deeper_turn (Ok program) (2 + depth_weight function) c.frame.held c.store c.events _ (goes _ (
+        (as_many program owners c.store.activations o.1, o.0),
+        one_more program owners c.store.activations f _
+            (entered f function (handler_arguments exception) e
+            (takes_of f 2 function (k f refl) e)) o.1,
+      )))
+
+  abbrev Askable : Store → Type 0
+  Askable store = CanBeAsked program store.vectored
+
+  from_turn : (place : ℕ) (exception : Exception) (resumption : Resumption) (c : Configuration)
+      → Items program (Waits c.frame ∷ c.below) → Askable c.store → at_rest c
+      → Turn (Ok program) (λ next. ask_from program next place exception resumption c)
+  from_turn place exception resumption c w a o =
+      ask_turn (slice_get c.store.vectored place) place exception resumption c
+      (λ f e. (all_at (IsAskable program) c.store.vectored place f a e).0.callee) w o
+
+  raise_turn : (exception : Exception) (resumption : Resumption) (c : Configuration)
+      → Items program (Waits c.frame ∷ c.below) → Askable c.store → at_rest c
+      → Turn (Ok program) (λ next. raise program next exception resumption c)
+  raise_turn exception resumption c w a o = from_turn 0 exception resumption
+      (record c { events = c.events ++ raise_event exception ∷ [] }) w a o
 
   resumed_turn : (resumption : Resumption) (c : Configuration) → at_rest c
       → Turn (Ok program) (λ next. next (resumed resumption c))
   resumed_turn AfterCall c o = goes _ o
   resumed_turn SameOperation c o = goes _ o
 
+  continued_turn : (exception : Exception) (resumption : Resumption) (c : Configuration)
+      → Items program (Waits c.frame ∷ c.below) → Askable c.store → at_rest c
+      → Turn (Ok program) (λ next. continued program next exception resumption c)
+  continued_turn exception resumption c w a o =
+      pick_turn (Ok program) exception.flag
+      (λ next. raise program next noncontinuable resumption c)
+      (λ next. next (resumed resumption c)) (λ e. raise_turn noncontinuable resumption c w a o)
+      (λ e. resumed_turn resumption c o)
+
+  -- ---- ends of bodies
+
+  stuck : (es : List Event) → Turn (Ok program) (λ next. Stuck es)
+  stuck es = Halts (Stuck es) (λ next. refl)
+
   answer_turn : (v : ℕ) (items : List Item) (es : List Event) (store : Store) → Items program items
-      → Over program items store → Turn (Ok program) (λ next. answer program next v items es store)
-  answer_turn v [] es store w o = Halts (Stuck es) (λ next. refl)
-  answer_turn v (Waits f ∷ below) es store w o = Halts (Stuck es) (λ next. refl)
-  answer_turn v (Unwinds rest t ∷ below) es store w o = Halts (Stuck es) (λ next. refl)
-  answer_turn v (Searches exception resumption h rest ∷ []) es store w o = Halts (Stuck es)
-      (λ next. refl)
-  answer_turn v (Searches exception resumption h rest ∷ Searches e r a s ∷ below) es store w o =
-      Halts (Stuck es) (λ next. refl)
-  answer_turn v (Searches exception resumption h rest ∷ Unwinds s t ∷ below) es store w o = Halts
-      (Stuck es) (λ next. refl)
-  answer_turn v (Searches exception resumption h rest ∷ Waits f ∷ below) es store w o =
+      → Askable store → Over program items store
+      → Turn (Ok program) (λ next. answer program next v items es store)
+  answer_turn v [] es store w a o = stuck es
+  answer_turn v (Waits f ∷ below) es store w a o = stuck es
+  answer_turn v (Unwinds rest t ∷ below) es store w a o = stuck es
+  answer_turn v (Searches exception resumption (VectoredAt place) ∷ below) es store w a
+      o = stuck es
+  answer_turn v (Searches exception resumption (FilterOf h rest) ∷ []) es store w a o = stuck es
+  answer_turn v (Searches exception resumption (FilterOf h rest) ∷ Searches e r s ∷ below) es store
+      w a o = stuck es
+  answer_turn v (Searches exception resumption (FilterOf h rest) ∷ Unwinds s t ∷ below) es store w a
+      o = stuck es
+  answer_turn v (Searches exception resumption (FilterOf h rest) ∷ Waits f ∷ below) es store w a o =
       let c : Configuration = record {
         frame = f;
         below = below;
@@ -146,50 +211,59 @@ module _ (program : LinearProgram) (whole : IsWhole program) where
       (λ e. search_turn rest exception resumption c w.0.1 w.2 o)
       (λ e. pick_turn (Ok program) (nat_lt (low W32 v) (2 ^ 31))
       (λ next. accept program h exception next c) _ (λ e. accept_turn h exception c w.2 o)
-      (λ e. pick_turn (Ok program) exception.flag
-      (λ next. raise program next noncontinuable resumption c)
-      (λ next. next (resumed resumption c)) (λ e. raise_turn noncontinuable resumption c w.2 o)
-      (λ e. resumed_turn resumption c o)))
+      (λ e. continued_turn exception resumption c w.2 a o))
 
-  return_turn : (v : ℕ) (items : List Item) (es : List Event) (store : Store)
-      → Over program items store → Turn (Ok program) (λ next. return next v items es store)
-  return_turn v [] es store o = Halts (Finished (ends.Exit (signed W32 v)) es) (λ next. refl)
-  return_turn v (Waits f ∷ below) es store o = goes _ o
-  return_turn v (Searches exception resumption h rest ∷ below) es store o = Halts (Stuck es)
-      (λ next. refl)
-  return_turn v (Unwinds rest t ∷ below) es store o = Halts (Stuck es) (λ next. refl)
+  return_turn : (v : ℕ) (items : List Item) (es : List Event) (store : Store) → Items program items
+      → Askable store → Over program items store
+      → Turn (Ok program) (λ next. return program next v items es store)
+  return_turn v [] es store w a o = Halts (Finished (ends.Exit (signed W32 v)) es) (λ next. refl)
+  return_turn v (Waits f ∷ below) es store w a o = goes _ o
+  return_turn v (Unwinds rest t ∷ below) es store w a o = stuck es
+  return_turn v (Searches exception resumption (FilterOf h rest) ∷ below) es store w a o = stuck es
+  return_turn v (Searches exception resumption (VectoredAt place) ∷ []) es store w a o = stuck es
+  return_turn v (Searches exception resumption (VectoredAt place) ∷ Searches e r s ∷ below) es store
+      w a o = stuck es
+  return_turn v (Searches exception resumption (VectoredAt place) ∷ Unwinds s t ∷ below) es store w
+      a o = stuck es
+  return_turn v (Searches exception resumption (VectoredAt place) ∷ Waits f ∷ below) es store w a
+      o =
+      let c : Configuration = record { frame = f; below = below; store = store; events = es } in
+      pick_turn (Ok program) (nat_lt (low W32 v) (2 ^ 31))
+      (λ next. ask_from program next (place + 1) exception resumption c) _
+      (λ e. from_turn (place + 1) exception resumption c w.2 a o)
+      (λ e. continued_turn exception resumption c w.2 a o)
 
   finally_turn : (items : List Item) (es : List Event) (store : Store) → Items program items
       → Over program items store → Turn (Ok program)
       (λ next. end_finally program next items es store)
-  finally_turn [] es store w o = Halts (Stuck es) (λ next. refl)
-  finally_turn (Searches exception resumption h rest ∷ below) es store w o = Halts (Stuck es)
-      (λ next. refl)
+  finally_turn [] es store w o = stuck es
+  finally_turn (Searches exception resumption asked ∷ below) es store w o = stuck es
   finally_turn (Waits f ∷ below) es store w o = goes _ o
-  finally_turn (Unwinds rest t ∷ []) es store w o = Halts (Stuck es) (λ next. refl)
-  finally_turn (Unwinds rest t ∷ Searches exception resumption h s ∷ below) es store w o = Halts
-      (Stuck es) (λ next. refl)
-  finally_turn (Unwinds rest t ∷ Unwinds s older ∷ below) es store w o = Halts (Stuck es)
-      (λ next. refl)
+  finally_turn (Unwinds rest t ∷ []) es store w o = stuck es
+  finally_turn (Unwinds rest t ∷ Searches exception resumption asked ∷ below) es store w
+      o = stuck es
+  finally_turn (Unwinds rest t ∷ Unwinds s older ∷ below) es store w o = stuck es
   finally_turn (Unwinds rest t ∷ Waits f ∷ below) es store w o = unwind_turn t (Waits f ∷ below)
       (Some rest) es store w.0 w.2 o
 
   funclet_turn : (kind : FuncletKind) (v : ℕ) (c : Configuration) → Items program c.below
-      → Over program c.below c.store → Turn (Ok program) (λ next. end_funclet program next kind v c)
-  funclet_turn funclets.Filter v c w o = answer_turn v c.below c.events c.store w o
-  funclet_turn (funclets.Finally flag) v c w o = finally_turn c.below c.events c.store w o
+      → Askable c.store → Over program c.below c.store
+      → Turn (Ok program) (λ next. end_funclet program next kind v c)
+  funclet_turn funclets.Filter v c w a o = answer_turn v c.below c.events c.store w a o
+  funclet_turn (funclets.Finally flag) v c w a o = finally_turn c.below c.events c.store w o
 
   end_turn : (name : BodyName) (v : ℕ) (c : Configuration) → c.frame.body ≡ name
-      → Items program c.below → at_rest c → Turn (Ok program)
-      (λ next. end_body program next name v c)
-  end_turn (FunctionBody f) v c e w o = return_turn v c.below c.events
-      (left_store c.frame.body c.frame.activation c.store)
+      → Items program c.below → Askable c.store → at_rest c
+      → Turn (Ok program) (λ next. end_body program next name v c)
+  end_turn (FunctionBody f) v c e w a o = return_turn v c.below c.events
+      (left_store c.frame.body c.frame.activation c.store) w
+      (left_askable program whole.bodies c.frame.body c.frame.activation c.store a)
       (left_over program c.frame c.below c.store o)
-  end_turn (FuncletBody k) v c e w o =
+  end_turn (FuncletBody k) v c e w a o =
       let p = subst (λ name. Over program c.below (left_store name c.frame.activation c.store)) e
       (left_over program c.frame c.below c.store o) in
       some_turn (Ok program) c.events (slice_get program.funclets k)
-      (λ next f. end_funclet program next f.kind v c) (λ f g. funclet_turn f.kind v c w p)
+      (λ next f. end_funclet program next f.kind v c) (λ f g. funclet_turn f.kind v c w a p)
 
   -- ---- an instruction
 
@@ -214,13 +288,14 @@ module _ (program : LinearProgram) (whole : IsWhole program) where
       (λ d e. goes (forth d) (write_stored c to v d e o))
 
   computed_turn : (c : Configuration) (to : Slot) (r : OperationResult)
-      → Items program (Waits c.frame ∷ c.below) → at_rest c
+      → Items program (Waits c.frame ∷ c.below) → Askable c.store → at_rest c
       → Turn (Ok program) (λ next. computed program next to c r)
-  computed_turn c to (Gives v memory) w o = written_turn
+  computed_turn c to (Gives v memory) w a o = written_turn
       (record c { store = record c.store { memory = memory } }) to v o
-  computed_turn c to (Raises code access) w o = raise_turn
-      (record { code = code.0; flag = false; access = access }) SameOperation c w o
-  computed_turn c to (Undefined a) w o = Halts (Finished (ends.Undefined a) c.events) (λ next. refl)
+  computed_turn c to (Raises code access) w a o = raise_turn
+      (record { code = code.0; flag = false; access = access }) SameOperation c w a o
+  computed_turn c to (Undefined at) w a o =
+      Halts (Finished (ends.Undefined at) c.events) (λ next. refl)
 
   raises_with : (k : BuiltIn) → k ≡ RaiseException → (first n : ℕ) → n ≡ first
       → MayWait program (instructions.CallBuiltIn k first) n
@@ -228,15 +303,19 @@ module _ (program : LinearProgram) (whole : IsWhole program) where
   raises_with Put e first n h = absurd (cc)
   raises_with Protect e first n h = absurd (cc)
   raises_with Walk e first n h = absurd (cc)
+  raises_with (AddVectored f) e first n h = absurd (cc)
+  raises_with (RemoveVectored f) e first n h = absurd (cc)
 
   built_in_turn : (c : Configuration) (k : BuiltIn) (vs : List ℕ)
-      → (k ≡ RaiseException → Items program (Waits c.frame ∷ c.below)) → at_rest c
-      → Turn (Ok program) (λ next. built_in program next k vs c)
-  built_in_turn c Put vs w o = goes _ o
-  built_in_turn c Protect vs w o = goes _ o
-  built_in_turn c RaiseException vs w o = raise_turn (raised (get_or vs 0 0) (get_or vs 1 0))
-      AfterCall c (w refl) o
-  built_in_turn c Walk vs w o = goes _ o
+      → (k ≡ RaiseException → Items program (Waits c.frame ∷ c.below)) → Askable c.store
+      → at_rest c → Turn (Ok program) (λ next. built_in program next k vs c)
+  built_in_turn c Put vs w a o = goes _ o
+  built_in_turn c Protect vs w a o = goes _ o
+  built_in_turn c RaiseException vs w a o = raise_turn (raised (get_or vs 0 0) (get_or vs 1 0))
+      AfterCall c (w refl) a o
+  built_in_turn c Walk vs w a o = goes _ o
+  built_in_turn c (AddVectored f) vs w a o = goes _ o
+  built_in_turn c (RemoveVectored f) vs w a o = goes _ o
 
   tested_turn : (c : Configuration) (slot : Slot) (label v : ℕ) → at_rest c
       → Turn (Ok program) (λ next. pick (nat_eq v 0) (next (at_label label (tested slot c)))
@@ -248,21 +327,6 @@ module _ (program : LinearProgram) (whole : IsWhole program) where
       pick_turn (Ok program) (nat_eq v 0) (λ next. next (at_label label d)) (λ next. next (forth d))
       (λ e. goes _ o) (λ e. goes _ o)
 
-  -- a function's activation has as many locals as it has
-  entered : (f count : ℕ) (function : LinearFunction) (vs : List ℕ)
-      → slice_get program.functions f ≡ Some function → length vs ≡ function.parameters
-      → IsActivationOf program f (vs ++ replicate (function.body.locals - function.parameters) 0)
-  entered f count function vs e n =
-      let zeros = replicate (function.body.locals - function.parameters) 0 in
-      let room = whole.parameters f function e in
-      record {
-        function = function;
-        there = e;
-        count = length-append vs zeros
-            ∙ ap (λ k. length vs + k) (length-replicate
-            (function.body.locals - function.parameters) 0) ∙ omega (arith, n, room);
-      }
-
   call_turn : (c : Configuration) (f first count : ℕ) (vs : List ℕ) (function : LinearFunction)
       → instruction_at program c ≡ Some (instructions.Call f first count)
       → last_temporaries c.frame.temporaries first count ≡ Some vs
@@ -272,12 +336,11 @@ module _ (program : LinearProgram) (whole : IsWhole program) where
   call_turn c f first count vs function at e g o =
       let callee = instruction_fits program whole.bodies c (instructions.Call f first count) at in
       let n = as_many program (owners_of (Waits c.frame ∷ c.below)) c.store.activations o.1 in
-      let takes = callee.takes ∙ ap (λ (h : LinearFunction). h.parameters)
-      (same_it callee.function function (sym callee.there ∙ g)) in
+      let takes = takes_of f count function callee g in
       goes _ (
         (n, o.0),
         one_more program (owners_of (Waits c.frame ∷ c.below)) c.store.activations f
-            _ (entered f count function vs g (last_count c.frame.temporaries first count vs e
+            _ (entered f function vs g (last_count c.frame.temporaries first count vs e
             ∙ takes))
             o.1,
       )
@@ -294,7 +357,7 @@ module _ (program : LinearProgram) (whole : IsWhole program) where
         some_turn (Ok program) c.events (operand (is_constant p) c first) _ (λ a e.
         some_turn (Ok program) c.events (operand (is_constant p) c second) _ (λ b e.
         computed_turn c to (performed (is_reserved program.globals) p a b c.store.memory)
-        (waits_as_is (instructions.Compute to p first second) at refl tt) o))
+        (waits_as_is (instructions.Compute to p first second) at refl tt) s.handlers o))
     act_turn (instructions.Information to field) at = written_turn c to
         (field_of field c.frame.exception) o
     act_turn (instructions.Jump label) at = goes _ o
@@ -312,7 +375,7 @@ module _ (program : LinearProgram) (whole : IsWhole program) where
         built_in_turn (waiting c first) k vs (λ r. waits program whole.bodies c s
         (instructions.CallBuiltIn k first) at refl (take first c.frame.temporaries)
         (raises_with k r first (length (take first c.frame.temporaries))
-        (taken first (count_of k) c.frame.temporaries vs e))) o)
+        (taken first (count_of k) c.frame.temporaries vs e))) s.handlers o)
     act_turn (instructions.CallFinally k) at = block_turn k c.frame.held false
         (Waits c.frame ∷ c.below) c (instruction_fits program whole.bodies c
         (instructions.CallFinally k) at) o.0 refl o
@@ -329,7 +392,7 @@ module _ (program : LinearProgram) (whole : IsWhole program) where
         (λ code e. written_turn (not_landed c) to code o)
     act_turn instructions.Separator at = goes _ o
     act_turn (instructions.Return from) at = some_turn (Ok program) c.events (read c from) _
-        (λ v e. end_turn c.frame.body v c refl s.below o)
+        (λ v e. end_turn c.frame.body v c refl s.below s.handlers o)
 
   abbrev Both : Configuration → Type 0
   Both c = IsStacked program c × HasActivations program c
@@ -353,7 +416,7 @@ module _ (program : LinearProgram) (whole : IsWhole program) where
     record {
       working = (refl, tt);
       stored = (
-        entered program.main 0 main
+        entered program.main main
             (main_arguments main.parameters arg) e
             (begun_with arg main.parameters (whole.few main e)),
         tt,

@@ -1,10 +1,10 @@
 -- Each turn keeps as many temporaries held as the places say.
-use Rattle.std.proofs.Common.{◌≡◌, inl, ℕ, suc, ◌+◌, ◌^◌, List, [], ◌∷◌, ◌++◌, length, refl, sym, ap, subst, ◌∙◌, arith, length-append}
-use Rattle.std.proofs.lemmas.Bool.{eqb-true, eqb-false, leb-true}
+use Rattle.std.proofs.Common.{◌≡◌, inl, ℕ, ◌+◌, ◌^◌, List, [], ◌∷◌, ◌++◌, length, refl, sym, ap, subst, ◌∙◌, arith, length-append}
+use Rattle.std.proofs.lemmas.Bool.{eqb-true, eqb-false}
 use Rattle.std.proofs.lemmas.List.{length-take-le}
 use Rattle.std.proofs.lemmas.Option.{slice_get_within}
-use Rattle.std.specs.Prelude.{Bool, true, false, nat_eq, nat_le, nat_lt, slice_get, take, if◌then◌else◌, get_or, Option, Some, None}
-use Rattle.lowering_invariants.specs.Words.{Event, W32, low, signed, BuiltIn, Put, Protect, RaiseException, Walk, Operation, OperationResult, Gives, Raises, Undefined, performed, Exception, is_reserved, field_of, raised, noncontinuable, raise_event, Slot, Local, Temporary, Instruction, Region, RegionKind, FuncletKind, LinearProgram, LinearBody, BodyName, FunctionBody, FuncletBody, body_of, Frame, Handler, Target, Resumption, AfterCall, SameOperation, Item, Waits, Searches, Unwinds, Store, Configuration, Seen, Finished, Stuck, Next, pick, read, write, with_temporary, with_temporaries, last_temporaries, set_local, at_label, forth, with_last, regions_at, regions_left, handlers, stops, flag_of, run_finally, arrive, target_past, left_store, leave_region, unwind_body, unwind, target_of, accept, consult, search, raise, resumed, answer, is_constant, operand, written, computed, tested, count_of, built_in, return, end_finally, end_funclet, end_body, not_landed, act, instruction_in, instruction_at, start, IsTurn, IsReached, IsWhole, MayWait, IsHandler, LandsAt, IsTarget, IsAbove, IsRaisedIn, AreHandlers, AreWaiting, IsStacked, IsAt, IsCalledBy, IsRunFor, with_written, after, depth_at, depth_in, taken, depth, WaitsDeep, AreDeep, HasDepths}
+use Rattle.std.specs.Prelude.{Bool, true, false, nat_eq, nat_lt, slice_get, take, get_or, Option, Some, None}
+use Rattle.lowering_invariants.specs.Words.{Event, W32, low, signed, BuiltIn, Put, Protect, RaiseException, Walk, AddVectored, RemoveVectored, Operation, OperationResult, Gives, Raises, Undefined, performed, Exception, is_reserved, field_of, raised, noncontinuable, raise_event, Slot, Local, Temporary, Instruction, Region, RegionKind, FuncletKind, LinearProgram, LinearBody, BodyName, FunctionBody, FuncletBody, body_of, Frame, Handler, Target, Resumption, AfterCall, SameOperation, FilterOf, VectoredAt, Item, Waits, Searches, Unwinds, Store, Configuration, Seen, Finished, Stuck, Next, pick, read, write, with_temporary, with_temporaries, last_temporaries, set_local, at_label, forth, with_last, regions_at, regions_left, handlers, stops, flag_of, run_finally, arrive, target_past, left_store, leave_region, unwind_body, unwind, target_of, accept, consult, search, ask_at, ask_from, raise, resumed, continued, answer, is_constant, operand, written, computed, tested, count_of, built_in, return, end_finally, end_funclet, end_body, not_landed, act, instruction_in, instruction_at, start, IsTurn, IsReached, IsWhole, MayWait, IsHandler, LandsAt, IsTarget, IsAbove, IsRaisedIn, AreHandlers, AreWaiting, IsStacked, IsAt, IsCalledBy, IsRunFor, with_written, after, taken, depth, WaitsDeep, AreDeep, HasDepths}
 use Rattle.seh_num.specs.declared.event.Event.TheVariants as events
 use Rattle.source_meaning.specs.declared.ended.Ended.TheVariants as ends
 use Rattle.linear_code.specs.Program.{depth_weight}
@@ -12,48 +12,15 @@ use Rattle.linear_code.specs.declared.instruction.Instruction.TheVariants as ins
 use Rattle.linear_code.specs.declared.program.RegionKind.TheVariants as kinds
 use Rattle.linear_code.specs.declared.program.FuncletKind.TheVariants as funclets
 use Rattle.lowering_invariants.proofs.Lemmas.{both_left}
-use Rattle.lowering_invariants.proofs.Ready.{last_are, chosen, some_temporaries}
+use Rattle.lowering_invariants.proofs.Ready.{last_are, some_temporaries}
 use Rattle.lowering_invariants.proofs.Moves.{Turn, Halts, Moves, pick_turn, some_turn, deeper_turn, kept, kept_by_all}
-use Rattle.lowering_invariants.proofs.Scans.{Leads, depth_next, leads_at}
+use Rattle.lowering_invariants.proofs.Scans.{Leads}
 use Rattle.lowering_invariants.proofs.DepthStatements.{BodyLeads}
 use Rattle.lowering_invariants.proofs.TurnStack as stacked
 use Rattle.lowering_invariants.proofs.StackTargets as waiting
 use Rattle.lowering_invariants.proofs.StackTargets.{same_it, handlers_are, aimed, here, further}
 use Rattle.lowering_invariants.proofs.TurnStack.{waits, stays_stacked, starts_stacked}
-
--- ---- places
-
-starts_at : (code : List Instruction) → depth_at code 0 ≡ 0
-starts_at [] = refl
-starts_at (i ∷ is) = refl
-
-starts_in : (o : Option LinearBody) → depth_in o 0 ≡ 0
-starts_in None = refl
-starts_in (Some b) = starts_at b.code
-
-next_in : (o : Option LinearBody) (label : ℕ) (i : Instruction) → instruction_in o label ≡ Some i
-    → depth_in o (label + 1) ≡ after i (depth_in o label)
-next_in None label i e = absurd (cc)
-next_in (Some b) label i e = let s : label + 1 ≡ suc label = omega arith in ap (depth_at b.code) s
-    ∙ depth_next b.code 0 label i e
-
-leads_in : (o : Option LinearBody) (label : ℕ) (i : Instruction)
-    → ((b : LinearBody) → o ≡ Some b → BodyLeads b) → instruction_in o label ≡ Some i → Leads
-    (depth_in o) (depth_in o label) i
-leads_in None label i h e = absurd (cc)
-leads_in (Some b) label i h e = leads_at (depth_at b.code) b.code 0 label i e (h b refl)
-
--- the temporaries after one is written
-written_length : (ts : List ℕ) (i v : ℕ) (us : List ℕ) → with_temporary ts i v ≡ Some us → length us
-    ≡ i + 1
-written_length ts i v us e =
-    let le = leb-true i (length ts) (chosen (nat_le i (length ts)) _ us e) in
-    ap length (sym (it (nat_le i (length ts)) (take i ts ++ v ∷ []) us e))
-    ∙ length-append (take i ts) (v ∷ []) ∙ ap (λ n. n + 1) (length-take-le i ts le)
-  where
-    it : (b : Bool) (x y : List ℕ) → (if b then Some x else None) ≡ Some y → x ≡ y
-    it true x y e = same_it x y e
-    it false x y e = absurd (cc)
+use Rattle.lowering_invariants.proofs.DepthPlaces.{starts_in, next_in, leads_in, written_length}
 
 module _ (program : LinearProgram) (whole : IsWhole program)
     (leads : (name : BodyName) (b : LinearBody) → body_of program name ≡ Some b → BodyLeads b) where
@@ -80,6 +47,9 @@ module _ (program : LinearProgram) (whole : IsWhole program)
   held_all : (f : Frame) (i : Instruction) → IsAt program f i → taken (Some i) ≡ 0
       → WaitsDeep program f → length f.temporaries ≡ depth program f.body f.next
   held_all f i e t d = let n = ap taken e ∙ t in omega arith
+
+  stuck : (es : List Event) → Turn Ok (λ next. Stuck es)
+  stuck es = Halts (Stuck es) (λ next. refl)
 
   -- ---- unwinding
 
@@ -145,7 +115,7 @@ module _ (program : LinearProgram) (whole : IsWhole program)
       (record { frame = f; below = below; store = store; events = es }) p w
       (λ q store. unwind_turn (target_past f.body t) below None es store
       (waiting.past_target program whole.bodies f.body t below q) w.1)
-  unwind_turn t (Searches exception resumption asked rest ∷ below) left es store p w = unwind_turn t
+  unwind_turn t (Searches exception resumption asked ∷ below) left es store p w = unwind_turn t
       below None es store p w
   unwind_turn t (Unwinds rest older ∷ below) left es store p w = unwind_turn t below (Some rest) es
       store p w
@@ -178,13 +148,30 @@ module _ (program : LinearProgram) (whole : IsWhole program)
   search_turn (h ∷ rest) exception resumption c p w = consult_turn h.filter h rest exception
       resumption c p.0 w
 
+  -- a vectored handler begins with no temporaries
+  ask_turn : (o : Option ℕ) (place : ℕ) (exception : Exception) (resumption : Resumption)
+      (c : Configuration) → Items (Waits c.frame ∷ c.below) → Deep (Waits c.frame ∷ c.below)
+      → Turn Ok (λ next. ask_at program next o place exception resumption c)
+  ask_turn None place exception resumption c s w =
+      search_turn (handlers program (Waits c.frame ∷ c.below) None) exception resumption c
+      (handlers_are program whole.bodies (Waits c.frame ∷ c.below) None tt s) w
+  ask_turn (Some f) place exception resumption c s w =
+      some_turn Ok c.events (slice_get program.functions f) _ (λ function e.
+      deeper_turn Ok (2 + depth_weight function) c.frame.held c.store c.events _
+      (Moves _ (record { held = sym (starts_in (body_of program (FunctionBody f))); below = w })
+      (λ next. refl)))
+
+  from_turn : (place : ℕ) (exception : Exception) (resumption : Resumption) (c : Configuration)
+      → Items (Waits c.frame ∷ c.below) → Deep (Waits c.frame ∷ c.below)
+      → Turn Ok (λ next. ask_from program next place exception resumption c)
+  from_turn place exception resumption c s w =
+      ask_turn (slice_get c.store.vectored place) place exception resumption c s w
+
   raise_turn : (exception : Exception) (resumption : Resumption) (c : Configuration)
       → Items (Waits c.frame ∷ c.below) → Deep (Waits c.frame ∷ c.below)
       → Turn Ok (λ next. raise program next exception resumption c)
-  raise_turn exception resumption c s w =
-      search_turn (handlers program (Waits c.frame ∷ c.below) None) exception resumption
-      (record c { events = c.events ++ raise_event exception ∷ [] })
-      (handlers_are program whole.bodies (Waits c.frame ∷ c.below) None tt s) w
+  raise_turn exception resumption c s w = from_turn 0 exception resumption
+      (record c { events = c.events ++ raise_event exception ∷ [] }) s w
 
   -- a caller has the result of its call
   with_result : (f : Frame) (i : Instruction) (first v : ℕ) → IsAt program f i
@@ -224,18 +211,27 @@ module _ (program : LinearProgram) (whole : IsWhole program)
         below = w.1;
       }) (λ next. refl)
 
+  continued_turn : (exception : Exception) (resumption : Resumption) (c : Configuration)
+      → IsRaisedIn program resumption (Waits c.frame ∷ c.below) → Items (Waits c.frame ∷ c.below)
+      → Deep (Waits c.frame ∷ c.below)
+      → Turn Ok (λ next. continued program next exception resumption c)
+  continued_turn exception resumption c r s w =
+      pick_turn Ok exception.flag (λ next. raise program next noncontinuable resumption c)
+      (λ next. next (resumed resumption c)) (λ e. raise_turn noncontinuable resumption c s w)
+      (λ e. resumed_turn resumption c r s w)
+
   answer_turn : (v : ℕ) (items : List Item) (es : List Event) (store : Store) → Items items
       → Deep items → Turn Ok (λ next. answer program next v items es store)
-  answer_turn v [] es store s w = Halts (Stuck es) (λ next. refl)
-  answer_turn v (Waits f ∷ below) es store s w = Halts (Stuck es) (λ next. refl)
-  answer_turn v (Unwinds rest t ∷ below) es store s w = Halts (Stuck es) (λ next. refl)
-  answer_turn v (Searches exception resumption h rest ∷ []) es store s w = Halts (Stuck es)
-      (λ next. refl)
-  answer_turn v (Searches exception resumption h rest ∷ Searches e r a s' ∷ below) es store s w =
-      Halts (Stuck es) (λ next. refl)
-  answer_turn v (Searches exception resumption h rest ∷ Unwinds s' t ∷ below) es store s w = Halts
-      (Stuck es) (λ next. refl)
-  answer_turn v (Searches exception resumption h rest ∷ Waits f ∷ below) es store s w =
+  answer_turn v [] es store s w = stuck es
+  answer_turn v (Waits f ∷ below) es store s w = stuck es
+  answer_turn v (Unwinds rest t ∷ below) es store s w = stuck es
+  answer_turn v (Searches exception resumption (VectoredAt place) ∷ below) es store s w = stuck es
+  answer_turn v (Searches exception resumption (FilterOf h rest) ∷ []) es store s w = stuck es
+  answer_turn v (Searches exception resumption (FilterOf h rest) ∷ Searches e r a ∷ below) es store
+      s w = stuck es
+  answer_turn v (Searches exception resumption (FilterOf h rest) ∷ Unwinds s' t ∷ below) es store s
+      w = stuck es
+  answer_turn v (Searches exception resumption (FilterOf h rest) ∷ Waits f ∷ below) es store s w =
       let c : Configuration = record {
         frame = f;
         below = below;
@@ -246,26 +242,36 @@ module _ (program : LinearProgram) (whole : IsWhole program)
       _ (λ e. search_turn rest exception resumption c s.0.1 w)
       (λ e. pick_turn Ok (nat_lt (low W32 v) (2 ^ 31)) (λ next. accept program h exception next c) _
       (λ e. accept_turn h exception c s.0.0 w)
-      (λ e. pick_turn Ok exception.flag (λ next. raise program next noncontinuable resumption c)
-      (λ next. next (resumed resumption c)) (λ e. raise_turn noncontinuable resumption c s.2 w)
-      (λ e. resumed_turn resumption c s.1 s.2 w)))
+      (λ e. continued_turn exception resumption c s.1 s.2 w))
 
   return_turn : (k v : ℕ) (items : List Item) (es : List Event) (store : Store)
       → IsCalledBy program k items → Items items → Deep items → Turn Ok
-      (λ next. return next v items es store)
+      (λ next. return program next v items es store)
   return_turn k v [] es store a s w = Halts (Finished (ends.Exit (signed W32 v)) es) (λ next. refl)
   return_turn k v (Waits f ∷ below) es store a s w = Moves _
       (record { held = called_back f below k a.0 a.1 v s a.2; below = w.1 }) (λ next. refl)
-  return_turn k v (Searches exception resumption h rest ∷ below) es store a s w = Halts (Stuck es)
-      (λ next. refl)
-  return_turn k v (Unwinds rest t ∷ below) es store a s w = Halts (Stuck es) (λ next. refl)
+  return_turn k v (Searches exception resumption (FilterOf h rest) ∷ below) es store a s
+      w = stuck es
+  return_turn k v (Searches exception resumption (VectoredAt place) ∷ []) es store a s w = stuck es
+  return_turn k v (Searches exception resumption (VectoredAt place) ∷ Searches e r i ∷ below) es
+      store a s w = stuck es
+  return_turn k v (Searches exception resumption (VectoredAt place) ∷ Unwinds s' t ∷ below) es store
+      a s w = stuck es
+  return_turn k v (Searches exception resumption (VectoredAt place) ∷ Waits f ∷ below) es store a s
+      w =
+      let c : Configuration = record { frame = f; below = below; store = store; events = es } in
+      pick_turn Ok (nat_lt (low W32 v) (2 ^ 31))
+      (λ next. ask_from program next (place + 1) exception resumption c) _
+      (λ e. from_turn (place + 1) exception resumption c s.2 w)
+      (λ e. continued_turn exception resumption c s.1 s.2 w)
+  return_turn k v (Unwinds rest t ∷ below) es store a s w = stuck es
 
   finally_turn : (k : ℕ) (own : Exception) (activation : ℕ) (items : List Item) (es : List Event)
       (store : Store) → IsRunFor program k own activation items → Items items → Deep items
       → Turn Ok (λ next. end_finally program next items es store)
-  finally_turn k own activation [] es store a s w = Halts (Stuck es) (λ next. refl)
-  finally_turn k own activation (Searches exception resumption h rest ∷ below) es store a s w =
-      Halts (Stuck es) (λ next. refl)
+  finally_turn k own activation [] es store a s w = stuck es
+  finally_turn k own activation (Searches exception resumption asked ∷ below) es store a s
+      w = stuck es
   finally_turn k own activation (Waits f ∷ below) es store a s w =
       Moves _ (record {
         held = held_all f (instructions.CallFinally k) a.1 refl w.0
@@ -273,13 +279,11 @@ module _ (program : LinearProgram) (whole : IsWhole program)
         below = w.1;
       })
       (λ next. refl)
-  finally_turn k own activation (Unwinds rest t ∷ []) es store a s w = Halts (Stuck es)
-      (λ next. refl)
-  finally_turn k own activation (Unwinds rest t ∷ Searches exception resumption h s' ∷ below) es
-      store a s w =
-      Halts (Stuck es) (λ next. refl)
-  finally_turn k own activation (Unwinds rest t ∷ Unwinds s' older ∷ below) es store a s w = Halts
-      (Stuck es) (λ next. refl)
+  finally_turn k own activation (Unwinds rest t ∷ []) es store a s w = stuck es
+  finally_turn k own activation (Unwinds rest t ∷ Searches exception resumption asked ∷ below) es
+      store a s w = stuck es
+  finally_turn k own activation (Unwinds rest t ∷ Unwinds s' older ∷ below) es store a s
+      w = stuck es
   finally_turn k own activation (Unwinds rest t ∷ Waits f ∷ below) es store a s w = unwind_turn t
       (Waits f ∷ below) (Some rest) es store s.1 w
 
@@ -394,6 +398,12 @@ module _ (program : LinearProgram) (whole : IsWhole program)
     built_in_turn Walk first vs ts at n m = to_turn _ refl refl
         (with_result (with_last ts c).frame (instructions.CallBuiltIn Walk first) first 0 at
         (λ x. refl) n)
+    built_in_turn (AddVectored f) first vs ts at n m = to_turn _ refl refl
+        (with_result (with_last ts c).frame (instructions.CallBuiltIn (AddVectored f) first) first _
+        at (λ x. refl) n)
+    built_in_turn (RemoveVectored f) first vs ts at n m = to_turn _ refl refl
+        (with_result (with_last ts c).frame (instructions.CallBuiltIn (RemoveVectored f) first)
+        first _ at (λ x. refl) n)
 
     tested_turn : (slot : Slot) (label v : ℕ)
         → instruction_at program c ≡ Some (instructions.JumpIfZero slot label) → read c slot ≡ Some

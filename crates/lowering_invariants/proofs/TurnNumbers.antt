@@ -1,87 +1,32 @@
 -- Each turn keeps every number one of 64 bits.
-use Rattle.std.proofs.Common.{◌≡◌, ℕ, ◌+◌, ◌-◌, ◌^◌, ◌<◌, List, [], ◌∷◌, ◌++◌, length, refl, sym, ap, subst, arith}
-use Rattle.std.proofs.lemmas.Bool.{lt-ltb}
-use Rattle.host_layout.specs.declared.range.TheConstants.{DATA_STACK_START, FIRST_DATA_STACK, FIRST_DATA}
-use Rattle.flat_memory.specs.Memory.{Memory, first_byte, protected, rights_asked, with_rights}
-use Rattle.flat_memory.specs.declared.protection.Rights.{Rights}
-use Rattle.source_meaning.specs.Source.{first_memory}
-use Rattle.lowering_invariants.specs.SmallNumbers.{HasSmallPointer}
-use Rattle.std.specs.Prelude.{Bool, true, false, nat_eq, nat_lt, slice_get, take, drop, if◌then◌else◌, get_or, ℤ, Option, Some, None}
-use Rattle.lowering_invariants.specs.Words.{Event, W32, W64, low, signed, wrapped, BuiltIn, Put, Protect, RaiseException, Walk, OperationResult, Gives, Raises, Undefined, performed, Exception, is_reserved, of_test, field_of, raised, noncontinuable, raise_event, Slot, Local, Temporary, Instruction, Region, RegionKind, FuncletKind, LinearProgram, LinearFunction, BodyName, FunctionBody, FuncletBody, Frame, Handler, Target, Resumption, AfterCall, SameOperation, Item, Waits, Searches, Unwinds, Store, Configuration, Seen, Finished, Stuck, Next, pick, read, write, with_temporary, with_temporaries, last_temporaries, set_local, at_label, forth, with_last, regions_at, regions_left, handlers, stops, flag_of, run_finally, arrive, target_past, left_store, leave_region, unwind_body, unwind, target_of, accept, consult, search, raise, resumed, answer, is_constant, operand, written, computed, tested, waiting, count_of, built_in, return, end_finally, end_funclet, end_body, not_landed, act, start, main_arguments, IsTurn, IsReached, AreSmall, IsSmallCode, IsSmallException, IsSmallFrame, AreSmallItems, HasSmallNumbers}
+use Rattle.std.proofs.Common.{◌≡◌, ℕ, ◌+◌, ◌-◌, ◌^◌, ◌<◌, List, [], ◌∷◌, ◌++◌, length, refl, subst, arith}
+use Rattle.std.proofs.lemmas.Option.{slice_get_within}
+use Rattle.vectored_list.specs.Lists.{can_be_added, is_listed}
+use Rattle.vectored_list.specs.declared.TheConstants.{MOST_HANDLERS}
+use Rattle.vectored_list.proofs.Proper.{adding_stays_proper, removing_stays_proper}
+use Rattle.std.specs.Prelude.{Bool, true, false, not, nat_eq, nat_lt, slice_get, take, drop, if◌then◌else◌, get_or, ℤ, Option, Some, None}
+use Rattle.lowering_invariants.specs.Words.{Event, W32, W64, low, signed, wrapped, BuiltIn, Put, Protect, RaiseException, Walk, AddVectored, RemoveVectored, OperationResult, Gives, Raises, Undefined, performed, Exception, is_reserved, of_test, field_of, raised, noncontinuable, raise_event, handler_arguments, Slot, Local, Temporary, Instruction, Region, RegionKind, FuncletKind, LinearProgram, LinearFunction, BodyName, FunctionBody, FuncletBody, Handler, Target, Resumption, AfterCall, SameOperation, FilterOf, VectoredAt, Item, Waits, Searches, Unwinds, Store, Configuration, Seen, Finished, Stuck, Next, pick, read, write, with_temporary, with_temporaries, last_temporaries, set_local, at_label, forth, with_last, regions_at, regions_left, handlers, stops, flag_of, run_finally, arrive, target_past, left_store, leave_region, unwind_body, unwind, target_of, accept, consult, search, ask_at, ask_from, raise, resumed, continued, answer, is_constant, operand, written, computed, tested, waiting, count_of, built_in, return, end_finally, end_funclet, end_body, not_landed, act, start, main_arguments, IsTurn, IsReached, AreSmall, IsSmallCode, IsSmallException, AreSmallItems, HasSmallNumbers}
 use Rattle.seh_num.specs.declared.event.Event.TheVariants as events
 use Rattle.source_meaning.specs.declared.ended.Ended.TheVariants as ends
 use Rattle.linear_code.specs.Program.{depth_weight}
 use Rattle.linear_code.specs.declared.instruction.Instruction.TheVariants as instructions
 use Rattle.linear_code.specs.declared.program.RegionKind.TheVariants as kinds
 use Rattle.linear_code.specs.declared.program.FuncletKind.TheVariants as funclets
-use Rattle.lowering_invariants.proofs.Moves.{Turn, Halts, Moves, pick_turn, some_turn, deeper_turn, kept, kept_by_all}
+use Rattle.lowering_invariants.proofs.Moves.{Turn, Halts, pick_turn, some_turn, deeper_turn, kept, kept_by_all}
 use Rattle.lowering_invariants.proofs.StackTargets.{same_it}
 use Rattle.lowering_invariants.proofs.Lemmas.{low_below, wrapped_below}
-use Rattle.lowering_invariants.proofs.Results.{IsSmallOutcome, KeepsPointer, written_keeps, outcome_small, outcome_keeps}
-use Rattle.lowering_invariants.proofs.SmallLists.{all_joined, all_taken, all_dropped, zeros, one_of, got_of, AllSmall, locals_in, locals_small, joined_small, left_small, local_small, test_small, field_small}
-
--- ---- lists
-
--- ---- what runs or waits, over a store
-
-record IsSmallStore (s : Store) : Type 0 where
-  locals : AllSmall s.activations
-  pointer : HasSmallPointer s.memory
-
-abbrev Over : List Item → Store → Type 0
-Over items store = AreSmallItems items × IsSmallStore store
-
-abbrev at_rest : Configuration → Type 0
-at_rest c = Over (Waits c.frame ∷ c.below) c.store
-
-goes : (d : Configuration) → at_rest d → Turn HasSmallNumbers (λ next. next d)
-goes d o = Moves d (record { items = o.0; locals = o.1.locals; pointer = o.1.pointer })
-    (λ next. refl)
-
--- this body with other temporaries, and no exception taken over
-frame_with : (f : Frame) (ts : List ℕ) → AreSmall ts → IsSmallFrame f
-    → IsSmallFrame (record f { temporaries = ts })
-frame_with f ts h s = record { temporaries = h; exception = s.exception; landed = s.landed }
-
-with_local : (s : Store) (k x v : ℕ) → IsSmallStore s → v < 2 ^ 64
-    → IsSmallStore (set_local s k x v)
-with_local s k x v h lt =
-    record { locals = local_small s k x v h.locals lt; pointer = h.pointer }
-
-left_behind : (name : BodyName) (k : ℕ) (s : Store) → IsSmallStore s
-    → IsSmallStore (left_store name k s)
-left_behind (FunctionBody f) k s h =
-    record { locals = left_small (FunctionBody f) k s h.locals; pointer = h.pointer }
-left_behind (FuncletBody j) k s h = h
-
--- the rights of pages are no bytes
-protected_keeps : (m : Memory) (at : ℕ) (n : ℤ) → HasSmallPointer m
-    → HasSmallPointer (protected m at n)
-protected_keeps m at n h = of (rights_asked at n)
-  where
-    of : (o : Option Rights) → HasSmallPointer (with_rights m at o)
-    of None = h
-    of (Some r) = h
-
--- the data stack's pointer, as a run begins
-first_small : (globals : List ℕ) → HasSmallPointer (first_memory globals)
-first_small globals a l r =
-    subst (λ b. b < 256) (sym (low_byte a (lt-ltb a FIRST_DATA (omega arith)) globals))
-    (started a)
-  where
-    low_byte : (a : ℕ) → nat_lt a FIRST_DATA ≡ true → (globals : List ℕ)
-        → (first_memory globals).byte a ≡ first_byte a
-    low_byte a e globals = ap (λ b. if b then first_byte a else get_or globals (a - FIRST_DATA) 0) e
-
-    started : (a : ℕ) → first_byte a < 256
-    started a = written_keeps (λ x. 0) 8 DATA_STACK_START FIRST_DATA_STACK a (omega arith)
+use Rattle.lowering_invariants.proofs.Results.{IsSmallOutcome, KeepsPointer, outcome_small, outcome_keeps}
+use Rattle.lowering_invariants.proofs.SmallLists.{all_joined, all_taken, all_dropped, zeros, one_of, got_of, locals_in, locals_small, joined_small, test_small, field_small}
+use Rattle.lowering_invariants.proofs.SmallStores.{IsSmallStore, Over, at_rest, goes, frame_with, with_local, left_behind, protected_keeps, first_small}
 
 module _ (program : LinearProgram) where
+  stuck : (es : List Event) → Turn HasSmallNumbers (λ next. Stuck es)
+  stuck es = Halts (Stuck es) (λ next. refl)
+
   -- ---- unwinding
 
-  arrive_turn : (code : Option ℕ) (t : Target) (c : Configuration) → IsSmallCode code → at_rest c
-      → Turn HasSmallNumbers (λ next. arrive t code next c)
-  arrive_turn None t c s o = goes (at_label t.label c) (
+  moved_to : (label : ℕ) (c : Configuration) → at_rest c → at_rest (at_label label c)
+  moved_to label c o = (
     (
       record {
         temporaries = o.0.0.temporaries;
@@ -92,6 +37,10 @@ module _ (program : LinearProgram) where
     ),
     o.1,
   )
+
+  arrive_turn : (code : Option ℕ) (t : Target) (c : Configuration) → IsSmallCode code → at_rest c
+      → Turn HasSmallNumbers (λ next. arrive t code next c)
+  arrive_turn None t c s o = goes (at_label t.label c) (moved_to t.label c o)
   arrive_turn (Some code) t c s o = goes _ (
     (
       record {
@@ -152,15 +101,15 @@ module _ (program : LinearProgram) where
   unwind_turn : (t : Target) (items : List Item) (left : Option (List Region)) (es : List Event)
       (store : Store) → IsSmallCode t.code → Over items store
       → Turn HasSmallNumbers (λ next. unwind program next t items left es store)
-  unwind_turn t [] left es store s o = Halts (Stuck es) (λ next. refl)
+  unwind_turn t [] left es store s o = stuck es
   unwind_turn t (Waits f ∷ below) left es store s o =
       body_turn t (λ next store. unwind program next (target_past f.body t) below None es store)
       (regions_left left (regions_at program f.body f.next))
       (record { frame = f; below = below; store = store; events = es }) s o
       (λ p. unwind_turn (target_past f.body t) below None es (left_store f.body f.activation store)
       (past_small f.body t s) (o.0.1, p))
-  unwind_turn t (Searches exception resumption asked rest ∷ below) left es store s o = unwind_turn t
-      below None es store s (o.0.1, o.1)
+  unwind_turn t (Searches exception resumption asked ∷ below) left es store s o = unwind_turn t
+      below None es store s (o.0.2, o.1)
   unwind_turn t (Unwinds rest older ∷ below) left es store s o =
       unwind_turn t below (Some rest) es store s (o.0.1, o.1)
 
@@ -178,7 +127,7 @@ module _ (program : LinearProgram) where
   consult_turn None h rest exception resumption c x o = accept_turn h exception c x o
   consult_turn (Some k) h rest exception resumption c x o =
       deeper_turn HasSmallNumbers 2 c.frame.held c.store c.events _
-      (goes _ ((record { temporaries = tt; exception = x; landed = tt }, (x, o.0)), o.1))
+      (goes _ ((record { temporaries = tt; exception = x; landed = tt }, (x, tt, o.0)), o.1))
 
   search_turn : (found : List Handler) (exception : Exception) (resumption : Resumption)
       (c : Configuration) → IsSmallException exception → at_rest c
@@ -188,11 +137,49 @@ module _ (program : LinearProgram) where
   search_turn (h ∷ rest) exception resumption c x o =
       consult_turn h.filter h rest exception resumption c x o
 
+  -- ---- vectored handlers
+
+  -- a code and flags
+  arguments_of : (exception : Exception) → IsSmallException exception
+      → AreSmall (handler_arguments exception)
+  arguments_of exception x = let code = x.code in (omega arith, (test_small exception.flag, tt))
+
+  ask_turn : (h : Option ℕ) (place : ℕ) (exception : Exception) (resumption : Resumption)
+      (c : Configuration) → ((f : ℕ) → h ≡ Some f → place < MOST_HANDLERS)
+      → IsSmallException exception → at_rest c
+      → Turn HasSmallNumbers (λ next. ask_at program next h place exception resumption c)
+  ask_turn None place exception resumption c k x o = search_turn
+      (handlers program (Waits c.frame ∷ c.below) None) exception resumption c x o
+  ask_turn (Some f) place exception resumption c k x o =
+      some_turn HasSmallNumbers c.events (slice_get program.functions f) _ (λ function e.
+      deeper_turn HasSmallNumbers (2 + depth_weight function) c.frame.held c.store c.events _
+      (goes _ (
+        (
+          record { temporaries = tt; exception = none_small; landed = tt },
+          (x, k f refl, o.0),
+        ),
+        record {
+          locals = joined_small c.store.activations _ o.1.locals
+              (all_joined (handler_arguments exception) _ (arguments_of exception x)
+              (zeros (function.body.locals - function.parameters)));
+          pointer = o.1.pointer;
+          handlers = o.1.handlers;
+        },
+      )))
+
+  from_turn : (place : ℕ) (exception : Exception) (resumption : Resumption) (c : Configuration)
+      → IsSmallException exception → at_rest c
+      → Turn HasSmallNumbers (λ next. ask_from program next place exception resumption c)
+  from_turn place exception resumption c x o =
+      ask_turn (slice_get c.store.vectored place) place exception resumption c (λ f e.
+      let within = slice_get_within c.store.vectored place f e in
+      let few = o.1.handlers.few in
+      omega arith) x o
+
   raise_turn : (exception : Exception) (resumption : Resumption) (c : Configuration)
       → IsSmallException exception → at_rest c
       → Turn HasSmallNumbers (λ next. raise program next exception resumption c)
-  raise_turn exception resumption c x o = search_turn
-      (handlers program (Waits c.frame ∷ c.below) None) exception resumption
+  raise_turn exception resumption c x o = from_turn 0 exception resumption
       (record c { events = c.events ++ raise_event exception ∷ [] }) x o
 
   -- a body continues with one more temporary
@@ -202,19 +189,6 @@ module _ (program : LinearProgram) where
     (
       frame_with c.frame (c.frame.temporaries ++ v ∷ [])
           (all_joined c.frame.temporaries (v ∷ []) o.0.0.temporaries (lt, tt)) o.0.0,
-      o.0.1,
-    ),
-    o.1,
-  )
-
-  moved_to : (label : ℕ) (c : Configuration) → at_rest c → at_rest (at_label label c)
-  moved_to label c o = (
-    (
-      record {
-        temporaries = o.0.0.temporaries;
-        exception = o.0.0.exception;
-        landed = o.0.0.landed;
-      },
       o.0.1,
     ),
     o.1,
@@ -233,57 +207,71 @@ module _ (program : LinearProgram) where
   anew : IsSmallException noncontinuable
   anew = record { code = omega arith; access = tt }
 
+  continued_turn : (exception : Exception) (resumption : Resumption) (c : Configuration) → at_rest c
+      → Turn HasSmallNumbers (λ next. continued program next exception resumption c)
+  continued_turn exception resumption c o =
+      pick_turn HasSmallNumbers exception.flag
+      (λ next. raise program next noncontinuable resumption c)
+      (λ next. next (resumed resumption c)) (λ e. raise_turn noncontinuable resumption c anew o)
+      (λ e. resumed_turn resumption c o)
+
+  -- ---- ends of bodies
+
   answer_turn : (v : ℕ) (items : List Item) (es : List Event) (store : Store) → Over items store
       → Turn HasSmallNumbers (λ next. answer program next v items es store)
-  answer_turn v [] es store o = Halts (Stuck es) (λ next. refl)
-  answer_turn v (Waits f ∷ below) es store o = Halts (Stuck es) (λ next. refl)
-  answer_turn v (Unwinds rest t ∷ below) es store o = Halts (Stuck es) (λ next. refl)
-  answer_turn v (Searches exception resumption h rest ∷ []) es store o =
-      Halts (Stuck es) (λ next. refl)
-  answer_turn v (Searches exception resumption h rest ∷ Searches e r a s ∷ below) es store o =
-      Halts (Stuck es) (λ next. refl)
-  answer_turn v (Searches exception resumption h rest ∷ Unwinds s t ∷ below) es store o =
-      Halts (Stuck es) (λ next. refl)
-  answer_turn v (Searches exception resumption h rest ∷ Waits f ∷ below) es store o =
+  answer_turn v [] es store o = stuck es
+  answer_turn v (Waits f ∷ below) es store o = stuck es
+  answer_turn v (Unwinds rest t ∷ below) es store o = stuck es
+  answer_turn v (Searches exception resumption (VectoredAt place) ∷ below) es store o = stuck es
+  answer_turn v (Searches exception resumption (FilterOf h rest) ∷ []) es store o = stuck es
+  answer_turn v (Searches exception resumption (FilterOf h rest) ∷ Searches e r s ∷ below) es store
+      o = stuck es
+  answer_turn v (Searches exception resumption (FilterOf h rest) ∷ Unwinds s t ∷ below) es store
+      o = stuck es
+  answer_turn v (Searches exception resumption (FilterOf h rest) ∷ Waits f ∷ below) es store o =
       let c : Configuration = record {
         frame = f;
         below = below;
         store = store;
-        events = es
-            ++ events.Answer (signed W32 v) ∷ [];
+        events = es ++ events.Answer (signed W32 v) ∷ [];
       } in
-      let p : at_rest c = (o.0.1, o.1) in
+      let p : at_rest c = (o.0.2, o.1) in
       pick_turn HasSmallNumbers (nat_eq (low W32 v) 0)
       (λ next. search program next rest exception resumption c) _
       (λ e. search_turn rest exception resumption c o.0.0 p)
       (λ e. pick_turn HasSmallNumbers (nat_lt (low W32 v) (2 ^ 31))
       (λ next. accept program h exception next c) _ (λ e. accept_turn h exception c o.0.0 p)
-      (λ e. pick_turn HasSmallNumbers exception.flag
-      (λ next. raise program next noncontinuable resumption c)
-      (λ next. next (resumed resumption c)) (λ e. raise_turn noncontinuable resumption c anew p)
-      (λ e. resumed_turn resumption c p)))
+      (λ e. continued_turn exception resumption c p))
 
   return_turn : (v : ℕ) (items : List Item) (es : List Event) (store : Store) → v < 2 ^ 64
-      → Over items store → Turn HasSmallNumbers (λ next. return next v items es store)
+      → Over items store → Turn HasSmallNumbers (λ next. return program next v items es store)
   return_turn v [] es store lt o = Halts (Finished (ends.Exit (signed W32 v)) es) (λ next. refl)
   return_turn v (Waits f ∷ below) es store lt o =
       answers_turn (record { frame = f; below = below; store = store; events = es }) v lt o
-  return_turn v (Searches exception resumption h rest ∷ below) es store lt o =
-      Halts (Stuck es) (λ next. refl)
-  return_turn v (Unwinds rest t ∷ below) es store lt o = Halts (Stuck es) (λ next. refl)
+  return_turn v (Unwinds rest t ∷ below) es store lt o = stuck es
+  return_turn v (Searches exception resumption (FilterOf h rest) ∷ below) es store lt o = stuck es
+  return_turn v (Searches exception resumption (VectoredAt place) ∷ []) es store lt o = stuck es
+  return_turn v (Searches exception resumption (VectoredAt place) ∷ Searches e r s ∷ below) es store
+      lt o = stuck es
+  return_turn v (Searches exception resumption (VectoredAt place) ∷ Unwinds s t ∷ below) es store lt
+      o = stuck es
+  return_turn v (Searches exception resumption (VectoredAt place) ∷ Waits f ∷ below) es store lt o =
+      let c : Configuration = record { frame = f; below = below; store = store; events = es } in
+      let p : at_rest c = (o.0.2, o.1) in
+      pick_turn HasSmallNumbers (nat_lt (low W32 v) (2 ^ 31))
+      (λ next. ask_from program next (place + 1) exception resumption c) _
+      (λ e. from_turn (place + 1) exception resumption c o.0.0 p)
+      (λ e. continued_turn exception resumption c p)
 
   finally_turn : (items : List Item) (es : List Event) (store : Store) → Over items store
       → Turn HasSmallNumbers (λ next. end_finally program next items es store)
-  finally_turn [] es store o = Halts (Stuck es) (λ next. refl)
-  finally_turn (Searches exception resumption h rest ∷ below) es store o =
-      Halts (Stuck es) (λ next. refl)
+  finally_turn [] es store o = stuck es
+  finally_turn (Searches exception resumption asked ∷ below) es store o = stuck es
   finally_turn (Waits f ∷ below) es store o = goes _
       (moved_to (f.next + 1) (record { frame = f; below = below; store = store; events = es }) o)
-  finally_turn (Unwinds rest t ∷ []) es store o = Halts (Stuck es) (λ next. refl)
-  finally_turn (Unwinds rest t ∷ Searches exception resumption h s ∷ below) es store o =
-      Halts (Stuck es) (λ next. refl)
-  finally_turn (Unwinds rest t ∷ Unwinds s older ∷ below) es store o =
-      Halts (Stuck es) (λ next. refl)
+  finally_turn (Unwinds rest t ∷ []) es store o = stuck es
+  finally_turn (Unwinds rest t ∷ Searches exception resumption asked ∷ below) es store o = stuck es
+  finally_turn (Unwinds rest t ∷ Unwinds s older ∷ below) es store o = stuck es
   finally_turn (Unwinds rest t ∷ Waits f ∷ below) es store o =
       unwind_turn t (Waits f ∷ below) (Some rest) es store o.0.0 (o.0.1, o.1)
 
@@ -336,11 +324,12 @@ module _ (program : LinearProgram) where
       → KeepsPointer r → at_rest c → Turn HasSmallNumbers (λ next. computed program next to c r)
   computed_turn c to (Gives v memory) s k o = written_turn
       (record c { store = record c.store { memory = memory } }) to v s
-      (o.0, record { locals = o.1.locals; pointer = k })
+      (o.0, record { locals = o.1.locals; pointer = k; handlers = o.1.handlers })
   computed_turn c to (Raises code access) s k o = raise_turn
       (record { code = code.0; flag = false; access = access }) SameOperation c
       (record { code = s.0; access = s.1 }) o
-  computed_turn c to (Undefined a) s k o = Halts (Finished (ends.Undefined a) c.events) (λ next. refl)
+  computed_turn c to (Undefined a) s k o =
+      Halts (Finished (ends.Undefined a) c.events) (λ next. refl)
 
   read_small : (c : Configuration) (slot : Slot) (v : ℕ) → read c slot ≡ Some v → at_rest c
       → v < 2 ^ 64
@@ -369,11 +358,33 @@ module _ (program : LinearProgram) where
           locals = o.1.locals;
           pointer = protected_keeps c.store.memory (get_or vs 0 0) (signed W32 (get_or vs 1 0))
               o.1.pointer;
+          handlers = o.1.handlers;
         },
       )
   built_in_turn c RaiseException vs o = raise_turn (raised (get_or vs 0 0) (get_or vs 1 0))
       AfterCall c (record { code = low_below W32 (get_or vs 0 0); access = tt }) o
   built_in_turn c Walk vs o = answers_turn (record c { events = _ }) 0 (omega arith) o
+  built_in_turn c (AddVectored f) vs o = answers_turn
+      (record c { store = record c.store { vectored = _ } })
+      (of_test (can_be_added f c.store.vectored)) (test_small (can_be_added f c.store.vectored)) (
+        o.0,
+        record {
+          locals = o.1.locals;
+          pointer = o.1.pointer;
+          handlers = adding_stays_proper (not (nat_eq (low W32 (get_or vs 0 0)) 0)) f
+              c.store.vectored o.1.handlers;
+        },
+      )
+  built_in_turn c (RemoveVectored f) vs o = answers_turn
+      (record c { store = record c.store { vectored = _ } })
+      (of_test (is_listed f c.store.vectored)) (test_small (is_listed f c.store.vectored)) (
+        o.0,
+        record {
+          locals = o.1.locals;
+          pointer = o.1.pointer;
+          handlers = removing_stays_proper f c.store.vectored o.1.handlers;
+        },
+      )
 
   tested_turn : (c : Configuration) (slot : Slot) (label v : ℕ) → at_rest c
       → Turn HasSmallNumbers (λ next. pick (nat_eq v 0) (next (at_label label (tested slot c)))
@@ -408,7 +419,8 @@ module _ (program : LinearProgram) where
         some_turn HasSmallNumbers c.events (last_temporaries c.frame.temporaries first count) _
         (λ vs e.
         some_turn HasSmallNumbers c.events (slice_get program.functions f) _ (λ function g.
-        deeper_turn HasSmallNumbers (depth_weight function) c.frame.held c.store c.events _ (goes _ (
+        deeper_turn HasSmallNumbers (depth_weight function) c.frame.held c.store c.events _
+        (goes _ (
           (
             record { temporaries = tt; exception = none_small; landed = tt },
             (with_fewer (take first c.frame.temporaries) c
@@ -420,6 +432,7 @@ module _ (program : LinearProgram) where
                 (all_dropped first c.frame.temporaries o.0.0.temporaries))
                 (zeros (function.body.locals - function.parameters)));
             pointer = o.1.pointer;
+            handlers = o.1.handlers;
           },
         ))))
     act_turn (instructions.CallBuiltIn k first) =
@@ -454,8 +467,10 @@ module _ (program : LinearProgram) where
   pub stays_small : (c d : Configuration) → IsTurn program c d → HasSmallNumbers c
       → HasSmallNumbers d
   stays_small c d r p = kept HasSmallNumbers (λ next. act program r.instruction next c) d
-      (act_turn c (p.items, record { locals = p.locals; pointer = p.pointer }) r.instruction)
-      r.goes
+      (act_turn c (
+        p.items,
+        record { locals = p.locals; pointer = p.pointer; handlers = p.handlers },
+      ) r.instruction) r.goes
 
   arguments_small : (b : Bool) (arg : ℤ) → AreSmall (if b then [] else wrapped W64 arg ∷ [])
   arguments_small true arg = tt
@@ -471,6 +486,7 @@ module _ (program : LinearProgram) where
       tt,
     );
     pointer = first_small program.globals;
+    handlers = record { once = tt; few = omega arith };
   }
 
   pub reached_small : (c : Configuration) → IsReached program c → HasSmallNumbers c

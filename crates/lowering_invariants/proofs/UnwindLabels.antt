@@ -10,9 +10,9 @@ use Rattle.seh_ir.specs.Statements.{reset_code}
 use Rattle.lowering_invariants.proofs.DepthStatements.{begin_three}
 use Rattle.std.specs.Prelude.{Option, None}
 use Rattle.std.proofs.Common.{ap}
-use Rattle.lowering_invariants.specs.Words.{Expression, Function, weight, Statements, Local, Temporary, Instruction, statements_size, statements_notes, Owner, Names, LoweringContext, finally_scope, expression_code, statements_code, finally_funclet, first_separators, scope_of, lowered_function, runs_blocks, LoweredStaysInside, filter_funclet}
+use Rattle.lowering_invariants.specs.Words.{Expression, Function, Statements, Local, Temporary, Instruction, statements_size, statements_notes, Owner, Names, LoweringContext, finally_scope, expression_code, statements_code, finally_funclet, scope_of, lowered_function, runs_blocks, LoweredStaysInside, filter_funclet}
 use Rattle.linear_code.specs.declared.instruction.Instruction.TheVariants as instructions
-use Rattle.lowering_invariants.proofs.Lemmas.{length_first, statements_length, statements_have, WaysHave, IsPlaced, any_neutral, statements_every, all_append, HoldsOfInstructions, all_pieces}
+use Rattle.lowering_invariants.proofs.Lemmas.{statements_length, statements_have, WaysHave, IsPlaced, any_neutral, statements_every, all_append, HoldsOfInstructions, all_pieces}
 use Rattle.lowering_invariants.proofs.EveryBody.{every_body}
 use Rattle.lowering_invariants.proofs.StackTargets.{all_at}
 use Rattle.lowering_invariants.specs.UnwindLabels.{StaysInside}

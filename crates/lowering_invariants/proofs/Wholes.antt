@@ -8,7 +8,7 @@ use Rattle.seh_ir.specs.Funclets.{finally_begin}
 use Rattle.seh_ir.specs.Statements.{reset_code}
 use Rattle.lowering_invariants.proofs.DepthStatements.{begin_three}
 use Rattle.lowering_invariants.specs.Bodies.{IsInstructionOf}
-use Rattle.lowering_invariants.specs.Words.{Expression, Program, funclets, count_up, funclets_in, Filter, Always, Funclet, Statement, Declare, Block, Evaluate, If, IfElse, For, DoWhile, Return, Break, Continue, Leave, TryExcept, TryFinally, Statements, Empty, Then, Local, Instruction, Region, LinearProgram, LinearBody, LinearFunclet, BodyName, FuncletBody, funclet_body, body_of, instruction_in, expression_size, statements_size, discarded_size, condition_size, all_declared_size, statement_size, Owner, Names, Way, Nowhere, Jumps, LoweringContext, except_names, filter_names, finally_names, finally_scope, expression_code, return_code, returned_code, statements_code, statements_regions, except_kind, region, statement_regions, finally_funclet, filter_funclets, in_funclet, statement_funclets, statements_funclets, IsCalled, IsFinallyKind, function_of, owner_of, IsFuncletOf, IsKindOf, IsRegionOf, IsCallee, IsBodyOf, parent_of}
+use Rattle.lowering_invariants.specs.Words.{Expression, Program, funclets, count_up, funclets_in, Filter, Always, Funclet, Statement, Declare, Block, Evaluate, If, IfElse, For, DoWhile, Return, Break, Continue, Leave, TryExcept, TryFinally, Statements, Empty, Then, Local, Instruction, Region, LinearProgram, LinearBody, LinearFunclet, BodyName, FuncletBody, funclet_body, body_of, instruction_in, expression_size, statements_size, discarded_size, condition_size, all_declared_size, statement_size, Owner, Names, Way, Nowhere, Jumps, LoweringContext, except_names, filter_names, finally_names, finally_scope, expression_code, return_code, returned_code, statements_code, statements_regions, except_kind, region, statement_regions, finally_funclet, filter_funclets, in_funclet, statement_funclets, statements_funclets, IsFinallyKind, function_of, owner_of, IsFuncletOf, IsKindOf, IsRegionOf, IsBodyOf, parent_of}
 use Rattle.c_checked.specs.Sound.{filter_funclet}
 use Rattle.linear_code.specs.declared.instruction.Instruction.TheVariants as instructions
 use Rattle.linear_code.specs.declared.program.RegionKind.{RegionKind}
@@ -16,7 +16,7 @@ use Rattle.linear_code.specs.declared.program.RegionKind.TheVariants as kinds
 use Rattle.lowering_invariants.proofs.Lemmas.{Range, part_of, both_parts, no_part, one_part, filter_count, statement_count, statements_count, count_front, count_back, counted, IsSegmentAt, front, back, whole_is_at, both_right, all_append}
 use Rattle.lowering_expressions.specs.declared.scope.Way.TheVariants.{Unwinds}
 use Rattle.seh_ir.specs.Funclets as funclets_of
-use Rattle.lowering_invariants.proofs.Calls.{AllCall, append, expression_calls}
+use Rattle.lowering_invariants.proofs.Calls.{HasCallees, AllCall, append, expression_calls}
 use Rattle.lowering_invariants.proofs.StackTargets.{same_it}
 use Rattle.seh_ir.proofs.StatementParts.{FilterHas, OptionalHas, StatementHas}
 use Rattle.seh_ir.proofs.EveryStatement.{HoldsOfPieces, any_neutral, any_place, any_ways, statements_every}
@@ -46,8 +46,8 @@ module _ (linear : LinearProgram) where
     pub parent : parent_of owner.function owner.parent ≡ name
     pub function : owner_of linear name ≡ Some owner.function
 
-module _ (program : Program) (linear : LinearProgram)
-    (callee : (f count : ℕ) → IsCalled program f count → IsCallee linear f count) (own : ℕ) where
+module _ (program : Program) (linear : LinearProgram) (callees : HasCallees program linear)
+    (own : ℕ) where
   -- ---- the code and the regions of a body
 
   -- the funclet of a region is one of the body
@@ -61,7 +61,7 @@ module _ (program : Program) (linear : LinearProgram)
 
   module _ (name : BodyName) (b : LinearBody) (there : body_of linear name ≡ Some b) where
     abbrev All : List Instruction → Type 0
-    All code = AllCall program linear callee name code
+    All code = AllCall program linear callees name code
 
     -- what is claimed of code in its place, where the funclets of its regions are the body's
     abbrev IsTyped : ℕ → List Instruction → List Region → Type 0
@@ -71,9 +71,9 @@ module _ (program : Program) (linear : LinearProgram)
     value : (names : Names) (e : Expression) (at : ℕ) (rest : List Instruction)
         → ExpressionFits program own false e → All rest
         → All (expression_code names e 0 at ++ rest)
-    value names e at rest fits h = append program linear callee name
+    value names e at rest fits h = append program linear callees name
         (expression_code names e 0 at) rest
-        (expression_calls program linear callee name own false names e 0 at fits) h
+        (expression_calls program linear callees name own false names e 0 at fits) h
 
     exit_calls : (w : Way) → All (return_code w)
     exit_calls Nowhere = (tt, (tt, tt))
@@ -113,7 +113,7 @@ module _ (program : Program) (linear : LinearProgram)
           (front b.code at xs ys s) in
           let y = k (all_back (λ (r : Region). IsNamed name r.kind) rs qs r)
           (back b.code at to xs ys e s) in (
-            append program linear callee name xs ys x.0 y.0,
+            append program linear callees name xs ys x.0 y.0,
             all_append (IsRegionOf linear name) rs qs x.1 y.1,
           ));
       of_separator = λ at r s. ((tt, tt), tt);
@@ -212,9 +212,9 @@ module _ (program : Program) (linear : LinearProgram)
         );
         funclets = one_part (Fine linear) j (fine j _ s.0 (record {
           regions = tt;
-          code = append program linear callee (FuncletBody j)
+          code = append program linear callees (FuncletBody j)
               (expression_code (filter_names names) e 0 0) (_ ∷ [])
-              (expression_calls program linear callee (FuncletBody j) own true
+              (expression_calls program linear callees (FuncletBody j) own true
               (filter_names names) e 0 0 fits) (tt, tt);
         }));
       }
@@ -263,9 +263,9 @@ module _ (program : Program) (linear : LinearProgram)
             (one_part (Fine linear) j (subst (Fine linear) same
             (fine (k - 1) funclet there (record {
               regions = own_body.1;
-              code = append program linear callee name' begins (code ++ ends)
+              code = append program linear callees name' begins (code ++ ends)
                   (begin_calls name' funclet.body (ap funclet_body there) names.part names.free)
-                  (append program linear callee name' code ends own_body.0 (tt, tt));
+                  (append program linear callees name' code ends own_body.0 (tt, tt));
             })))) inner.funclets);
       }
 

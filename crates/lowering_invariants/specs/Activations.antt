@@ -13,7 +13,7 @@ with_own (FuncletBody k) owners = owners
 abbrev pub owners_of : List Item → List ℕ
 owners_of [] = []
 owners_of (Waits f ∷ below) = with_own f.body (owners_of below)
-owners_of (Searches exception resumption asked rest ∷ below) = owners_of below
+owners_of (Searches exception resumption asked ∷ below) = owners_of below
 owners_of (Unwinds rest target ∷ below) = owners_of below
 
 module _ (program : LinearProgram) where
@@ -27,7 +27,7 @@ module _ (program : LinearProgram) where
   abbrev pub AreWorking : List Item → Type 0
   AreWorking [] = Unit {0}
   AreWorking (Waits f ∷ below) = WorksOn f f.body (owners_of below) × AreWorking below
-  AreWorking (Searches exception resumption asked rest ∷ below) = AreWorking below
+  AreWorking (Searches exception resumption asked ∷ below) = AreWorking below
   AreWorking (Unwinds rest target ∷ below) = AreWorking below
 
   -- as many locals as a function has

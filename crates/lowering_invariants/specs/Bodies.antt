@@ -1,6 +1,7 @@
 -- What the regions and the calls of a body name.
-use Rattle.std.specs.Prelude.{◌≡◌, ℕ, ◌<◌, ◌≤◌, slice_get, Option, Some, None}
+use Rattle.std.specs.Prelude.{◌≡◌, ℕ, ◌+◌, ◌<◌, ◌≤◌, List, ◌++◌, replicate, slice_get, Option, Some, None}
 use Rattle.std.specs.List.{AllByRecursion}
+use Rattle.c_operations.specs.declared.built_in.BuiltIn.TheVariants.{AddVectored, RemoveVectored}
 use Rattle.c_operations.specs.declared.operation.Operation.{Operation}
 use Rattle.c_operations.specs.declared.operation.Operation.TheVariants.{Pure, Allocate, SetPointer, Place, Clear}
 use Rattle.linear_code.specs.declared.slot.Slot.{Slot}
@@ -12,7 +13,7 @@ use Rattle.linear_code.specs.declared.program.RegionKind.{RegionKind}
 use Rattle.linear_code.specs.declared.program.RegionKind.TheVariants as kinds
 use Rattle.linear_code.specs.declared.program.FuncletKind.{FuncletKind}
 use Rattle.linear_code.specs.declared.program.FuncletKind.TheVariants as funclets
-use Rattle.linear_code.specs.Program.{LinearProgram, LinearBody, LinearFunction, LinearFunclet}
+use Rattle.linear_code.specs.Program.{LinearProgram, LinearBody, LinearFunction, LinearFunclet, depth_weight}
 use Rattle.linear_machine.specs.Frames.{BodyName, FunctionBody, FuncletBody, body_of}
 use Rattle.linear_machine.specs.Run.{instruction_in}
 
@@ -82,11 +83,22 @@ module _ (program : LinearProgram) where
     pub there : slice_get program.functions f ≡ Some function
     pub takes : count ≡ function.parameters
 
-  -- what an instruction of a body calls is there; an operation that may fault reads temporaries
-  -- alone, which no filter changes
+  -- a function that can be a vectored handler takes a code and flags, and begins with one separator
+  -- more than it counts in the depth
+  pub record IsVectoredCallee (f : ℕ) : Type 0 where
+    pub callee : IsCallee f 2
+    pub rest : List Instruction
+    pub begins : callee.function.body.code
+        ≡ replicate (depth_weight callee.function + 1) instructions.Separator ++ rest
+
+  -- what an instruction of a body calls is there, and a function that it puts among the vectored
+  -- handlers or takes out can be one; an operation that may fault reads temporaries alone, which no
+  -- filter changes
   abbrev pub IsInstructionOf : BodyName → Instruction → Type 0
   IsInstructionOf name (instructions.Compute to o first second) = ReadsWell o first second
   IsInstructionOf name (instructions.Call f first count) = IsCallee f count
+  IsInstructionOf name (instructions.CallBuiltIn (AddVectored f) first) = IsVectoredCallee f
+  IsInstructionOf name (instructions.CallBuiltIn (RemoveVectored f) first) = IsVectoredCallee f
   IsInstructionOf name (instructions.CallFinally k) = IsFuncletOf name IsFinallyKind k
   IsInstructionOf name other = Unit {0}
 

@@ -64,7 +64,7 @@ module _ (program : LinearProgram) where
   abbrev pub AreDeep : List Item → Type 0
   AreDeep [] = Unit {0}
   AreDeep (Waits f ∷ below) = WaitsDeep f × AreDeep below
-  AreDeep (Searches exception resumption asked rest ∷ below) = AreDeep below
+  AreDeep (Searches exception resumption asked ∷ below) = AreDeep below
   AreDeep (Unwinds rest target ∷ below) = AreDeep below
 
   -- each body holds as many temporaries as its place says

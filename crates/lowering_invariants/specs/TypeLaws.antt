@@ -16,7 +16,8 @@ use Rattle.lowering_invariants.specs.Room.{HaveRoom}
 use Rattle.lowering_invariants.specs.ReturnRegions.{AllReturnsStayInRegions}
 
 -- the funclets that bodies name are theirs, each call has as many arguments as its function takes,
--- and what may fault reads temporaries alone
+-- a function that is put among the vectored handlers or taken out takes two, and what may fault
+-- reads temporaries alone
 abbrev pub LoweredIsWhole : Type 0
 LoweredIsWhole = (program : Program) → IsSound program → IsWhole (lowered program)
 

@@ -1,7 +1,7 @@
 -- What waits below a body that runs, and where.
 use Rattle.std.specs.Prelude.{◌≡◌, ◌⊎◌, ℕ, List, [], ◌∷◌, length, Option, Some, None}
 use Rattle.std.specs.List.{AllByRecursion}
-use Rattle.c_operations.specs.declared.built_in.BuiltIn.TheVariants.{RaiseException}
+use Rattle.c_operations.specs.declared.built_in.BuiltIn.TheVariants.{RaiseException, AddVectored}
 use Rattle.c_operations.specs.declared.operation.Operation.{Operation}
 use Rattle.source_meaning.specs.State.{Exception}
 use Rattle.linear_code.specs.declared.slot.Slot.{Slot}
@@ -11,9 +11,10 @@ use Rattle.linear_code.specs.declared.program.Region.{Region}
 use Rattle.linear_code.specs.declared.program.RegionKind.{RegionKind}
 use Rattle.linear_code.specs.declared.program.RegionKind.TheVariants as kinds
 use Rattle.linear_code.specs.Program.{LinearProgram}
-use Rattle.linear_machine.specs.Frames.{FunctionBody, FuncletBody, BodyName, body_of, Frame, Handler, Target, Resumption, AfterCall, SameOperation, Item, Waits, Searches, Unwinds, Configuration}
+use Rattle.linear_machine.specs.Frames.{FunctionBody, FuncletBody, BodyName, body_of, Frame, Handler, Target, Resumption, AfterCall, SameOperation, Asked, FilterOf, VectoredAt, Item, Waits, Searches, Unwinds, Configuration}
 use Rattle.linear_machine.specs.Run.{instruction_in}
-use Rattle.lowering_invariants.specs.Bodies.{IsFinallyKind, IsFuncletOf, IsLanding, IsRegionOf}
+use Rattle.linear_machine.specs.BuiltInCalls.{CallsBuiltIn}
+use Rattle.lowering_invariants.specs.Bodies.{IsCallee, IsVectoredCallee, IsFinallyKind, IsFuncletOf, IsLanding, IsRegionOf}
 
 module _ (program : LinearProgram) where
   -- the instruction that a body is at, or waits in
@@ -55,7 +56,7 @@ module _ (program : LinearProgram) where
   abbrev pub IsHandler : Handler → List Item → Type 0
   IsHandler h [] = ⊥
   IsHandler h (Waits f ∷ below) = IsHandlerOf f (length below) h ⊎ IsHandler h below
-  IsHandler h (Searches exception resumption asked rest ∷ below) = IsHandler h below
+  IsHandler h (Searches exception resumption asked ∷ below) = IsHandler h below
   IsHandler h (Unwinds rest target ∷ below) = IsHandler h below
 
   -- an exception lands at an `__except` block; a local unwind ends at the label that the body asked
@@ -71,7 +72,7 @@ module _ (program : LinearProgram) where
   abbrev pub IsTarget : Target → List Item → Type 0
   IsTarget t [] = ⊥
   IsTarget t (Waits f ∷ below) = IsTargetOf f (length below) t ⊎ IsTarget t below
-  IsTarget t (Searches exception resumption asked rest ∷ below) = IsTarget t below
+  IsTarget t (Searches exception resumption asked ∷ below) = IsTarget t below
   IsTarget t (Unwinds rest older ∷ below) = IsTarget t below
 
   -- ---- what a body is above, by its exception and its activation
@@ -88,21 +89,23 @@ module _ (program : LinearProgram) where
     pub funclet : IsFuncletOf program w.body IsFinallyKind k
     pub activation : works_on ≡ w.activation
 
+  -- a vectored handler takes a code and flags
   abbrev pub IsCalledBy : ℕ → List Item → Type 0
   IsCalledBy k [] = k ≡ program.main
   IsCalledBy k (Waits w ∷ below) =
       (first : ℕ) × (count : ℕ) × IsAt w (instructions.Call k first count)
+  IsCalledBy k (Searches exception resumption (VectoredAt place) ∷ below) = IsCallee program k 2
   IsCalledBy k items = ⊥
 
   abbrev pub IsRunFor : ℕ → Exception → ℕ → List Item → Type 0
-  IsRunFor k own activation (Searches exception resumption asked rest ∷ below) =
-      IsAsked k own activation exception asked
+  IsRunFor k own activation (Searches exception resumption (FilterOf h rest) ∷ below) =
+      IsAsked k own activation exception h
   IsRunFor k own activation (Unwinds rest target ∷ Waits w ∷ below) = IsBlockOf k activation w
   IsRunFor k own activation (Waits w ∷ below) =
       IsBlockOf k activation w × IsAt w (instructions.CallFinally k)
   IsRunFor k own activation items = ⊥
 
-  -- a function was called, or is `main`
+  -- a function was called, is `main`, or is asked as a vectored handler
   abbrev pub IsAbove : Exception → ℕ → BodyName → List Item → Type 0
   IsAbove own activation (FunctionBody k) below = IsCalledBy k below
   IsAbove own activation (FuncletBody k) below = IsRunFor k own activation below
@@ -132,12 +135,17 @@ module _ (program : LinearProgram) where
   abbrev pub AreHandlers : List Handler → List Item → Type 0
   AreHandlers hs items = AllByRecursion (λ h. IsHandler h items) hs
 
+  -- the handlers of a search are those of what waits
+  abbrev pub AsksWell : Asked → List Item → Type 0
+  AsksWell (FilterOf h rest) items = AreHandlers (h ∷ rest) items
+  AsksWell (VectoredAt place) items = Unit {0}
+
   abbrev pub AreWaiting : List Item → Type 0
   AreWaiting [] = Unit {0}
   AreWaiting (Waits f ∷ below) =
       IsWaiting f × IsAbove f.exception f.activation f.body below × AreWaiting below
-  AreWaiting (Searches exception resumption asked rest ∷ below) =
-      AreHandlers (asked ∷ rest) below × IsRaisedIn resumption below × AreWaiting below
+  AreWaiting (Searches exception resumption asked ∷ below) =
+      AsksWell asked below × IsRaisedIn resumption below × AreWaiting below
   AreWaiting (Unwinds rest target ∷ below) =
       AreLeft rest below × IsTarget target below × AreWaiting below
 
@@ -146,8 +154,16 @@ module _ (program : LinearProgram) where
   LandsWell name label None = Unit {0}
   LandsWell name label (Some code) = IsLanding program name label
 
-  -- what runs, and what waits below it
+  -- a function that may be asked as a vectored handler can be one, and a body puts it among them
+  abbrev pub IsAskable : ℕ → Type 0
+  IsAskable f = IsVectoredCallee program f × CallsBuiltIn program (AddVectored f)
+
+  abbrev pub CanBeAsked : List ℕ → Type 0
+  CanBeAsked fs = AllByRecursion IsAskable fs
+
+  -- what runs, what waits below it, and the vectored handlers
   pub record IsStacked (c : Configuration) : Type 0 where
     pub above : IsAbove c.frame.exception c.frame.activation c.frame.body c.below
     pub below : AreWaiting c.below
     pub landed : LandsWell c.frame.body c.frame.next c.frame.landed
+    pub handlers : CanBeAsked c.store.vectored

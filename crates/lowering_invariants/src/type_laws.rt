@@ -8,7 +8,8 @@ pub fn alike_is_same()
 {}
 
 /// The funclets that bodies name are theirs, and each call has as many arguments as its function
-/// takes.
+/// takes. Each function that is put among the vectored handlers or taken out takes two, and begins
+/// with one separator more than it counts in the depth.
 pub fn lowered_is_whole()
     ensures whole { LoweredIsWhole }
 {}
@@ -28,7 +29,8 @@ pub fn reached_continues()
     ensures continues { ReachedContinues }
 {}
 
-/// What waits below the body that runs is there, where it is meant to wait.
+/// What waits below the body that runs is there, where it is meant to wait, and the vectored
+/// handlers are functions that take a code and flags, and that a body puts among them.
 pub fn reached_is_stacked()
     ensures stacked { ReachedIsStacked }
 {}
@@ -38,7 +40,7 @@ pub fn reached_has_activations()
     ensures activations { ReachedHasActivations }
 {}
 
-/// Every number that is kept is one of 64 bits.
+/// Every number that is kept is one of 64 bits, and the vectored handlers are at most 16, each once.
 pub fn reached_is_small()
     ensures small { ReachedIsSmall }
 {}

@@ -25,7 +25,7 @@ joined_small [] ys h k = k
 joined_small (x ∷ xs) ys h k = (h.0, joined_small xs ys h.1 k)
 
 -- an activation that begins with other numbers after its arguments
-other_small : (acts : List (List ℕ)) (arguments zeros values : List ℕ)
+pub other_small : (acts : List (List ℕ)) (arguments zeros values : List ℕ)
     → AllSmall (acts ++ (arguments ++ zeros) ∷ []) → AreSmall values
     → AllSmall (acts ++ (arguments ++ values) ∷ [])
 other_small [] arguments zeros values h s = (
@@ -39,7 +39,7 @@ other_small (a ∷ acts) arguments zeros values h
 alike_small : (marks : Marks) (c d : Configuration) → AreAlike marks c d
     → AllSmall d.store.activations → HasSmallNumbers c → HasSmallNumbers d
 alike_small marks c d a s h = subst HasSmallNumbers (is_over marks c d a)
-    (record { items = h.items; locals = s; pointer = h.pointer })
+    (record { items = h.items; locals = s; pointer = h.pointer; handlers = h.handlers })
 
 pub agreeing_are_small : AgreeingAreSmall
 agreeing_are_small program c d t = alike_small t.marks c d t.alike t.small
@@ -47,7 +47,7 @@ agreeing_are_small program c d t = alike_small t.marks c d t.alike t.small
 
 -- ---- a step
 
-same_place : (program : LinearProgram) (c d : Configuration) → d.frame ≡ c.frame
+pub same_place : (program : LinearProgram) (c d : Configuration) → d.frame ≡ c.frame
     → instruction_at program d ≡ instruction_at program c
 same_place program c d e = ap (λ (f : Frame). instruction_in (body_of program f.body) f.next) e
 

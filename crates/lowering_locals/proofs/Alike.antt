@@ -17,12 +17,13 @@ is_over marks c d a =
     let f = sym a.frame in
     let b = sym a.below in
     let m = sym a.memory in
+    let v = sym a.handlers in
     let e = sym a.events in
     λ j. record {
       frame = f j;
       below = b j;
       store =
-          record { memory = m j; activations = d.store.activations };
+          record { memory = m j; activations = d.store.activations; vectored = v j };
       events = e j;
     }
 
@@ -32,6 +33,7 @@ over_alike marks c ys h = record {
   frame = refl;
   below = refl;
   memory = refl;
+  handlers = refl;
   events = refl;
   activations = h;
 }
@@ -98,6 +100,7 @@ calls_are_alike program marks c d f first count function arguments values a e g 
           (as_long marks c.store.activations ys a.activations);
       below = refl;
       memory = refl;
+      handlers = refl;
       events = refl;
       activations = called_alike program marks c ys a.activations f first count function arguments
           values (Waits (waiting c first).frame ∷ c.below) e g n;
@@ -110,6 +113,7 @@ starts_are_alike program arg main values n =
       frame = refl;
       below = refl;
       memory = refl;
+      handlers = refl;
       events = refl;
       activations = (
         begun_alike (main_arguments main.parameters arg) (replicate rest 0) values rest

@@ -86,7 +86,7 @@ module _ (program : LinearProgram) (sets : BodyName → ℕ → SeenNames)
       (all_map (λ (h : Handler). IsHandler program sets h below)
       (λ (h : Handler). IsHandler program sets h (Waits f ∷ below)) (handlers program below None)
       (λ h p. inr p) (handlers_are below None tt w))
-  handlers_are (Searches exception resumption asked rest ∷ below) left l w = handlers_are below None
+  handlers_are (Searches exception resumption asked ∷ below) left l w = handlers_are below None
       tt w.1
   handlers_are (Unwinds rest target ∷ below) left l w = handlers_are below (Some rest) w.0 w.2
 
@@ -99,7 +99,7 @@ module _ (program : LinearProgram) (sets : BodyName → ℕ → SeenNames)
       (sym p.activation) (w.0 x (p.filter k e x s))
   filter_marked marks h k (Waits f ∷ below) e (inr p) w x s = filter_marked marks h k below e p w.1
       x s
-  filter_marked marks h k (Searches exception resumption asked rest ∷ below) e p w x s =
+  filter_marked marks h k (Searches exception resumption asked ∷ below) e p w x s =
       filter_marked marks h k below e p w x s
   filter_marked marks h k (Unwinds rest target ∷ below) e p w x s = filter_marked marks h k below e
       p w x s
@@ -111,14 +111,14 @@ module _ (program : LinearProgram) (sets : BodyName → ℕ → SeenNames)
   aimed h code held [] p = p
   aimed h code held (Waits f ∷ below) (inl p) = inl (record { depth = p.depth; label = p.target })
   aimed h code held (Waits f ∷ below) (inr p) = inr (aimed h code held below p)
-  aimed h code held (Searches exception resumption asked rest ∷ below) p = aimed h code held below p
+  aimed h code held (Searches exception resumption asked ∷ below) p = aimed h code held below p
   aimed h code held (Unwinds rest target ∷ below) p = aimed h code held below p
 
   lower : (t : Target) (items : List Item) → IsTarget program sets t items → t.depth < length items
   lower t [] p = absurd p
   lower t (Waits f ∷ below) (inl p) = let e = p.depth in omega arith
   lower t (Waits f ∷ below) (inr p) = let r = lower t below p in omega arith
-  lower t (Searches exception resumption asked rest ∷ below) p = let r = lower t below p in
+  lower t (Searches exception resumption asked ∷ below) p = let r = lower t below p in
       omega arith
   lower t (Unwinds rest target ∷ below) p = let r = lower t below p in omega arith
 
@@ -139,7 +139,7 @@ module _ (program : LinearProgram) (sets : BodyName → ℕ → SeenNames)
   held_apart t n [] p = p
   held_apart t n (Waits f ∷ below) (inl p) = inl (record { depth = p.depth; label = p.label })
   held_apart t n (Waits f ∷ below) (inr p) = inr (held_apart t n below p)
-  held_apart t n (Searches exception resumption asked rest ∷ below) p = held_apart t n below p
+  held_apart t n (Searches exception resumption asked ∷ below) p = held_apart t n below p
   held_apart t n (Unwinds rest target ∷ below) p = held_apart t n below p
 
   -- a target that has left another activation is where it was

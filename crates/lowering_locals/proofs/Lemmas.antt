@@ -12,4 +12,4 @@ pub use Rattle.lowering_follows.proofs.FuncletNumbers.{counted, count_front, cou
 pub use Rattle.lowering_follows.proofs.Segments.{IsSegmentAt, front, back, whole_is_at}
 pub use Rattle.lowering_invariants.proofs.FirstSeparators.{first_every, function_end}
 pub use Rattle.lowering_invariants.proofs.Moves.{Turn, Halts, Moves, pick_turn, some_turn, deeper_turn, kept}
-pub use Rattle.lowering_invariants.proofs.StackTargets.{same_it, all_map}
+pub use Rattle.lowering_invariants.proofs.StackTargets.{same_it, all_at, all_map}

@@ -2,6 +2,7 @@ mod Lemmas
 pub mod Lists
 pub mod Events
 pub mod TurnPairs
+pub mod Begins
 pub mod Unwinding
 pub mod Steps
 pub mod Alike
@@ -9,9 +10,11 @@ pub mod AlikeFacts
 pub mod AgreementSteps
 pub mod MarkKeeping
 pub mod HandlerSets
+pub mod Covered
 pub mod TurnSets
 pub mod Acts
 pub mod RunSets
+pub mod Beginnings
 pub mod StraightCode
 pub mod ExpressionSets
 pub mod SetLists

@@ -1,5 +1,5 @@
 -- Locals and activations that are alike, when one is set, begins or is left.
-use Rattle.std.proofs.Common.{◌≡◌, ℕ, zero, suc, List, [], ◌∷◌, ◌++◌, length, refl, sym, ap, subst, arith}
+use Rattle.std.proofs.Common.{◌≡◌, ◌≤◌, ℕ, zero, suc, List, [], ◌∷◌, ◌++◌, length, refl, sym, ap, subst, arith}
 use Rattle.std.proofs.lemmas.List.{length-set}
 use Rattle.std.specs.Prelude.{Bool, true, false, slice_get, slice_set, slice_index, take, replicate, Option, Some, None}
 use Rattle.lowering_locals.proofs.Lemmas.{same_it}
@@ -32,7 +32,7 @@ same_local (m ∷ ms) (v ∷ vs) [] x h e = absurd h
 same_local (m ∷ ms) (v ∷ vs) (w ∷ ws) zero h e = same_if m v w (same_it m true e) h.0
 same_local (m ∷ ms) (v ∷ vs) (w ∷ ws) (suc x) h e = same_local ms vs ws x h.1 e
 
-unset_alike : (n : ℕ) (vs ws : List ℕ) → length vs ≡ n → length ws ≡ n
+pub unset_alike : (n : ℕ) (vs ws : List ℕ) → length vs ≡ n → length ws ≡ n
     → AreLocalsAlike (replicate n false) vs ws
 unset_alike zero [] [] e g = tt
 unset_alike zero [] (w ∷ ws) e g = absurd (omega arith)
@@ -55,6 +55,14 @@ locals_in o = elim o [ Some locals ↦ locals | None ↦ [] ]
 
 abbrev pub set_in : List (List ℕ) → ℕ → ℕ → ℕ → List (List ℕ)
 set_in xs k x v = slice_set xs k (slice_set (locals_in (slice_get xs k)) x v)
+
+pub set_long : (xs : List (List ℕ)) (k x v : ℕ) → length (set_in xs k x v) ≡ length xs
+set_long xs k x v = length-set xs k (slice_set (locals_in (slice_get xs k)) x v)
+
+pub taken_fewer : (k : ℕ) (xs : List (List ℕ)) → length (take k xs) ≤ length xs
+taken_fewer zero xs = omega arith
+taken_fewer (suc k) [] = omega arith
+taken_fewer (suc k) (x ∷ xs) = let r = taken_fewer k xs in omega arith
 
 pub as_long : (marks : Marks) (xs ys : List (List ℕ)) → AreActivationsAlike marks xs ys
     → length ys ≡ length xs
@@ -108,7 +116,7 @@ pub set_alive : (marks : Marks) (xs ys : List (List ℕ)) (k x v : ℕ) → Aliv
     (set_in ys k x v)
 set_alive marks xs ys k x v h =
     subst (λ n. AreActivationsAlike (set_mark (take n marks) k x) (set_in xs k x v)
-    (set_in ys k x v)) (sym (length-set xs k (slice_set (locals_in (slice_get xs k)) x v)))
+    (set_in ys k x v)) (sym (set_long xs k x v))
     (set_alike (take (length xs) marks) xs ys k x v h)
 
 pub alive_long : (marks : Marks) (xs ys : List (List ℕ)) → Alive marks xs ys → length ys ≡ length xs

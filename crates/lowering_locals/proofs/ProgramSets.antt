@@ -4,10 +4,10 @@ use Rattle.std.proofs.lemmas.List.{length-map, length-replicate}
 use Rattle.std.proofs.lemmas.Option.{slice_get_within}
 use Rattle.std.specs.Prelude.{true, false, slice_get, replicate, get_or, Option, Some, None}
 use Rattle.lowering_locals.specs.Words.{funclets, IsSound, function_sound, functions_sound, LinearProgram, LinearBody, LinearFunction, LinearFunclet, BodyName, FunctionBody, FuncletBody, funclet_body, body_of, function_body, flag_of, statements_size, Owner, statements_code, SeenNames, IsPart, first_seen, function_within, functions_within, IsScoped, function_locals, locals_at, IsSetBody, IsSetMap, statements_sets, statements_funclet_sets, parameters_seen, function_seen, open_sets, end_size, function_sets, all_funclet_sets, list_of, sets_of}
-use Rattle.c_checked.specs.Program.{Program, Function, weight}
+use Rattle.c_checked.specs.Program.{Program, Function}
 use Rattle.c_checked.specs.Sound as sound
 use Rattle.lowering_locals.proofs.Lemmas.{length_first, open_length, first_every, function_end, Range, part_of, both_parts, no_part, one_part, statements_length, statements_count, IsSegmentAt, front, back, whole_is_at, same_it, both_left, both_right, itself}
-use Rattle.seh_ir.specs.Lowered.{own_locals, all_locals, first_separators, open_code, body_start, scope_of, lowered_function, lowered_funclets, all_funclets, lowered}
+use Rattle.seh_ir.specs.Lowered.{own_locals, all_locals, first_separators, first_count, open_code, body_start, scope_of, lowered_function, lowered_funclets, all_funclets, lowered}
 use Rattle.lowering_invariants.proofs.Lowered.{lowered_is_whole}
 use Rattle.lowering_locals.proofs.RunSets.{set_map_reads_no_unset}
 use Rattle.lowering_locals.specs.ScopedLaws.{ScopedHasSetMap, ScopedReadsNoUnset}
@@ -80,7 +80,7 @@ module _ (program : Program) where
       let seen = function_seen fn in
       let scope = scope_of fn in
       let body = (lowered_function fn).body in
-      let at = weight fn in
+      let at = first_count fn in
       let begin = body_start fn in
       let end = begin + statements_size fn.body in
       let first = replicate at before in

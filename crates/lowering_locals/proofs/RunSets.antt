@@ -1,9 +1,9 @@
 -- Along each run with its marks, what the places of the bodies that run or wait tell has been set.
-use Rattle.std.proofs.Common.{◌≡◌, ℕ, zero, suc, ◌-◌, ◌<◌, ◌≤◌, List, [], ◌∷◌, ◌++◌, length, refl, sym, ap, subst, ◌∙◌, arith, length-append}
-use Rattle.std.proofs.lemmas.List.{length-replicate}
-use Rattle.std.proofs.lemmas.Option.{slice_get_within}
-use Rattle.std.specs.Prelude.{Bool, true, false, slice_get, replicate, drop, ℤ, Option, Some, None}
-use Rattle.lowering_locals.specs.Words.{Slot, Local, Temporary, Instruction, LinearProgram, LinearFunction, BodyName, FunctionBody, FuncletBody, Frame, Item, Waits, Searches, Unwinds, Configuration, is_constant, instruction_at, start, main_arguments, owner_of, IsWhole, owners_of, AreActivations, HasActivations, with_own, WorksOn, AreWorking, Marks, marks_of, first_marks, begins_block, flag_set, local_written, with_mark, marks_left, next_marks, AreActivationsAlike, AreAlike, IsSet, AreOperandsSet, ReadsSet, ComesMarked, start_marks, IsMarked, ReadsNoUnset, SeenNames, function_locals, owner_locals, locals_at, ReadsIn, OperandsIn, Leads, IsSetMap, Marked, AreCovered, IsRecorded, IsGiven, Before, Written, Flag, Passed, IsStep, started_with}
+use Rattle.std.proofs.Common.{◌≡◌, ℕ, zero, suc, ◌-◌, ◌<◌, ◌≤◌, List, [], ◌∷◌, ◌++◌, length, refl, sym, ap, subst, ◌∙◌, arith}
+use Rattle.std.proofs.lemmas.Bool.{lt-ltb}
+use Rattle.std.proofs.lemmas.List.{length-replicate, length-take-le}
+use Rattle.std.specs.Prelude.{Bool, true, false, nat_lt, take, slice_get, replicate, drop, ℤ, Option, Some, None}
+use Rattle.lowering_locals.specs.Words.{Slot, Local, Temporary, Instruction, LinearProgram, LinearFunction, BodyName, FunctionBody, FuncletBody, Frame, Waits, Configuration, is_constant, instruction_at, start, main_arguments, owner_of, IsWhole, owners_of, AreActivations, HasActivations, with_own, WorksOn, Marks, marks_of, first_marks, begins_block, flag_set, local_written, with_mark, activations_left, arguments_passed, function_of_body, begun_marks, marks_left, next_marks, AreActivationsAlike, AreAlike, IsSet, AreOperandsSet, ReadsSet, ComesMarked, start_marks, IsMarked, ReadsNoUnset, SeenNames, function_locals, owner_locals, locals_at, ReadsIn, OperandsIn, Leads, IsSetMap, Marked, IsRecorded, IsGiven, Before, Written, Flag, Passed, IsStep, started_with}
 use Rattle.linear_code.specs.declared.instruction.Instruction.TheVariants as instructions
 use Rattle.lowering_locals.proofs.Lemmas.{same_it, is_parameter}
 use Rattle.lowering_invariants.proofs.TurnActivations.{reached_both}
@@ -12,6 +12,8 @@ use Rattle.lowering_locals.specs.SetLaws.{SetMapReadsNoUnset}
 use Rattle.lowering_locals.proofs.MarkKeeping.{with_keeps, written_marked, with_long, taken_marks, more_keeps, last_marks, first_set, marks_long, own_long, alike_itself}
 use Rattle.lowering_locals.proofs.TurnSets as goes
 use Rattle.lowering_locals.proofs.Acts.{step_of}
+use Rattle.lowering_locals.proofs.Covered.{taken_has, bound, own_grows, covered_next}
+use Rattle.lowering_locals.proofs.Unwinding.{left_fewer}
 
 get_last : {X : Type 0} (xs : List X) (x : X) → slice_get (xs ++ x ∷ []) (length xs) ≡ Some x
 get_last [] x = refl
@@ -47,15 +49,6 @@ module _ (program : LinearProgram) where
   locals_there (j ∷ ks) (a ∷ acts) (suc i) k h e = let r = locals_there ks acts i k h.1 e in
       record { locals = r.locals; there = r.there; count = r.count }
 
-  bound : (name : BodyName) (f : Frame) (owners : List ℕ) → WorksOn program f name owners
-      → f.activation < length (with_own name owners)
-  bound (FunctionBody k) f owners w = let l = length-append owners (k ∷ []) in omega arith
-  bound (FuncletBody k) f owners w = slice_get_within owners f.activation w.0 w.2
-
-  own_grows : (name : BodyName) (owners : List ℕ) → length owners ≤ length (with_own name owners)
-  own_grows (FunctionBody k) owners = let l = length-append owners (k ∷ []) in omega arith
-  own_grows (FuncletBody k) owners = omega arith
-
   own_function : (name : BodyName) (f : Frame) (owners : List ℕ) → WorksOn program f name owners
       → (k : ℕ) × (owner_of program name ≡ Some k)
       × (slice_get (with_own name owners) f.activation ≡ Some k)
@@ -81,39 +74,32 @@ module _ (program : LinearProgram) where
 
   -- ---- marks after a step
 
-  kept_by_call : (o : Option LinearFunction) (count : ℕ) (marks : Marks) (k x : ℕ)
-      → Marked marks k x
-      → Marked (elim o [ Some function ↦ marks ++ first_marks count function ∷ [] | None ↦ marks ])
-      k x
-  kept_by_call None count marks k x e = e
-  kept_by_call (Some function) count marks k x e = more_keeps marks
-      (first_marks count function ∷ []) k x e
+  fewer_left : (i : Instruction) (c : Configuration)
+      → activations_left i c ≤ length c.store.activations
+  fewer_left (instructions.Return from) c = left_fewer c.frame.body c.frame.activation c.store
+  fewer_left i c = omega arith
 
-  left_keeps : (i : Instruction) (d : Configuration) (marks : Marks) (k x : ℕ)
-      → k < length d.store.activations → Marked marks k x
-      → Marked (marks_left program i d marks) k x
-  left_keeps (instructions.Call f first count) d marks k x lt e = kept_by_call
-      (slice_get program.functions f) count marks k x e
-  left_keeps (instructions.Compute to o first second) d marks k x lt e = ap
-      (λ (ms : List Bool). slice_get ms x) (taken_marks (length d.store.activations) marks k lt) ∙ e
-  left_keeps (instructions.Information to field) d marks k x lt e = ap
-      (λ (ms : List Bool). slice_get ms x) (taken_marks (length d.store.activations) marks k lt) ∙ e
-  left_keeps (instructions.Jump to) d marks k x lt e = ap (λ (ms : List Bool). slice_get ms x)
-      (taken_marks (length d.store.activations) marks k lt) ∙ e
-  left_keeps (instructions.JumpIfZero slot to) d marks k x lt e = ap
-      (λ (ms : List Bool). slice_get ms x) (taken_marks (length d.store.activations) marks k lt) ∙ e
-  left_keeps (instructions.CallBuiltIn f first) d marks k x lt e = ap
-      (λ (ms : List Bool). slice_get ms x) (taken_marks (length d.store.activations) marks k lt) ∙ e
-  left_keeps (instructions.CallFinally j) d marks k x lt e = ap (λ (ms : List Bool). slice_get ms x)
-      (taken_marks (length d.store.activations) marks k lt) ∙ e
-  left_keeps (instructions.LocalUnwind to) d marks k x lt e = ap
-      (λ (ms : List Bool). slice_get ms x) (taken_marks (length d.store.activations) marks k lt) ∙ e
-  left_keeps (instructions.Landing to) d marks k x lt e = ap (λ (ms : List Bool). slice_get ms x)
-      (taken_marks (length d.store.activations) marks k lt) ∙ e
-  left_keeps instructions.Separator d marks k x lt e = ap (λ (ms : List Bool). slice_get ms x)
-      (taken_marks (length d.store.activations) marks k lt) ∙ e
-  left_keeps (instructions.Return from) d marks k x lt e = ap (λ (ms : List Bool). slice_get ms x)
-      (taken_marks (length d.store.activations) marks k lt) ∙ e
+  left_keeps : (i : Instruction) (c d : Configuration) (marks : Marks) (k x : ℕ)
+      → k < length d.store.activations → Marked (take (activations_left i c) marks) k x
+      → Marked (marks_left program i c d marks) k x
+  left_keeps i c d marks k x lt e = of (nat_lt left live) (function_of_body program d.frame.body)
+    where
+      left : ℕ
+      left = activations_left i c
+
+      live : ℕ
+      live = length d.store.activations
+
+      lasting : Marked (take live marks) k x
+      lasting = ap (λ (ms : List Bool). slice_get ms x) (taken_marks live marks k lt)
+          ∙ taken_has left marks k x e
+
+      of : (b : Bool) (o : Option LinearFunction)
+          → Marked (begun_marks b o (arguments_passed i) left live marks) k x
+      of true (Some function) = more_keeps (take left marks)
+          (first_marks (arguments_passed i) function ∷ []) k x e
+      of true None = lasting
+      of false o = lasting
 
   -- the flag that a step sets, and the marks before it does
   abbrev flag_by : Configuration → Configuration → Option ℕ
@@ -121,28 +107,29 @@ module _ (program : LinearProgram) where
 
   abbrev before_flag : Instruction → Configuration → Configuration → Marks → Marks
   before_flag i c d marks = with_mark (local_written program i c) c.frame.activation
-      (marks_left program i d marks)
+      (marks_left program i c d marks)
 
   next_keeps : (i : Instruction) (c d : Configuration) (marks : Marks) (k x : ℕ)
-      → k < length d.store.activations → Marked marks k x
+      → k < length d.store.activations → Marked (take (activations_left i c) marks) k x
       → Marked (next_marks program i c d marks) k x
   next_keeps i c d marks k x lt e = with_keeps (flag_by c d) (before_flag i c d marks)
-      d.frame.activation k x (with_keeps (local_written program i c) (marks_left program i d marks)
-      c.frame.activation k x (left_keeps i d marks k x lt e))
+      d.frame.activation k x (with_keeps (local_written program i c)
+      (marks_left program i c d marks) c.frame.activation k x (left_keeps i c d marks k x lt e))
 
   module _ (sets : BodyName → ℕ → SeenNames) where
     given_marked : (marks : Marks) (i : Instruction) (c d : Configuration) (x : ℕ)
         → d.frame.activation < length d.store.activations
         → length (marks_of (next_marks program i c d marks) d.frame.activation)
         ≡ locals_at program d.frame.body
-        → length marks ≡ length c.store.activations → IsGiven program sets marks i c d x
+        → length marks ≡ length c.store.activations
+        → IsGiven program sets (take (activations_left i c) marks) i c d x
         → Marked (next_marks program i c d marks) d.frame.activation x
     given_marked marks i c d x lt long same (Before e) = next_keeps i c d marks d.frame.activation x
         lt e
     given_marked marks i c d x lt long same (Written a e room) =
         let k = d.frame.activation in
         let writes = local_written program i c in
-        let left = marks_left program i d marks in
+        let left = marks_left program i c d marks in
         let p = with_long (flag_by c d) (before_flag i c d marks) k k in
         let q = with_long writes left c.frame.activation k in
         with_keeps (flag_by c d) (before_flag i c d marks) k k x
@@ -152,57 +139,50 @@ module _ (program : LinearProgram) where
         let k = d.frame.activation in
         let p = with_long (flag_by c d) (before_flag i c d marks) k k in
         written_marked (flag_by c d) (before_flag i c d marks) k x e (omega arith)
-    given_marked marks i c d x lt long same (Passed f first count function e g a room) =
+    given_marked marks i c d x lt long same (Passed f function b g a room) =
         let k = d.frame.activation in
-        let place : k ≡ length marks = a ∙ sym same in
-        let begun : marks_of (marks ++ first_marks count function ∷ []) k
-        ≡ first_marks count function = ap (marks_of (marks ++ first_marks count function ∷ []))
-        place ∙ last_marks marks (first_marks count function) in
-        let set : Marked (marks ++ first_marks count function ∷ []) k x = ap
+        let left = activations_left i c in
+        let live = length d.store.activations in
+        let count = arguments_passed i in
+        let few = fewer_left i c in
+        let old : length (take left marks) ≡ left = length-take-le left marks (omega arith) in
+        let place : k ≡ length (take left marks) = a ∙ sym old in
+        let own = first_marks count function in
+        let begun : marks_of (take left marks ++ own ∷ []) k ≡ own =
+        ap (marks_of (take left marks ++ own ∷ [])) place ∙ last_marks (take left marks) own in
+        let set : Marked (take left marks ++ own ∷ []) k x = ap
         (λ (ms : List Bool). slice_get ms x) begun
         ∙ first_set count (replicate (function.body.locals - function.parameters) false) x room in
-        let called : Marked (marks_left program (instructions.Call f first count) d marks) k x =
-        subst (λ o. Marked (elim o [
-          | Some function ↦ marks ++ first_marks count function
-              ∷ []
-          | None ↦ marks
-        ]) k x) (sym g) set in
+        let more : nat_lt left live ≡ true = lt-ltb left live (omega arith) in
+        let found : function_of_body program d.frame.body ≡ Some function =
+        ap (function_of_body program) b ∙ g in
+        let called : Marked (marks_left program i c d marks) k x =
+        subst (λ t. Marked (begun_marks t (function_of_body program d.frame.body) count left live
+        marks) k x) (sym more)
+        (subst (λ o. Marked (begun_marks true o count left live marks) k x) (sym found) set) in
         with_keeps (flag_by c d) (before_flag i c d marks) k k x
-        (with_keeps (local_written program i c) (marks_left program i d marks) c.frame.activation
-        k x (subst (λ n. Marked (marks_left program n d marks) k x) (sym e) called))
-
-    covered_next : (marks next : Marks) (items : List Item) (n : ℕ) → AreWorking program items
-        → length (owners_of items) ≤ n → ((k x : ℕ) → k < n → Marked marks k x → Marked next k x)
-        → AreCovered program sets marks items → AreCovered program sets next items
-    covered_next marks next [] n h le keeps w = tt
-    covered_next marks next (Waits f ∷ below) n h le keeps w =
-        let b = bound f.body f (owners_of below) h.0 in
-        let g = own_grows f.body (owners_of below) in (
-          (λ x q. keeps f.activation x (omega arith) (w.0 x q)),
-          covered_next marks next below n h.1 (omega arith) keeps w.1,
-        )
-    covered_next marks next (Searches exception resumption asked rest ∷ below) n h le keeps w =
-        covered_next marks next below n h le keeps w
-    covered_next marks next (Unwinds rest target ∷ below) n h le keeps w = covered_next marks next
-        below n h le keeps w
+        (with_keeps (local_written program i c) (marks_left program i c d marks) c.frame.activation
+        k x called)
 
     next_recorded : (marks : Marks) (i : Instruction) (c d : Configuration)
         → HasActivations program d → AreActivationsAlike marks c.store.activations
         c.store.activations
         → AreActivationsAlike (next_marks program i c d marks) d.store.activations
-        d.store.activations → IsStep program sets marks i c d
+        d.store.activations
+        → IsStep program sets (take (activations_left i c) marks) i c d
         → IsRecorded program sets (next_marks program i c d marks) d
     next_recorded marks i c d h m n s =
         let all = owners_of (Waits d.frame ∷ d.below) in
         let count = as_many all d.store.activations h.stored in
-        let b = bound d.frame.body d.frame (owners_of d.below) h.working.0 in
-        let g = own_grows d.frame.body (owners_of d.below) in
+        let b = bound program d.frame.body d.frame (owners_of d.below) h.working.0 in
+        let g = own_grows program d.frame.body (owners_of d.below) in
         let l = as_long (next_marks program i c d marks) d h n in
         let same = marks_long marks c.store.activations c.store.activations m in
         record {
           marked = n;
           running = λ x q. given_marked marks i c d x (omega arith) l same (s.running x q);
-          waiting = covered_next marks (next_marks program i c d marks) d.below
+          waiting = covered_next program sets (take (activations_left i c) marks)
+              (next_marks program i c d marks) d.below
               (length d.store.activations) h.working.1 (omega arith)
               (λ k x lt e. next_keeps i c d marks k x lt e) s.waiting;
           kept = s.kept;
@@ -264,6 +244,7 @@ module _ (program : LinearProgram) (whole : IsWhole program) (sets : BodyName �
         frame = refl;
         below = refl;
         memory = refl;
+        handlers = refl;
         events = refl;
         activations = w.marked;
       } in
@@ -273,7 +254,8 @@ module _ (program : LinearProgram) (whole : IsWhole program) (sets : BodyName �
       let alike = alike_itself next e.store.activations other.0.store.activations
       other.1.alike.activations in
       along n e next d ends m' (next_recorded program sets marks turn.instruction c e after.1
-      w.marked alike (step_of program whole sets recorded marks c e before.0 w turn)) h.2
+      w.marked alike (step_of program whole sets recorded marks c e before.0 before.1 w
+      turn)) h.2
 
   begun_with : (arg : ℤ) (n : ℕ) → n ≤ 1 → length (main_arguments n arg) ≡ n
   begun_with arg zero h = refl

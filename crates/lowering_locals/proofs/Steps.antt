@@ -1,23 +1,26 @@
 -- An instruction that reads locals alone that have been set goes alike whatever the other locals
 -- are.
-use Rattle.std.proofs.Common.{◌≡◌, ℕ, ◌+◌, ◌-◌, List, [], ◌∷◌, ◌++◌, length, refl, sym, ap, subst, ◌∙◌, arith}
+use Rattle.std.proofs.Common.{◌≡◌, ◌≤◌, ℕ, ◌+◌, ◌-◌, List, [], ◌∷◌, ◌++◌, length, refl, sym, ap, subst, ◌∙◌, arith}
 use Rattle.std.proofs.lemmas.List.{length-drop, length-replicate}
-use Rattle.std.specs.Prelude.{Bool, true, false, nat_eq, take, drop, get_or, replicate, slice_get, if◌then◌else◌, Option, Some, None}
+use Rattle.std.specs.Prelude.{Bool, true, false, not, nat_eq, nat_lt, take, drop, get_or, replicate, slice_get, if◌then◌else◌, Option, Some, None}
 use Rattle.std.specs.Prelude.{is_some}
 use Rattle.linear_code.specs.Program.{depth_weight}
-use Rattle.lowering_locals.specs.Words.{Event, W32, W64, signed, BuiltIn, Put, Protect, RaiseException, Walk, Operation, OperationResult, Gives, Raises, Undefined, performed, is_reserved, of_test, field_of, raised, no_exception, Slot, Local, Temporary, Instruction, LinearProgram, LinearFunction, FunctionBody, Item, Waits, AfterCall, SameOperation, Store, Configuration, Seen, Finished, Stuck, Next, pick, with_some, deeper, read, with_temporary, with_temporaries, last_temporaries, set_local, at_label, forth, with_last, is_constant, operand, written, computed, tested, waiting, begin_function, count_of, built_in, end_body, not_landed, act, Marks, flag_set, with_mark, first_marks, outcome_of, local_in, local_given, marks_left, next_marks, AreActivationsAlike, AreLocalsAlike, IsSet, AreOperandsSet, ReadsSet}
+use Rattle.lowering_locals.specs.Words.{Event, W32, W64, low, signed, BuiltIn, Put, Protect, RaiseException, Walk, AddVectored, RemoveVectored, Operation, OperationResult, Gives, Raises, Undefined, performed, is_reserved, of_test, field_of, raised, Slot, Local, Temporary, Instruction, LinearProgram, LinearFunction, FunctionBody, Item, Waits, AfterCall, SameOperation, Store, Configuration, Seen, Finished, Stuck, Next, pick, with_some, deeper, read, with_temporary, with_temporaries, last_temporaries, set_local, at_label, forth, with_last, is_constant, operand, written, computed, tested, waiting, begin_function, count_of, built_in, end_body, not_landed, act, Marks, flag_set, with_mark, left_store, begun_marks, outcome_of, local_in, local_given, marks_left, next_marks, AreActivationsAlike, IsSet, AreOperandsSet, ReadsSet}
 use Rattle.seh_num.specs.declared.event.Event.TheVariants as events
 use Rattle.flat_memory.specs.Memory.{protected, rights_asked}
 use Rattle.source_meaning.specs.declared.ended.Ended.TheVariants as ends
 use Rattle.linear_code.specs.declared.instruction.Instruction.TheVariants as instructions
 use Rattle.lowering_locals.proofs.Lemmas.{same_it}
 use Rattle.lowering_invariants.proofs.Ready.{last_are}
-use Rattle.lowering_locals.proofs.Lists.{set_in, Alive, same_read, as_long, one_more, begun_alike, whole_alive, set_alive}
+use Rattle.lowering_locals.proofs.Lists.{set_in, set_long, Alive, same_read, as_long, whole_alive, set_alive}
+use Rattle.lowering_locals.proofs.Begins.{begun_in, begun_after}
 use Rattle.lowering_locals.proofs.Events.{Adds, adds_none, adds_one, adds_all, walk_is_no_block, no_block_events}
 use Rattle.linear_machine.specs.Frames.{functions_in}
 use Rattle.source_meaning.specs.State.{walk_events}
 use Rattle.lowering_locals.proofs.TurnPairs.{over_store, over, Both, Halt, Move, pick_both, some_both, deeper_both}
-use Rattle.lowering_locals.proofs.Unwinding.{AfterWrite, After, no_block_after, goes, block_both, unwind_both, raise_both, end_both}
+use Rattle.lowering_locals.proofs.Unwinding.{AfterWrite, After, Lives, All, living, no_block_after, goes, block_both, unwind_both, raise_both, end_both}
+use Rattle.vectored_list.specs.Lists.{is_listed, can_be_added, added, removed}
+use Rattle.linear_machine.specs.Instructions.{with_handlers}
 
 -- ---- arguments
 
@@ -35,78 +38,101 @@ last_count ts first count vs e =
 
 -- ---- results
 
-module _ (program : LinearProgram) (marks : Marks) (before : List Event) where
+module _ (program : LinearProgram) (marks : Marks) (before : List Event) (left : ℕ) where
+  abbrev Living : List (List ℕ) → List (List ℕ) → Type 0
+  Living xs ys = Lives program marks before left xs ys
+
+  abbrev AllLiving : List (List ℕ) → List (List ℕ) → Type 0
+  AllLiving xs ys = All program marks before left xs ys
+
   stored_both : (k : ℕ) (b : Configuration) (ys : List (List ℕ)) (o : Option (List ℕ))
-      → Adds before b.events → Alive marks b.store.activations ys
-      → Both (AfterWrite program marks before None k)
+      → Adds before b.events → Living b.store.activations ys
+      → Both (AfterWrite program marks before left None k)
       (λ next. with_some b.events (with_temporaries b o) (λ d. next (forth d)))
       (λ next. with_some b.events (with_temporaries (over b ys) o) (λ d. next (forth d)))
   unfolding with_some
   stored_both k b ys None a h = Halt (Stuck b.events) (λ next. refl) (λ next. refl)
-  stored_both k b ys (Some ts) a h = goes program marks before (forth (with_last ts b)) ys a h
+  stored_both k b ys (Some ts) a h = goes program marks before left (forth (with_last ts b)) ys a h
 
   written_both : (b : Configuration) (ys : List (List ℕ)) (to : Slot) (v : ℕ) → Adds before b.events
-      → Alive marks b.store.activations ys
-      → Both (AfterWrite program marks before (local_in to) b.frame.activation)
+      → Living b.store.activations ys
+      → Both (AfterWrite program marks before left (local_in to) b.frame.activation)
       (λ next. written b to v next) (λ next. written (over b ys) to v next)
   unfolding with_some
   written_both b ys (Local x) v a h =
       let k = b.frame.activation in
       let d : Configuration = forth (record b { store = set_local b.store k x v }) in
-      Move d (set_in ys k x v) (no_block_after program marks before (Some x) k d (set_in ys k x v) a
-      (set_alive marks b.store.activations ys k x v h)) (λ next. refl) (λ next. refl)
+      let few : length d.store.activations ≤ left = subst (λ n. n ≤ left)
+      (sym (set_long b.store.activations k x v)) h.1 in
+      Move d (set_in ys k x v)
+      (no_block_after program marks before left (Some x) k d (set_in ys k x v) a few
+      (set_alive marks b.store.activations ys k x v h.0)) (λ next. refl) (λ next. refl)
   written_both b ys (Temporary i) v a h = stored_both b.frame.activation b ys
       (with_temporary b.frame.temporaries i v) a h
 
   computed_both : (c : Configuration) (ys : List (List ℕ)) (to : Slot) (r : OperationResult)
-      → Adds before c.events → Alive marks c.store.activations ys
-      → Both (AfterWrite program marks before (local_given (Some r) to) c.frame.activation)
+      → Adds before c.events → AllLiving c.store.activations ys
+      → Both (AfterWrite program marks before left (local_given (Some r) to) c.frame.activation)
       (λ next. computed program next to c r) (λ next. computed program next to (over c ys) r)
   computed_both c ys to (Gives v memory) a h = written_both
-      (record c { store = record c.store { memory = memory } }) ys to v a h
-  computed_both c ys to (Raises code access) a h = raise_both program marks before
+      (record c { store = record c.store { memory = memory } }) ys to v a
+      (living program marks before left c.store.activations ys h)
+  computed_both c ys to (Raises code access) a h = raise_both program marks before left
       (record { code = code.0; flag = false; access = access }) SameOperation c ys a h
   computed_both c ys to (Undefined n) a h = Halt (Finished (ends.Undefined n) c.events)
       (λ next. refl) (λ next. refl)
 
   built_in_both : (c : Configuration) (ys : List (List ℕ)) (k : BuiltIn) (vs : List ℕ)
-      → Adds before c.events → Alive marks c.store.activations ys
-      → Both (After program marks before) (λ next. built_in program next k vs c)
+      → Adds before c.events → AllLiving c.store.activations ys
+      → Both (After program marks before left) (λ next. built_in program next k vs c)
       (λ next. built_in program next k vs (over c ys))
   built_in_both c ys Put vs a h =
       let e = events.Put (signed W64 (get_or vs 0 0)) in
-      goes program marks before (forth (with_last (c.frame.temporaries ++ 0 ∷ [])
-      (record c { events = c.events ++ e ∷ [] }))) ys (adds_one before c.events e a refl) h
+      goes program marks before left (forth (with_last (c.frame.temporaries ++ 0 ∷ [])
+      (record c { events = c.events ++ e ∷ [] }))) ys (adds_one before c.events e a refl)
+      (living program marks before left c.store.activations ys h)
   built_in_both c ys Protect vs a h =
       let n = get_or vs 0 0 in
       let number = signed W32 (get_or vs 1 0) in
-      goes program marks before (forth (with_last
+      goes program marks before left (forth (with_last
       (c.frame.temporaries ++ of_test (is_some (rights_asked n number)) ∷ [])
       (record c { store = record c.store { memory = protected c.store.memory n number } }))) ys a
-      h
-  built_in_both c ys RaiseException vs a h = raise_both program marks before
+      (living program marks before left c.store.activations ys h)
+  built_in_both c ys RaiseException vs a h = raise_both program marks before left
       (raised (get_or vs 0 0) (get_or vs 1 0)) AfterCall c ys a h
   built_in_both c ys Walk vs a h =
       let functions = functions_in (Waits c.frame ∷ c.below) in
-      goes program marks before (forth (with_last (c.frame.temporaries ++ 0 ∷ [])
+      goes program marks before left (forth (with_last (c.frame.temporaries ++ 0 ∷ [])
       (record c { events = c.events ++ walk_events functions }))) ys
-      (adds_all before c.events (walk_events functions) a (walk_is_no_block functions)) h
+      (adds_all before c.events (walk_events functions) a (walk_is_no_block functions))
+      (living program marks before left c.store.activations ys h)
+  built_in_both c ys (AddVectored f) vs a h =
+      let fs = c.store.vectored in
+      goes program marks before left (forth (with_last
+      (c.frame.temporaries ++ of_test (can_be_added f fs) ∷ [])
+      (with_handlers (added (not (nat_eq (low W32 (get_or vs 0 0)) 0)) f fs) c))) ys a
+      (living program marks before left c.store.activations ys h)
+  built_in_both c ys (RemoveVectored f) vs a h =
+      let fs = c.store.vectored in
+      goes program marks before left (forth (with_last
+      (c.frame.temporaries ++ of_test (is_listed f fs) ∷ []) (with_handlers (removed f fs) c))) ys
+      a (living program marks before left c.store.activations ys h)
 
   both_ways : (c : Configuration) (ys : List (List ℕ)) (label v : ℕ) → Adds before c.events
-      → Alive marks c.store.activations ys
-      → Both (After program marks before) (λ next. pick (nat_eq v 0) (next (at_label label c))
+      → Living c.store.activations ys
+      → Both (After program marks before left) (λ next. pick (nat_eq v 0) (next (at_label label c))
       (next (forth c))) (λ next. pick (nat_eq v 0) (next (at_label label (over c ys)))
       (next (forth (over c ys))))
   both_ways c ys label v a h =
-      pick_both (After program marks before) (nat_eq v 0) (λ next. next (at_label label c))
+      pick_both (After program marks before left) (nat_eq v 0) (λ next. next (at_label label c))
       (λ next. next (forth c)) (λ next. next (at_label label (over c ys)))
       (λ next. next (forth (over c ys)))
-      (goes program marks before (at_label label c) ys a h)
-      (goes program marks before (forth c) ys a h)
+      (goes program marks before left (at_label label c) ys a h)
+      (goes program marks before left (forth c) ys a h)
 
   tested_both : (c : Configuration) (ys : List (List ℕ)) (slot : Slot) (label v : ℕ)
-      → Adds before c.events → Alive marks c.store.activations ys
-      → Both (After program marks before) (λ next. pick (nat_eq v 0)
+      → Adds before c.events → Living c.store.activations ys
+      → Both (After program marks before left) (λ next. pick (nat_eq v 0)
       (next (at_label label (tested slot c))) (next (forth (tested slot c))))
       (λ next. pick (nat_eq v 0) (next (at_label label (tested slot (over c ys))))
       (next (forth (tested slot (over c ys)))))
@@ -115,23 +141,6 @@ module _ (program : LinearProgram) (marks : Marks) (before : List Event) where
       ys label v a h
 
 -- ---- calls
-
--- a function begins in this activation
-abbrev begun_in : ℕ → ℕ → ℕ → List Item → Store → List Event → Configuration
-begun_in n f held below store es = record {
-  frame = record {
-    body = FunctionBody f;
-    next = 0;
-    activation = n;
-    exception = no_exception;
-    held = held;
-    temporaries = [];
-    landed = None;
-  };
-  below = below;
-  store = store;
-  events = es;
-}
 
 module _ (program : LinearProgram) (marks : Marks) (c : Configuration) (ys : List (List ℕ))
     (h : AreActivationsAlike marks c.store.activations ys) where
@@ -151,26 +160,23 @@ module _ (program : LinearProgram) (marks : Marks) (c : Configuration) (ys : Lis
       (begin_function f function arguments c.frame.held below c.store c.events)
       (ys ++ (arguments ++ values) ∷ [])
   called_alike f first count function arguments values below e g n =
+      let xs = c.store.activations in
       let zs = zeros function in
+      let xs' = xs ++ (arguments ++ zs) ∷ [] in
+      let ys' = ys ++ (arguments ++ values) ∷ [] in
       let d : Configuration = begin_function f function arguments c.frame.held below c.store
       c.events in
-      let k = c.store.activations in
-      let rest = function.body.locals - function.parameters in
-      let locals : AreLocalsAlike (replicate (length arguments) true ++ replicate rest false)
-      (arguments ++ zs) (arguments ++ values) =
-      begun_alike arguments zs values rest (length-replicate rest 0) n in
-      let made : AreActivationsAlike (marks ++ first_marks count function ∷ [])
-      (k ++ (arguments ++ zs) ∷ []) (ys ++ (arguments ++ values) ∷ []) =
-      one_more marks k ys (first_marks count function) (arguments ++ zs) (arguments ++ values) h
-      (subst (λ j. AreLocalsAlike (replicate j true ++ replicate rest false) (arguments ++ zs)
-      (arguments ++ values)) (last_count c.frame.temporaries first count arguments e) locals) in
-      subst (λ b. AreActivationsAlike (with_mark (flag_set program b (FunctionBody f)) (length k)
-      (marks_left program (instructions.Call f first count) d marks))
-      (k ++ (arguments ++ zs) ∷ []) (ys ++ (arguments ++ values) ∷ []))
+      let i = instructions.Call f first count in
+      let long = length-replicate (function.body.locals - function.parameters) 0 in
+      subst (λ b. AreActivationsAlike (with_mark (flag_set program b (FunctionBody f)) (length xs)
+      (marks_left program i c d marks)) xs' ys')
       (sym (no_block_events c.events c.events (adds_none c.events)))
       (subst (λ (o : Option LinearFunction). AreActivationsAlike
-      (elim o [ Some function ↦ marks ++ first_marks count function ∷ [] | None ↦ marks ])
-      (k ++ (arguments ++ zs) ∷ []) (ys ++ (arguments ++ values) ∷ [])) (sym g) made)
+      (begun_marks (nat_lt (length xs) (length xs')) o count (length xs) (length xs') marks) xs'
+      ys') (sym g)
+      (begun_after function (length xs) marks xs ys arguments zs values count
+      (last_count c.frame.temporaries first count arguments e) long n
+      (whole_alive marks xs ys h) refl))
 
   call_both : (f first count : ℕ) (function : LinearFunction) (arguments : List ℕ)
       → last_temporaries c.frame.temporaries first count ≡ Some arguments
@@ -214,8 +220,18 @@ module _ (program : LinearProgram) (marks : Marks) (c : Configuration) (ys : Lis
 
   -- ---- an instruction
 
+  -- what an instruction leaves that ends no body
+  abbrev live : ℕ
+  live = length c.store.activations
+
   alive : Alive marks c.store.activations ys
   alive = whole_alive marks c.store.activations ys h
+
+  all : All program marks c.events live c.store.activations ys
+  all = (alive, refl)
+
+  lives : Lives program marks c.events live c.store.activations ys
+  lives = living program marks c.events live c.store.activations ys all
 
   adds : Adds c.events c.events
   adds = adds_none c.events
@@ -244,25 +260,26 @@ module _ (program : LinearProgram) (marks : Marks) (c : Configuration) (ys : Lis
       ≡ Some (performed (is_reserved program.globals) o a b memory) =
       ap (λ z. outcome_of program o z y memory) e
       ∙ ap (λ z. outcome_of program o (Some a) z memory) g in
-      subst (λ z. Both (AfterWrite program marks c.events (local_given z to) c.frame.activation)
+      subst (λ z. Both
+      (AfterWrite program marks c.events live (local_given z to) c.frame.activation)
       (λ next. done c next a b) (λ next. done (over c ys) next a b)) (sym r)
-      (computed_both program marks c.events c ys to
-      (performed (is_reserved program.globals) o a b memory) adds alive)))
+      (computed_both program marks c.events live c ys to
+      (performed (is_reserved program.globals) o a b memory) adds all)))
 
   pub act_both : (i : Instruction) → ReadsSet marks c i
       → Both (Led i) (λ next. act program i next c) (λ next. act program i next (over c ys))
   act_both (instructions.Compute to o first second) s = compute_both to o first second s
-  act_both (instructions.Information to field) s = written_both program marks c.events c ys to
-      (field_of field c.frame.exception) adds alive
-  act_both (instructions.Jump label) s = goes program marks c.events (at_label label c) ys adds
-      alive
+  act_both (instructions.Information to field) s = written_both program marks c.events live c ys to
+      (field_of field c.frame.exception) adds lives
+  act_both (instructions.Jump label) s =
+      goes program marks c.events live (at_label label c) ys adds lives
   act_both (instructions.JumpIfZero slot label) s =
-      some_both (After program marks c.events) c.events (read c slot) (read (over c ys) slot)
+      some_both (After program marks c.events live) c.events (read c slot) (read (over c ys) slot)
       (λ next v. pick (nat_eq v 0) (next (at_label label (tested slot c)))
       (next (forth (tested slot c))))
       (λ next v. pick (nat_eq v 0) (next (at_label label (tested slot (over c ys))))
       (next (forth (tested slot (over c ys))))) (read_same slot s) (λ v e.
-      tested_both program marks c.events c ys slot label v adds alive)
+      tested_both program marks c.events live c ys slot label v adds lives)
   act_both (instructions.Call f first count) s =
       let R = Led (instructions.Call f first count) in
       let begin : LinearFunction → List ℕ → Store
@@ -286,26 +303,27 @@ module _ (program : LinearProgram) (marks : Marks) (c : Configuration) (ys : Lis
       (call_both f first count function arguments e g)))
   act_both (instructions.CallBuiltIn k first) s =
       let vs = last_temporaries c.frame.temporaries first (count_of k) in
-      some_both (After program marks c.events) c.events vs vs
+      some_both (After program marks c.events live) c.events vs vs
       (λ next vs. built_in program next k vs (waiting c first))
       (λ next vs. built_in program next k vs (waiting (over c ys) first)) refl (λ vs e.
-      built_in_both program marks c.events (waiting c first) ys k vs adds alive)
-  act_both (instructions.CallFinally k) s = block_both program marks c.events k c.frame.held false
-      (Waits c.frame ∷ c.below) c ys adds alive
+      built_in_both program marks c.events live (waiting c first) ys k vs adds all)
+  act_both (instructions.CallFinally k) s = block_both program marks c.events live k c.frame.held
+      false (Waits c.frame ∷ c.below) c ys adds lives
   act_both (instructions.LocalUnwind label) s =
-      unwind_both program marks c.events (record
+      unwind_both program marks c.events live (record
       { depth = length c.below; label = label; code = None; held = c.frame.held })
-      (Waits c.frame ∷ c.below) None c.events c.store ys adds alive
+      (Waits c.frame ∷ c.below) None c.events c.store ys adds lives
   act_both (instructions.Landing to) s =
-      some_both (AfterWrite program marks c.events (local_in to) c.frame.activation) c.events
+      some_both (AfterWrite program marks c.events live (local_in to) c.frame.activation) c.events
       c.frame.landed c.frame.landed
       (λ next code. written (not_landed c) to code next)
       (λ next code. written (not_landed (over c ys)) to code next) refl (λ code e.
-      written_both program marks c.events (not_landed c) ys to code adds alive)
-  act_both instructions.Separator s = goes program marks c.events (forth (with_last [] c)) ys adds
-      alive
+      written_both program marks c.events live (not_landed c) ys to code adds lives)
+  act_both instructions.Separator s =
+      goes program marks c.events live (forth (with_last [] c)) ys adds lives
   act_both (instructions.Return from) s =
-      some_both (After program marks c.events) c.events (read c from) (read (over c ys) from)
+      let left = length (left_store c.frame.body c.frame.activation c.store).activations in
+      some_both (After program marks c.events left) c.events (read c from) (read (over c ys) from)
       (λ next v. end_body program next c.frame.body v c)
       (λ next v. end_body program next c.frame.body v (over c ys)) (read_same from s) (λ v e.
-      end_both program marks c.events c.frame.body v c ys adds alive)
+      end_both program marks c.events left c.frame.body v c ys adds alive refl refl)

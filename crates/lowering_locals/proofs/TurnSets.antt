@@ -2,14 +2,15 @@
 use Rattle.std.proofs.Common.{◌≡◌, inl, inr, ℕ, ◌+◌, ◌^◌, ◌<◌, ◌⊎◌, List, [], ◌∷◌, ◌++◌, length, refl, sym, ap, subst, ◌∙◌}
 use Rattle.std.proofs.lemmas.Bool.{eqb-true, eqb-false}
 use Rattle.std.specs.Prelude.{Bool, true, false, nat_eq, nat_lt, slice_get, drop, Option, Some, None}
-use Rattle.lowering_locals.specs.Words.{Event, W32, low, signed, RaiseException, Exception, noncontinuable, raise_event, Instruction, Region, RegionKind, FuncletKind, LinearProgram, LinearBody, BodyName, FunctionBody, FuncletBody, body_of, Frame, Handler, Target, Resumption, AfterCall, SameOperation, Item, Waits, Searches, Unwinds, Store, Configuration, Seen, Finished, Stuck, Next, at_label, regions_at, regions_left, handlers, stops, flag_of, begin_finally, run_finally, arrive, target_past, left_store, leave_region, unwind_body, unwind, target_of, accept, consult, search, raise, resumed, answer, return, end_finally, end_funclet, end_body, instruction_in, Marks, flag_set, begins_block, IsPart, with_flag, locals_at, FinallyBegins, Leads, Guards, IsSetMap, Marked, here, IsHandler, IsTarget, AreRegions, AreHandlers, AreKept, AreCovered, IsGiven, Before, Flag, IsStep, IsCovered, IsAt, IsAbove, IsCalledBy, IsRunFor, IsRaisedIn, AreWaiting}
+use Rattle.lowering_locals.specs.Words.{Event, W32, low, signed, RaiseException, Exception, noncontinuable, raise_event, Instruction, Region, RegionKind, FuncletKind, LinearProgram, LinearBody, LinearFunction, BodyName, FunctionBody, FuncletBody, body_of, Frame, Handler, Target, Resumption, AfterCall, SameOperation, FilterOf, VectoredAt, Item, Waits, Searches, Unwinds, Store, Configuration, Seen, Finished, Stuck, Next, at_label, regions_at, regions_left, handlers, stops, flag_of, begin_finally, run_finally, arrive, target_past, left_store, leave_region, unwind_body, unwind, target_of, accept, consult, search, ask_at, ask_from, raise, resumed, continued, answer, return, end_finally, end_funclet, end_body, instruction_in, Marks, flag_set, activations_left, arguments_passed, begins_block, IsPart, with_flag, locals_at, FinallyBegins, Leads, Guards, IsSetMap, Marked, here, IsHandler, IsTarget, AreRegions, AreHandlers, AreKept, AreCovered, IsGiven, Before, Flag, Passed, IsStep, IsCovered, IsAt, IsAbove, IsCalledBy, IsRunFor, IsRaisedIn, AreWaiting, IsAskable, CanBeAsked, IsCallee}
 use Rattle.seh_num.specs.declared.event.Event.TheVariants as events
 use Rattle.source_meaning.specs.declared.ended.Ended.TheVariants as ends
 use Rattle.linear_code.specs.declared.instruction.Instruction.TheVariants as instructions
 use Rattle.linear_code.specs.declared.program.RegionKind.TheVariants as kinds
 use Rattle.linear_code.specs.declared.program.FuncletKind.TheVariants as funclets
+use Rattle.linear_code.specs.Program.{depth_weight}
 use Rattle.lowering_follows.proofs.SoundExpressions.{both_left}
-use Rattle.lowering_locals.proofs.Lemmas.{Turn, Halts, Moves, pick_turn, some_turn, deeper_turn, seen_cases}
+use Rattle.lowering_locals.proofs.Lemmas.{Turn, Halts, Moves, pick_turn, some_turn, deeper_turn, seen_cases, same_it, all_at, is_parameter}
 use Rattle.lowering_locals.proofs.Events.{Adds, adds_one, block_events}
 use Rattle.c_checked.specs.LocalScopes.{SeenNames as SeenLocals}
 use Rattle.lowering_locals.proofs.HandlerSets.{Left, left_are, handlers_are, filter_marked, aimed, reached, further, past_target}
@@ -142,7 +143,7 @@ module _ (program : LinearProgram) (sets : BodyName → ℕ → SeenLocals)
         (left_are program sets recorded left f below l) p k w s
         (λ q store. unwind_turn (target_past f.body t) below None es store tt
         (past_target program sets recorded f.body t below q) k w.1 s)
-    unwind_turn t (Searches exception resumption asked rest ∷ below) left es store l p k w s =
+    unwind_turn t (Searches exception resumption asked ∷ below) left es store l p k w s =
         unwind_turn t below None es store tt p k.1 w s
     unwind_turn t (Unwinds rest older ∷ below) left es store l p k w s = unwind_turn t below
         (Some rest) es store k.0 p k.2 w s
@@ -183,14 +184,54 @@ module _ (program : LinearProgram) (sets : BodyName → ℕ → SeenLocals)
     search_turn (h ∷ rest) exception resumption c p k w s = consult_turn h.filter h rest exception
         resumption c refl p k w s
 
+    -- ---- vectored handlers
+
+    -- where one may be asked, all activations that this instruction leaves live
+    abbrev pub CanAsk : Store → Type 0
+    CanAsk store = (length store.activations ≡ activations_left j begin)
+        × (arguments_passed j ≡ 2) × CanBeAsked program store.vectored
+
+    -- the arguments of a function that begins are its parameters
+    pub few_passed : (f count : ℕ) (function : LinearFunction) → IsCallee program f count
+        → slice_get program.functions f ≡ Some function → (x : ℕ)
+        → sets (FunctionBody f) 0 x ≡ true → x < count
+    few_passed f count function callee e x q =
+        let takes = callee.takes ∙ ap (λ (h : LinearFunction). h.parameters)
+        (same_it callee.function function (sym callee.there ∙ e)) in
+        subst (λ n. x < n) (sym takes) (is_parameter function.parameters x
+        (recorded.begins f function e x q))
+
+    ask_turn : (o : Option ℕ) (place : ℕ) (exception : Exception) (resumption : Resumption)
+        (c : Configuration) → ((f : ℕ) → o ≡ Some f → IsCallee program f 2)
+        → Kept c.below → Covered (Waits c.frame ∷ c.below) → Since c.events → CanAsk c.store
+        → Turn Ok (λ next. ask_at program next o place exception resumption c)
+    ask_turn None place exception resumption c callee k w s a =
+        search_turn (handlers program (Waits c.frame ∷ c.below) None) exception resumption c
+        (handlers_are program sets recorded (Waits c.frame ∷ c.below) None tt k) k w s
+    ask_turn (Some f) place exception resumption c callee k w s a =
+        some_turn Ok c.events (slice_get program.functions f) _ (λ function e.
+        deeper_turn Ok (2 + depth_weight function) c.frame.held c.store c.events _
+        (Moves _ (record {
+          running = λ x q. Passed f function refl e a.0 (subst (λ n. x < n) (sym a.1)
+              (few_passed f 2 function (callee f refl) e x q));
+          waiting = w;
+          kept = (tt, k);
+        }) (λ next. refl)))
+
+    from_turn : (place : ℕ) (exception : Exception) (resumption : Resumption) (c : Configuration)
+        → Kept c.below → Covered (Waits c.frame ∷ c.below) → Since c.events → CanAsk c.store
+        → Turn Ok (λ next. ask_from program next place exception resumption c)
+    from_turn place exception resumption c k w s a =
+        ask_turn (slice_get c.store.vectored place) place exception resumption c
+        (λ f e. (all_at (IsAskable program) c.store.vectored place f a.2 e).0.callee) k w s a
+
     pub raise_turn : (exception : Exception) (resumption : Resumption) (c : Configuration)
         → Kept c.below → Covered (Waits c.frame ∷ c.below) → Since c.events
-        → Turn Ok (λ next. raise program next exception resumption c)
-    raise_turn exception resumption c k w s =
-        search_turn (handlers program (Waits c.frame ∷ c.below) None) exception resumption
-        (record c { events = c.events ++ raise_event exception ∷ [] })
-        (handlers_are program sets recorded (Waits c.frame ∷ c.below) None tt k) k w
-        (adds_one begin.events c.events (raise_event exception) s (raise_is_no_block exception))
+        → CanAsk c.store → Turn Ok (λ next. raise program next exception resumption c)
+    raise_turn exception resumption c k w s a =
+        from_turn 0 exception resumption
+        (record c { events = c.events ++ raise_event exception ∷ [] }) k w
+        (adds_one begin.events c.events (raise_event exception) s (raise_is_no_block exception)) a
 
     resumed_turn : (resumption : Resumption) (c : Configuration)
         → IsRaisedIn program resumption (Waits c.frame ∷ c.below) → Kept c.below
@@ -199,20 +240,39 @@ module _ (program : LinearProgram) (sets : BodyName → ℕ → SeenLocals)
         (leads c.frame (instructions.CallBuiltIn RaiseException r.0) r.1) k w.1
     resumed_turn SameOperation c r k w = to_turn c c.frame w.0 refl (λ x h. h) k w.1
 
+    continued_turn : (exception : Exception) (resumption : Resumption) (c : Configuration)
+        → IsRaisedIn program resumption (Waits c.frame ∷ c.below) → Kept c.below
+        → Covered (Waits c.frame ∷ c.below) → Since c.events → CanAsk c.store
+        → Turn Ok (λ next. continued program next exception resumption c)
+    continued_turn exception resumption c r k w s a =
+        pick_turn Ok exception.flag (λ next. raise program next noncontinuable resumption c)
+        (λ next. next (resumed resumption c))
+        (λ e. raise_turn noncontinuable resumption c k w s a)
+        (λ e. resumed_turn resumption c r k w)
+
+    -- ---- ends of bodies
+
+    stuck : (es : List Event) → Turn Ok (λ next. Stuck es)
+    stuck es = Halts (Stuck es) (λ next. refl)
+
     answer_turn : (v : ℕ) (items : List Item) (es : List Event) (store : Store)
-        → AreWaiting program items → Kept items → Covered items → Since es
+        → AreWaiting program items → Kept items → Covered items → Since es → CanAsk store
         → Turn Ok (λ next. answer program next v items es store)
-    answer_turn v [] es store a k w s = Halts (Stuck es) (λ next. refl)
-    answer_turn v (Waits f ∷ below) es store a k w s = Halts (Stuck es) (λ next. refl)
-    answer_turn v (Unwinds rest t ∷ below) es store a k w s = Halts (Stuck es) (λ next. refl)
-    answer_turn v (Searches exception resumption h rest ∷ []) es store a k w s = Halts (Stuck es)
-        (λ next. refl)
-    answer_turn v (Searches exception resumption h rest ∷ Searches e r i s' ∷ below) es store a k w
-        s =
-        Halts (Stuck es) (λ next. refl)
-    answer_turn v (Searches exception resumption h rest ∷ Unwinds s' t ∷ below) es store a k w s =
-        Halts (Stuck es) (λ next. refl)
-    answer_turn v (Searches exception resumption h rest ∷ Waits f ∷ below) es store a k w s =
+    answer_turn v [] es store a k w s asks = stuck es
+    answer_turn v (Waits f ∷ below) es store a k w s asks = stuck es
+    answer_turn v (Unwinds rest t ∷ below) es store a k w s asks = stuck es
+    answer_turn v (Searches exception resumption (VectoredAt place) ∷ below) es store a k w s asks =
+        stuck es
+    answer_turn v (Searches exception resumption (FilterOf h rest) ∷ []) es store a k w s asks =
+        stuck es
+    answer_turn v (Searches exception resumption (FilterOf h rest) ∷ Searches e r i ∷ below) es
+        store a k w s asks =
+        stuck es
+    answer_turn v (Searches exception resumption (FilterOf h rest) ∷ Unwinds s' t ∷ below) es store
+        a k w s asks =
+        stuck es
+    answer_turn v (Searches exception resumption (FilterOf h rest) ∷ Waits f ∷ below) es store a k w
+        s asks =
         let e = events.Answer (signed W32 v) in
         let c : Configuration = record {
           frame = f;
@@ -221,43 +281,56 @@ module _ (program : LinearProgram) (sets : BodyName → ℕ → SeenLocals)
           events = es ++ e ∷ [];
         } in
         let s' = adds_one begin.events es e s refl in
-        pick_turn Ok (nat_eq (low W32 v) 0) (λ next. search program next rest exception resumption
-        c)
-        _ (λ e. search_turn rest exception resumption c k.0.1 k.1 w s')
+        pick_turn Ok (nat_eq (low W32 v) 0)
+        (λ next. search program next rest exception resumption c) _
+        (λ e. search_turn rest exception resumption c k.0.1 k.1 w s')
         (λ e. pick_turn Ok (nat_lt (low W32 v) (2 ^ 31)) (λ next. accept program h exception next c)
         _
         (λ e. accept_turn h exception c k.0.0 k.1 w s')
-        (λ e. pick_turn Ok exception.flag (λ next. raise program next noncontinuable resumption c)
-        (λ next. next (resumed resumption c)) (λ e. raise_turn noncontinuable resumption c k.1 w s')
-        (λ e. resumed_turn resumption c a.1 k.1 w)))
+        (λ e. continued_turn exception resumption c a.1 k.1 w s' asks))
 
     return_turn : (k v : ℕ) (items : List Item) (es : List Event) (store : Store)
-        → IsCalledBy program k items → Kept items → Covered items
-        → Turn Ok (λ next. return next v items es store)
-    return_turn k v [] es store a h w = Halts (Finished (ends.Exit (signed W32 v)) es)
+        → IsCalledBy program k items → AreWaiting program items → Kept items → Covered items
+        → Since es → CanAsk store → Turn Ok (λ next. return program next v items es store)
+    return_turn k v [] es store a i h w s asks = Halts (Finished (ends.Exit (signed W32 v)) es)
         (λ next. refl)
-    return_turn k v (Waits f ∷ below) es store a h w = to_turn _ f w.0 refl
+    return_turn k v (Waits f ∷ below) es store a i h w s asks = to_turn _ f w.0 refl
         (leads f (instructions.Call k a.0 a.1) a.2) h w.1
-    return_turn k v (Searches exception resumption i rest ∷ below) es store a h w = Halts (Stuck es)
-        (λ next. refl)
-    return_turn k v (Unwinds rest t ∷ below) es store a h w = Halts (Stuck es) (λ next. refl)
+    return_turn k v (Unwinds rest t ∷ below) es store a i h w s asks = stuck es
+    return_turn k v (Searches exception resumption (FilterOf g rest) ∷ below) es store a i h w s
+        asks =
+        stuck es
+    return_turn k v (Searches exception resumption (VectoredAt place) ∷ []) es store a i h w s
+        asks =
+        stuck es
+    return_turn k v (Searches exception resumption (VectoredAt place) ∷ Searches e r g ∷ below) es
+        store a i h w s asks =
+        stuck es
+    return_turn k v (Searches exception resumption (VectoredAt place) ∷ Unwinds s' t ∷ below) es
+        store a i h w s asks =
+        stuck es
+    return_turn k v (Searches exception resumption (VectoredAt place) ∷ Waits f ∷ below) es store a
+        i h w s asks =
+        let c : Configuration = record { frame = f; below = below; store = store; events = es } in
+        pick_turn Ok (nat_lt (low W32 v) (2 ^ 31))
+        (λ next. ask_from program next (place + 1) exception resumption c) _
+        (λ e. from_turn (place + 1) exception resumption c h.1 w s asks)
+        (λ e. continued_turn exception resumption c i.1 h.1 w s asks)
 
     finally_turn : (k : ℕ) (own : Exception) (activation : ℕ) (items : List Item) (es : List Event)
         (store : Store) → IsRunFor program k own activation items → Kept items → Covered items
         → Since es → Turn Ok (λ next. end_finally program next items es store)
-    finally_turn k own activation [] es store a h w s = Halts (Stuck es) (λ next. refl)
-    finally_turn k own activation (Searches exception resumption i rest ∷ below) es store a h w s =
-        Halts (Stuck es) (λ next. refl)
+    finally_turn k own activation [] es store a h w s = stuck es
+    finally_turn k own activation (Searches exception resumption asked ∷ below) es store a h w s =
+        stuck es
     finally_turn k own activation (Waits f ∷ below) es store a h w s = to_turn _ f w.0 refl
         (leads f (instructions.CallFinally k) a.1).1 h w.1
-    finally_turn k own activation (Unwinds rest t ∷ []) es store a h w s = Halts (Stuck es)
-        (λ next. refl)
-    finally_turn k own activation (Unwinds rest t ∷ Searches exception resumption i s' ∷ below) es
+    finally_turn k own activation (Unwinds rest t ∷ []) es store a h w s = stuck es
+    finally_turn k own activation (Unwinds rest t ∷ Searches exception resumption asked ∷ below) es
         store a h w s =
-        Halts (Stuck es) (λ next. refl)
+        stuck es
     finally_turn k own activation (Unwinds rest t ∷ Unwinds s' older ∷ below) es store a h w s =
-        Halts
-        (Stuck es) (λ next. refl)
+        stuck es
     finally_turn k own activation (Unwinds rest t ∷ Waits f ∷ below) es store a h w s = unwind_turn
         t
         (Waits f ∷ below) (Some rest) es store h.0 h.1 h.2 w s
@@ -265,17 +338,22 @@ module _ (program : LinearProgram) (sets : BodyName → ℕ → SeenLocals)
     funclet_turn : (kind : FuncletKind) (k v : ℕ) (c : Configuration)
         → IsRunFor program k c.frame.exception c.frame.activation c.below → AreWaiting program
         c.below
-        → Kept c.below → Covered c.below → Since c.events
+        → Kept c.below → Covered c.below → Since c.events → CanAsk c.store
         → Turn Ok (λ next. end_funclet program next kind v c)
-    funclet_turn funclets.Filter k v c a i h w s = answer_turn v c.below c.events c.store i h w s
-    funclet_turn (funclets.Finally flag) k v c a i h w s = finally_turn k c.frame.exception
+    funclet_turn funclets.Filter k v c a i h w s asks =
+        answer_turn v c.below c.events c.store i h w s asks
+    funclet_turn (funclets.Finally flag) k v c a i h w s asks = finally_turn k c.frame.exception
         c.frame.activation c.below c.events c.store a h w s
 
     pub end_turn : (name : BodyName) (v : ℕ) (c : Configuration)
         → IsAbove program c.frame.exception c.frame.activation name c.below
         → AreWaiting program c.below → Kept c.below → Covered c.below → Since c.events
+        → CanAsk (left_store c.frame.body c.frame.activation c.store)
+        → CanAsk (left_store name c.frame.activation c.store)
         → Turn Ok (λ next. end_body program next name v c)
-    end_turn (FunctionBody f) v c a i h w s = return_turn f v c.below c.events
-        (left_store c.frame.body c.frame.activation c.store) a h w
-    end_turn (FuncletBody k) v c a i h w s = some_turn Ok c.events (slice_get program.funclets k)
-        (λ next f. end_funclet program next f.kind v c) (λ f e. funclet_turn f.kind k v c a i h w s)
+    end_turn (FunctionBody f) v c a i h w s asks own = return_turn f v c.below c.events
+        (left_store c.frame.body c.frame.activation c.store) a i h w s asks
+    end_turn (FuncletBody k) v c a i h w s asks own =
+        some_turn Ok c.events (slice_get program.funclets k)
+        (λ next f. end_funclet program next f.kind v c)
+        (λ f e. funclet_turn f.kind k v c a i h w s own)

@@ -1,17 +1,19 @@
 -- The configuration that linear code is in, and the one that a machine shows that doesn't zero the
 -- locals of a function that begins.
 use Rattle.std.specs.Prelude.{◌≡◌, ℕ, ◌+◌, ◌-◌, nat_lt, false, List, length, slice_get, ℤ, Some}
+use Rattle.seh_num.specs.declared.event.Event.{Event}
 use Rattle.std.specs.List.{AllByRecursion}
 use Rattle.source_meaning.specs.declared.depth.TheConstants.{DEEPEST}
 use Rattle.linear_code.specs.declared.instruction.Instruction.{Instruction}
 use Rattle.linear_code.specs.declared.instruction.Instruction.TheVariants as instructions
 use Rattle.linear_code.specs.Program.{LinearProgram, LinearFunction, depth_weight}
-use Rattle.linear_machine.specs.Frames.{Configuration, Seen, Next, last_temporaries}
-use Rattle.linear_machine.specs.Instructions.{act}
+use Rattle.linear_machine.specs.Frames.{Item, Store, Configuration, Seen, Next, last_temporaries}
+use Rattle.linear_machine.specs.Instructions.{act, begin_function}
 use Rattle.linear_machine.specs.Run.{instruction_at, exec, start}
+use Rattle.lowering_invariants.specs.Bodies.{IsWhole}
 use Rattle.lowering_invariants.specs.SmallNumbers.{AreSmall, HasSmallNumbers}
-use Rattle.lowering_locals.specs.Marks.{Marks}
-use Rattle.lowering_locals.specs.Alike.{AreAlike}
+use Rattle.lowering_locals.specs.Marks.{Marks, activations_left, arguments_passed}
+use Rattle.lowering_locals.specs.Alike.{AreAlike, freshly}
 use Rattle.lowering_locals.specs.Reads.{IsMarked, ReadsNoUnset}
 use Rattle.lowering_locals.specs.UnsetLaws.{called_with, started_with}
 
@@ -56,6 +58,20 @@ AgreementAtCall =
     → length values ≡ function.body.locals - function.parameters → AreSmall values
     → GoesToAgreeing program (instructions.Call f first count) c
     (called_with c d f first function arguments values)
+
+-- a function that begins in any turn, also one that is asked as a vectored handler, and any numbers
+-- in the locals after its arguments
+abbrev pub AgreementAtBeginning : Type 0
+AgreementAtBeginning =
+    (program : LinearProgram) → IsWhole program → ReadsNoUnset program → (c d : Configuration)
+    → AgreeOnSet program c d → (i : Instruction) (f held : ℕ) (function : LinearFunction)
+    (arguments values : List ℕ) (below : List Item) (store : Store) (es : List Event)
+    → instruction_at program d ≡ Some i → slice_get program.functions f ≡ Some function
+    → ((next : Next) → act program i next d
+    ≡ next (begin_function f function arguments held below store es))
+    → length store.activations ≡ activations_left i d → length arguments ≡ arguments_passed i
+    → length values ≡ function.body.locals - function.parameters → AreSmall values
+    → GoesToAgreeing program i c (freshly f function arguments values held below store es)
 
 abbrev pub AgreementAtStart : Type 0
 AgreementAtStart =

@@ -32,6 +32,7 @@ pub record AreAlike (marks : Marks) (c d : Configuration) : Type 0 where
   pub frame : d.frame ≡ c.frame
   pub below : d.below ≡ c.below
   pub memory : d.store.memory ≡ c.store.memory
+  pub handlers : d.store.vectored ≡ c.store.vectored
   pub events : d.events ≡ c.events
   pub activations : AreActivationsAlike marks c.store.activations d.store.activations
 

@@ -3,11 +3,10 @@
 use Rattle.std.specs.Prelude.{◌≡◌, ◌⊎◌, ℕ, ◌<◌, true, drop, length, List, [], ◌∷◌, slice_get, Some}
 use Rattle.std.specs.List.{AllByRecursion}
 use Rattle.linear_code.specs.declared.instruction.Instruction.{Instruction}
-use Rattle.linear_code.specs.declared.instruction.Instruction.TheVariants as instructions
 use Rattle.linear_code.specs.declared.program.Region.{Region}
 use Rattle.linear_code.specs.Program.{LinearProgram, LinearFunction}
-use Rattle.linear_machine.specs.Frames.{BodyName, FuncletBody, Frame, Handler, Target, Item, Waits, Searches, Unwinds, Configuration}
-use Rattle.lowering_locals.specs.Marks.{Marks, marks_of, local_written, begins_block, flag_set}
+use Rattle.linear_machine.specs.Frames.{BodyName, FunctionBody, FuncletBody, Frame, Handler, Target, Asked, FilterOf, VectoredAt, Item, Waits, Searches, Unwinds, Configuration}
+use Rattle.lowering_locals.specs.Marks.{Marks, marks_of, local_written, activations_left, arguments_passed, begins_block, flag_set}
 use Rattle.lowering_locals.specs.Alike.{AreActivationsAlike}
 use Rattle.c_checked.specs.LocalScopes.{SeenNames, IsPart}
 use Rattle.lowering_locals.specs.Sets.{locals_at, Guards}
@@ -33,7 +32,7 @@ module _ (program : LinearProgram) (sets : BodyName → ℕ → SeenNames) where
   abbrev pub IsHandler : Handler → List Item → Type 0
   IsHandler h [] = ⊥
   IsHandler h (Waits f ∷ below) = IsHandlerOf f (length below) h ⊎ IsHandler h below
-  IsHandler h (Searches exception resumption asked rest ∷ below) = IsHandler h below
+  IsHandler h (Searches exception resumption asked ∷ below) = IsHandler h below
   IsHandler h (Unwinds rest target ∷ below) = IsHandler h below
 
   pub record IsTargetOf (f : Frame) (items : ℕ) (t : Target) : Type 0 where
@@ -43,7 +42,7 @@ module _ (program : LinearProgram) (sets : BodyName → ℕ → SeenNames) where
   abbrev pub IsTarget : Target → List Item → Type 0
   IsTarget t [] = ⊥
   IsTarget t (Waits f ∷ below) = IsTargetOf f (length below) t ⊎ IsTarget t below
-  IsTarget t (Searches exception resumption asked rest ∷ below) = IsTarget t below
+  IsTarget t (Searches exception resumption asked ∷ below) = IsTarget t below
   IsTarget t (Unwinds rest older ∷ below) = IsTarget t below
 
   -- regions of the body that waits first
@@ -57,11 +56,16 @@ module _ (program : LinearProgram) (sets : BodyName → ℕ → SeenNames) where
   abbrev pub AreHandlers : List Handler → List Item → Type 0
   AreHandlers hs items = AllByRecursion (λ (h : Handler). IsHandler h items) hs
 
+  -- the handlers of a search
+  abbrev pub AsksKept : Asked → List Item → Type 0
+  AsksKept (FilterOf h rest) items = AreHandlers (h ∷ rest) items
+  AsksKept (VectoredAt place) items = Unit {0}
+
   abbrev pub AreKept : List Item → Type 0
   AreKept [] = Unit {0}
   AreKept (Waits f ∷ below) = AreKept below
-  AreKept (Searches exception resumption asked rest ∷ below) =
-      AreHandlers (asked ∷ rest) below × AreKept below
+  AreKept (Searches exception resumption asked ∷ below) =
+      AsksKept asked below × AreKept below
   AreKept (Unwinds rest target ∷ below) = AreLeft rest below × IsTarget target below × AreKept below
 
   -- ---- what has been set
@@ -73,7 +77,7 @@ module _ (program : LinearProgram) (sets : BodyName → ℕ → SeenNames) where
     abbrev pub AreCovered : List Item → Type 0
     AreCovered [] = Unit {0}
     AreCovered (Waits f ∷ below) = IsCovered f × AreCovered below
-    AreCovered (Searches exception resumption asked rest ∷ below) = AreCovered below
+    AreCovered (Searches exception resumption asked ∷ below) = AreCovered below
     AreCovered (Unwinds rest target ∷ below) = AreCovered below
 
     -- marks are as many as locals; each body that runs or waits, and what waits for it
@@ -87,16 +91,16 @@ module _ (program : LinearProgram) (sets : BodyName → ℕ → SeenNames) where
 
     module _ (i : Instruction) (c d : Configuration) where
       -- why a local of the body that runs then has been set: it was before, the instruction writes
-      -- it, it is the flag of a block that begins, or an argument
+      -- it, it is the flag of a block that begins, or an argument of a function that begins
       pub data IsGiven (x : ℕ) : Type 0 where
         Before : Marked marks d.frame.activation x → IsGiven x
         Written : d.frame.activation ≡ c.frame.activation → local_written program i c ≡ Some x
             → x < locals_at program d.frame.body → IsGiven x
         Flag : flag_set program (begins_block (drop (length c.events) d.events)) d.frame.body
             ≡ Some x → x < locals_at program d.frame.body → IsGiven x
-        Passed : (f first count : ℕ) (function : LinearFunction)
-            → i ≡ instructions.Call f first count → slice_get program.functions f ≡ Some function
-            → d.frame.activation ≡ length c.store.activations → x < count → IsGiven x
+        Passed : (f : ℕ) (function : LinearFunction) → d.frame.body ≡ FunctionBody f
+            → slice_get program.functions f ≡ Some function
+            → d.frame.activation ≡ activations_left i c → x < arguments_passed i → IsGiven x
 
       pub record IsStep : Type 0 where
         pub running : (x : ℕ) → here d.frame x ≡ true → IsGiven x

@@ -1,5 +1,5 @@
 -- Which locals have been set.
-use Rattle.std.specs.Prelude.{ℕ, ◌-◌, Bool, true, false, List, [], ◌∷◌, ◌++◌, length, take, drop, replicate, slice_get, slice_set, Option, Some, None}
+use Rattle.std.specs.Prelude.{ℕ, ◌-◌, Bool, true, false, nat_lt, List, [], ◌∷◌, ◌++◌, length, take, drop, replicate, slice_get, slice_set, Option, Some, None}
 use Rattle.seh_num.specs.declared.event.Event.{Event}
 use Rattle.seh_num.specs.declared.event.Event.TheVariants as events
 use Rattle.flat_memory.specs.Memory.{Memory}
@@ -12,7 +12,7 @@ use Rattle.linear_code.specs.declared.instruction.Instruction.{Instruction}
 use Rattle.linear_code.specs.declared.instruction.Instruction.TheVariants as instructions
 use Rattle.linear_code.specs.Program.{LinearProgram, LinearFunction}
 use Rattle.linear_machine.specs.Frames.{BodyName, FunctionBody, FuncletBody, Configuration}
-use Rattle.linear_machine.specs.Unwinding.{flag_of}
+use Rattle.linear_machine.specs.Unwinding.{flag_of, left_store}
 use Rattle.linear_machine.specs.Instructions.{is_constant, operand}
 
 -- for each live activation, outermost first, and each of its locals, whether it has been set
@@ -81,16 +81,41 @@ flag_set program false name = None
 
 -- ---- a step
 
--- a call begins an activation; otherwise those that are left have their marks
-abbrev pub marks_left : LinearProgram → Instruction → Configuration → Marks → Marks
-marks_left program (instructions.Call f first count) d marks =
-    elim (slice_get program.functions f)
-    [ Some function ↦ marks ++ first_marks count function ∷ [] | None ↦ marks ]
-marks_left program i d marks = take (length d.store.activations) marks
+-- how many activations live after an instruction before a function begins: all, but for that of a
+-- function that returns; fewer where an unwinding has left some, and then none begins
+abbrev pub activations_left : Instruction → Configuration → ℕ
+activations_left (instructions.Return from) c =
+    length (left_store c.frame.body c.frame.activation c.store).activations
+activations_left i c = length c.store.activations
+
+-- how many arguments a function has that begins: those of a call, or the code and the flags that a
+-- vectored handler is asked about
+abbrev pub arguments_passed : Instruction → ℕ
+arguments_passed (instructions.Call f first count) = count
+arguments_passed i = 2
+
+abbrev pub function_of_body : LinearProgram → BodyName → Option LinearFunction
+function_of_body program (FunctionBody f) = slice_get program.functions f
+function_of_body program (FuncletBody k) = None
+
+-- a function has begun, after those activations that were left; or of the old ones so many live
+abbrev pub begun_marks : (has_begun : Bool) → Option LinearFunction → (count left live : ℕ) → Marks
+    → Marks
+begun_marks true (Some function) count left live marks =
+    take left marks ++ first_marks count function ∷ []
+begun_marks has_begun function count left live marks = take live marks
+
+-- a function has begun where more activations live than were left; otherwise those that live have
+-- their marks
+abbrev pub marks_left : LinearProgram → Instruction → Configuration → Configuration → Marks → Marks
+marks_left program i c d marks =
+    begun_marks (nat_lt (activations_left i c) (length d.store.activations))
+    (function_of_body program d.frame.body) (arguments_passed i) (activations_left i c)
+    (length d.store.activations) marks
 
 -- the marks after a step by an instruction from c to d
 abbrev pub next_marks : LinearProgram → Instruction → Configuration → Configuration → Marks → Marks
 next_marks program i c d marks =
     with_mark (flag_set program (begins_block (drop (length c.events) d.events)) d.frame.body)
     d.frame.activation
-    (with_mark (local_written program i c) c.frame.activation (marks_left program i d marks))
+    (with_mark (local_written program i c) c.frame.activation (marks_left program i c d marks))

@@ -4,11 +4,11 @@
 use Rattle.std.specs.Prelude.{ℕ, suc, ◌+◌, false, List, [], ◌∷◌, ◌++◌, length, map, replicate, get_or, Option, Some, None}
 use Rattle.c_checked.specs.Expression.{Expression}
 use Rattle.c_checked.specs.Statement.{Declared, Filter, Always, Funclet, Statement, Declare, Block, Evaluate, If, IfElse, For, DoWhile, Return, Break, Continue, Leave, TryExcept, TryFinally, Statements, Empty, Then}
-use Rattle.c_checked.specs.Program.{DataFrame, Program, Function, weight}
+use Rattle.c_checked.specs.Program.{DataFrame, Program, Function}
 use Rattle.c_checked.specs.declared.statement.StackedVariable.{StackedVariable}
 use Rattle.linear_machine.specs.Frames.{BodyName, FunctionBody, FuncletBody}
 use Rattle.lowering_sizes.specs.Sizes.{expression_size, initialiser_size, discarded_size, condition_size, returned_size}
-use Rattle.seh_ir.specs.Lowered.{own_locals}
+use Rattle.seh_ir.specs.Lowered.{own_locals, first_count}
 use Rattle.c_checked.specs.LocalScopes.{SeenNames, with_local, first_seen, after_declared, after_all_declared, after_statement}
 
 -- ---- statements, with the first free local
@@ -131,7 +131,7 @@ end_size (Some d) = 3
 
 abbrev pub function_sets : Function → List SeenNames
 function_sets f =
-    replicate (weight f) (parameters_seen f)
+    replicate (first_count f) (parameters_seen f)
     ++ (open_sets (length f.parameters) f.data_frame
     ++ (statements_sets (own_locals f) (function_seen f) f.body
     ++ replicate (end_size f.data_frame) (function_seen f)))

@@ -54,7 +54,7 @@ CallsAreAlike =
 abbrev pub started_with : LinearProgram → ℤ → LinearFunction → List ℕ → Configuration
 started_with program arg main values =
     freshly program.main main (main_arguments main.parameters arg) values 0 []
-    (record { memory = first_memory program.globals; activations = [] }) []
+    (record { memory = first_memory program.globals; activations = []; vectored = [] }) []
 
 abbrev pub StartsAreAlike : Type 0
 StartsAreAlike =

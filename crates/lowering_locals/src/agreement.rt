@@ -1,6 +1,6 @@
 //! Laws of the configuration that linear code is in, and of the actual one, which a machine shows.
 
-ghost use Rattle.lowering_locals.specs.Agreement.{AgreementContinues, AgreementAtCall, AgreementAtStart, AgreeingAreSmall};
+ghost use Rattle.lowering_locals.specs.Agreement.{AgreementContinues, AgreementAtCall, AgreementAtBeginning, AgreementAtStart, AgreeingAreSmall};
 
 /// What the actual one does, linear code does, where no run reads a local that hasn't been set.
 pub fn agreement_continues()
@@ -10,6 +10,11 @@ pub fn agreement_continues()
 /// After a call the actual one may have any numbers of 64 bits in the locals after the arguments.
 pub fn agreement_at_call()
     ensures agreement { AgreementAtCall }
+{}
+
+/// So may it where any turn begins a function, as one does that asks a vectored handler.
+pub fn agreement_at_beginning()
+    ensures agreement { AgreementAtBeginning }
 {}
 
 /// So may the actual configuration at the start.

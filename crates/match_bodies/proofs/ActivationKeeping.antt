@@ -95,7 +95,7 @@ module _ (t : Functions) (fs : List Funclet) (program : LinearProgram) (p : Imag
   resumes_kept resumption (Waits b ∷ below) acts saved o h =
       ap (λ (vs : List ℕ). p.resumes resumption b vs saved)
       (leaf_values_kept (p.leaf b.body) b.body acts k values o.0) ∙ h
-  resumes_kept resumption (Searches exception other asked rest ∷ below) acts saved o h = tt
+  resumes_kept resumption (Searches exception other asked ∷ below) acts saved o h = tt
   resumes_kept resumption (Unwinds rest target ∷ below) acts saved o h = tt
 
 -- ---- the list

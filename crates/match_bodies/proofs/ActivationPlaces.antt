@@ -140,7 +140,7 @@ module _ (t : Functions) (fs : List Funclet) (program : LinearProgram) (p : Imag
       acts b.body h.0.waits.activation i (omega arith) (omega arith)
       (λ j. are_there m (after_leaf c back) is below (activations_below b.body acts) k base distance
       register s.1 h.2 j)
-  are_there m c (Searching r ∷ is) (Searches exception resumption asked rest ∷ below) acts k base
+  are_there m c (Searching r ∷ is) (Searches exception resumption asked ∷ below) acts k base
       distance register s h i =
       let e = rises t m c (Searching r) s.0 in
       higher m (rsp c) (rsp (context_of r.saved)) k base distance register acts (omega arith)

@@ -2,7 +2,7 @@
 -- callee's (Microsoft x64 ABI, "Stack allocation"): a change of them leaves the list as it is.
 use Rattle.std.proofs.Common.{◌≡◌, ℕ, ◌+◌, ◌*◌, ◌≤◌, true, false, Option, Some, None, List, [], ◌∷◌, refl, sym, subst, ◌∙◌, arith, inr}
 use Rattle.std.specs.Prelude.{slice_get}
-use Rattle.match_bodies.specs.Words.{weight_of, STACK_START, STACK_END, Memory, Context, get, rsp, Functions, Funclet, Layout, LinearProgram, LinearBody, BodyName, FunctionBody, FuncletBody, body_of, Frame, Item, Waits, Searches, Unwinds, StackFrame, StackItem, Framed, Leaf, Searching, Unwinding, IsStack, after_frame, ImagePlan, Activation, activations_below, temporaries_end, HasActivation, HasPointers, IsAbove, Linked, IsLinkedStack, IsFunctionLayout, IsLayoutIf, IsLaidOut, AreLaidOut, KeepsStackBut}
+use Rattle.match_bodies.specs.Words.{weight_of, STACK_START, STACK_END, Memory, Context, get, rsp, Functions, Funclet, Layout, LinearProgram, LinearBody, BodyName, FunctionBody, FuncletBody, body_of, Frame, Item, Waits, Searches, Unwinds, StackFrame, StackItem, Framed, Leaf, Searching, Unwinding, IsStack, after_frame, ImagePlan, Activation, activations_below, temporaries_end, HasActivation, HasPointers, IsAbove, Linked, IsLinkedStack, IsFunctionLayout, IsLayoutIf, IsLaidOut, AreLaidOut, KeepsStackBut, VectoredAt, FilterOf}
 use Rattle.match_bodies.proofs.Lemmas.{places_fit, end_within, in_stack, ReadsSame, higher, frame_above, words_kept, places_kept, list_kept, reads_other}
 
 module _ (m m' : Memory) (t : Functions) (fs : List Funclet) (program : LinearProgram)
@@ -104,11 +104,14 @@ module _ (m m' : Memory) (t : Functions) (fs : List Funclet) (program : LinearPr
     pointers_free y size b name [] e a top i h = tt
     pointers_free y size b name (Waits w ∷ below) e a top i h = tt
     pointers_free y size b name (Unwinds rest target ∷ below) e a top i h = tt
-    pointers_free y size b (FunctionBody f) (Searches exception resumption asked rest ∷ below) e a
-        top i h =
-        absurd i
-    pointers_free y size b (FuncletBody k) (Searches exception resumption asked rest ∷ below) e a
-        top i h =
+    pointers_free y size b (FunctionBody f)
+        (Searches exception resumption (VectoredAt place) ∷ below) e a top i h = tt
+    pointers_free y size b (FuncletBody k)
+        (Searches exception resumption (VectoredAt place) ∷ below) e a top i h = tt
+    pointers_free y size b (FunctionBody f)
+        (Searches exception resumption (FilterOf asked rest) ∷ below) e a top i h = absurd i
+    pointers_free y size b (FuncletBody k)
+        (Searches exception resumption (FilterOf asked rest) ∷ below) e a top i h =
         let z = h.room in
         let l = a.pointers k refl in
         record {

@@ -2,7 +2,7 @@
 use Rattle.std.proofs.Common.{◌≡◌, ℕ, ◌+◌, ◌≤◌, Bool, true, false, List, [], ◌∷◌, length, Option, Some, Ok, refl, sym, ap, subst, ◌∙◌, arith}
 use Rattle.std.specs.Prelude.{slice_set, slice_get, slice_index}
 use Rattle.std.specs.List.{AllByRecursion}
-use Rattle.match_bodies.specs.Words.{Event, STACK_END, Memory, Rsp, Context, context_of, State, register, rsp, Functions, word, Funclet, Layout, Region, LinearProgram, LinearBody, LinearFunclet, BodyName, FunctionBody, FuncletBody, Frame, Item, Waits, Searches, Unwinds, body_of, holds, regions_of, StackFrame, StackItem, Framed, Leaf, FrameIsAt, after_leaf, context_below, IsWellFormed, ImagePlan, InCode, Activation, activations_below, HoldsWords, HasActivation, temporaries_end, home_end, HasSpace, below_end, BodyWaits, HasPointers, IsAbove, FuncletIsAbove, On, Sites, IsLaidOut, IsProgramImage, frame_of, slots_end, last_temporary, HasFrame, InBody, setting_of, IsAsTold, get, now_of, RegistersHold, leaf_values}
+use Rattle.match_bodies.specs.Words.{Event, STACK_END, Memory, Rsp, Context, context_of, State, register, rsp, Functions, word, Funclet, Layout, Region, LinearProgram, LinearBody, LinearFunclet, BodyName, FunctionBody, FuncletBody, Frame, Item, Waits, Searches, Unwinds, body_of, holds, regions_of, StackFrame, StackItem, Framed, Leaf, FrameIsAt, after_leaf, context_below, IsWellFormed, ImagePlan, InCode, Activation, activations_below, HoldsWords, HasActivation, temporaries_end, home_end, HasSpace, below_end, BodyWaits, HasPointers, IsAbove, FuncletIsAbove, On, Sites, IsLaidOut, IsProgramImage, frame_of, slots_end, last_temporary, HasFrame, InBody, setting_of, IsAsTold, get, now_of, RegistersHold, leaf_values, FilterOf, VectoredAt, Store, host_list}
 use Rattle.eh_tables.specs.Infos.{Info}
 use Rattle.match_stack.specs.Stack.{teller}
 use Rattle.match_bodies.specs.Callers.{frame_info}
@@ -49,10 +49,10 @@ module _ (t : Functions) (fs : List Funclet) (program : LinearProgram) (p : Imag
     leaf_pointers m y sp size b (FuncletBody k) below is h = absurd is
     leaf_pointers m y sp size b (FunctionBody f) [] is h = tt
     leaf_pointers m y sp size b (FunctionBody f) (Waits w ∷ below) is h = tt
-    leaf_pointers m y sp size b (FunctionBody f) (Searches exception resumption asked rest ∷ below)
-        is
-        h =
-        absurd h
+    leaf_pointers m y sp size b (FunctionBody f)
+        (Searches exception resumption (VectoredAt place) ∷ below) is h = tt
+    leaf_pointers m y sp size b (FunctionBody f)
+        (Searches exception resumption (FilterOf asked rest) ∷ below) is h = absurd h
     leaf_pointers m y sp size b (FunctionBody f) (Unwinds rest target ∷ below) is h = absurd h
 
     -- the same name, exception and what lies below
@@ -64,7 +64,7 @@ module _ (t : Functions) (fs : List Funclet) (program : LinearProgram) (p : Imag
       where
         by_funclet : (f : Option LinearFunclet) (below : List Item)
             → FuncletIsAbove t fs program p k b f below → FuncletIsAbove t fs program p k b' f below
-        by_funclet (Some f) (Searches exception resumption asked rest ∷ Waits w ∷ below) h =
+        by_funclet (Some f) (Searches exception resumption (FilterOf asked rest) ∷ Waits w ∷ below) h =
             let alike = h.1 in (h.0, (alike.0, e ∙ alike.1))
         by_funclet (Some f) (Unwinds rest target ∷ Waits w ∷ below) h = h
         by_funclet (Some f) (Waits w ∷ below) h = h
@@ -107,9 +107,10 @@ module _ (t : Functions) (fs : List Funclet) (program : LinearProgram) (p : Imag
 
       framed_again : (u : State) (c : Context) (f : StackFrame) (is : List StackItem) (b : Frame)
           (below : List Item) (acts : List Activation) (label : ℕ) (ts : List ℕ) (landed : Option ℕ)
-          (source : Memory) (es : List Event)
+          (source : Store) (es : List Event)
           → On t fs program p u.memory c (Framed f ∷ is) (Waits b ∷ below) acts
-          → (context_of u.cpu).kept ≡ c.kept → InCode p b.body label u.cpu.rip → IsWellFormed u
+          → (context_of u.cpu).kept ≡ c.kept → InCode p b.body label u.cpu.rip
+          → IsWellFormed (host_list p source) u
           → IsFront u.memory b.temporaries ts
           → InBody t fs program p q u (on_top (again b label ts landed) below source acts es)
       framed_again u c f is b below acts label ts landed source es on same inside well front =
@@ -173,9 +174,10 @@ module _ (t : Functions) (fs : List Funclet) (program : LinearProgram) (p : Imag
 
       leaf_again : (u : State) (c : Context) (back : ℕ) (is : List StackItem) (b : Frame)
           (below : List Item) (acts : List Activation) (label : ℕ) (ts : List ℕ) (landed : Option ℕ)
-          (source : Memory) (es : List Event)
+          (source : Store) (es : List Event)
           → On t fs program p u.memory c (Leaf back ∷ is) (Waits b ∷ below) acts
-          → (context_of u.cpu).kept ≡ c.kept → InCode p b.body label u.cpu.rip → IsWellFormed u
+          → (context_of u.cpu).kept ≡ c.kept → InCode p b.body label u.cpu.rip
+          → IsWellFormed (host_list p source) u
           → IsFront u.memory b.temporaries ts
           → RegistersHold (now_of true u.cpu) (p.register b.body) 0
           (leaf_values (p.leaf b.body) b.body acts)
@@ -250,9 +252,10 @@ module _ (t : Functions) (fs : List Funclet) (program : LinearProgram) (p : Imag
       -- whatever represents it
       pub waits_in_body : (u : State) (c : Context) (is : List StackItem) (b : Frame)
           (below : List Item) (acts : List Activation) (label : ℕ) (ts : List ℕ) (landed : Option ℕ)
-          (source : Memory) (es : List Event)
+          (source : Store) (es : List Event)
           → On t fs program p u.memory c is (Waits b ∷ below) acts
-          → (context_of u.cpu).kept ≡ c.kept → InCode p b.body label u.cpu.rip → IsWellFormed u
+          → (context_of u.cpu).kept ≡ c.kept → InCode p b.body label u.cpu.rip
+          → IsWellFormed (host_list p source) u
           → IsFront u.memory b.temporaries ts
           → RegistersHold (now_of true u.cpu) (p.register b.body) 0
           (leaf_values (p.leaf b.body) b.body acts)

@@ -65,11 +65,11 @@ are_all [] h j lt = absurd (omega arith)
 are_all (r ∷ rs) h zero lt = h.0
 are_all (r ∷ rs) h (suc j) lt = are_all rs h.1 j (omega arith)
 
-pub stays_well_formed : (s u : State) → Keeps s u → u.cpu.rip < 2 ^ 64 → IsWellFormed s →
-    IsWellFormed u
+pub stays_well_formed : {handlers : List ℕ} (s u : State) → Keeps s u → u.cpu.rip < 2 ^ 64
+    → IsWellFormed handlers s → IsWellFormed handlers u
 stays_well_formed s u k lt h = record {
   rip_small = lt;
   count = k.count ∙ h.count;
   small = are_all u.cpu.registers (k.small (all_are s.cpu.registers h.small));
-  no_handlers = k.handlers ∙ h.no_handlers;
+  listed = k.handlers ∙ h.listed;
 }

@@ -150,7 +150,7 @@ module _ (setting : Setting) (roomy : HaveRoom setting.program) (s : State)
         frame = record c.frame
             { next = c.frame.next + 1; temporaries = take i c.frame.temporaries ++ value ∷ [] };
         below = c.below;
-        store = record { memory = m; activations = xs };
+        store = record c.store { memory = m; activations = xs };
         events = c.events;
       } in
       next o) (sym (same_store_here))

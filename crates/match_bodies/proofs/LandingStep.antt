@@ -74,7 +74,7 @@ module _ (setting : Setting) (roomy : HaveRoom setting.program) (s : State)
         };
         below = c.below;
         store =
-            record { memory = c.store.memory; activations = xs };
+            record c.store { memory = c.store.memory; activations = xs };
         events = c.events;
       } in next o)
       (sym same)

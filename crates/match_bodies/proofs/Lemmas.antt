@@ -14,7 +14,7 @@ pub use Rattle.match_stack.proofs.ItemVisits.{set_head, frame_is_visited, leaf_i
 pub use Rattle.match_stack.proofs.ListEnds.{words_fit, places_fit, in_stack, end_within}
 pub use Rattle.match_stack.proofs.ListKeeping.{reads_other, kept_by_other_memories}
 pub use Rattle.match_stack.proofs.ListMemories.{ReadsSame, higher, frame_above, words_kept, places_kept, list_kept, frame_kept, leaf_kept, own_kept, frame_is_at, leaf_is_at, record_is_at}
-pub use Rattle.match_stack.proofs.StackKeeping.{rises, kept_by_other_stores, nothing_below_is_owned}
+pub use Rattle.match_stack.proofs.StackKeeping.{record_same, rises, kept_by_other_stores, nothing_below_is_owned}
 pub use Rattle.match_stack.proofs.ContextWidths.{wide_of}
 pub use Rattle.frame_rules.proofs.Undoing.{word-is}
 pub use Rattle.match_stack.proofs.FrameWords.{told_depth, owned_low as frame_low, eight_numbers}

@@ -41,6 +41,7 @@ pub mod ReachedSlots
 pub mod SlotPlaces
 pub mod BodyViews
 pub mod HiddenBytes
+pub mod NameThunks
 pub mod ProgramKeeping
 pub mod MemoryKeeping
 pub mod ChainKeeping

@@ -1,8 +1,9 @@
 -- Other numbers in the locals of one activation leave the list as it is.
 use Rattle.std.proofs.Common.{◌≡◌, ℕ, ◌+◌, ◌*◌, ◌≤◌, true, false, Option, Some, List, [], ◌∷◌, ◌++◌, length, refl, sym, ap, subst, ◌∙◌, arith, inl, inr}
 use Rattle.std.specs.Prelude.{slice_get}
-use Rattle.match_bodies.specs.Words.{STACK_START, STACK_END, Memory, Context, context_of, get, rsp, Functions, Funclet, Layout, LinearProgram, BodyName, FunctionBody, FuncletBody, Frame, Item, Waits, Searches, Unwinds, StackFrame, StackItem, Framed, Leaf, Searching, Unwinding, FrameIsAt, LeafIsAt, IsStack, after_frame, after_leaf, ImagePlan, Activation, locals_of, activations_below, HoldsWords, temporaries_end, HasActivation, HoldsLocals, IsActivation, ActivationHasBase, home_end, HasPointers, IsAbove, below_end, BodyWaits, Linked, IsLinkedStack, with_values, FrameWords, LeavesRegisters, KeepsStackBut, OwnerHasFrame, record_room, FrameWaits, LeafWaits, ActivationsAreStored}
-use Rattle.seh_walk.specs.Walk.{filter_return, finally_return, is_search, is_unwinding}
+use Rattle.match_bodies.specs.Words.{STACK_START, STACK_END, Memory, Context, context_of, get, rsp, Functions, Funclet, Layout, LinearProgram, BodyName, FunctionBody, FuncletBody, Frame, Item, Waits, Searches, Unwinds, StackFrame, StackItem, Framed, Leaf, Searching, Unwinding, FrameIsAt, LeafIsAt, IsStack, after_frame, after_leaf, ImagePlan, Activation, locals_of, activations_below, HoldsWords, temporaries_end, HasActivation, HoldsLocals, IsActivation, ActivationHasBase, home_end, HasPointers, IsAbove, below_end, BodyWaits, Linked, IsLinkedStack, with_values, FrameWords, LeavesRegisters, KeepsStackBut, OwnerHasFrame, record_room, FrameWaits, LeafWaits, ActivationsAreStored, VectoredAt, FilterOf}
+use Rattle.seh_walk.specs.Walk.{finally_return, is_unwinding}
+use Rattle.match_stack.specs.Stack.{is_asking, answer_return}
 use Rattle.match_bodies.proofs.Lemmas.{set_head, rises, places_fit, in_stack, ReadsSame, higher, words_kept, frame_kept, leaf_kept, own_kept, frame_above, frame_is_at, leaf_is_at, record_is_at, list_kept, reads_other}
 use Rattle.match_bodies.proofs.ActivationPlaces.{are_there, locals_count, got_before, got_last}
 use Rattle.match_bodies.proofs.FramePlaces.{in_places, as_many}
@@ -129,7 +130,9 @@ module _ (m m' : Memory) (t : Functions) (fs : List Funclet) (program : LinearPr
       → HasPointers t fs program p m' y sp size below
   no_pointers y sp size f b [] a = tt
   no_pointers y sp size f b (Waits w ∷ below) a = tt
-  no_pointers y sp size f b (Searches exception resumption asked rest ∷ below) a = absurd a
+  no_pointers y sp size f b (Searches exception resumption (VectoredAt place) ∷ below) a = tt
+  no_pointers y sp size f b (Searches exception resumption (FilterOf asked rest) ∷ below) a =
+      absurd a
   no_pointers y sp size f b (Unwinds rest target ∷ below) a = absurd a
 
   -- its numbers, in a frame whose locals end before an address
@@ -422,7 +425,7 @@ module _ (m m' : Memory) (t : Functions) (fs : List Funclet) (program : LinearPr
         (λ j. stored (after_leaf c back) is below (activations_below b.body acts) s.1 h.2 j o.1
         (outer_fits acts b.body fits) (kept_from (rsp c) (rsp (after_leaf c back)) (omega arith)
         keeps) (omega arith))
-    stored c (Searching d ∷ is) (Searches exception resumption asked rest
+    stored c (Searching d ∷ is) (Searches exception resumption asked
         ∷ below) acts s h i o fits keeps low =
         let e = rises t m c (Searching d) s.0 in let a = s.0.above in
         let high = (are_there t fs program p m (context_of d.saved) is below acts k base distance
@@ -432,7 +435,7 @@ module _ (m m' : Memory) (t : Functions) (fs : List Funclet) (program : LinearPr
         (kept_from (rsp c) (rsp (context_of d.saved)) (omega arith) keeps) (omega arith) in
         record {
           stack = (
-            record_is_at m m' from t fs program p c d filter_return is_search
+            record_is_at m m' from t fs program p c d (answer_return d.kind) is_asking
                 (context_of d.saved) r (omega arith) s.0,
             outer.stack,
           );
@@ -442,10 +445,7 @@ module _ (m m' : Memory) (t : Functions) (fs : List Funclet) (program : LinearPr
               carries = h.0.carries;
               resumes = resumes_kept t fs program p k values resumption below acts d.saved o
                   h.0.resumes;
-              onward = h.0.onward;
-              address = h.0.address;
-              aimed = h.0.aimed;
-              before = h.0.before;
+              asks = h.0.asks;
               near = h.0.near;
             },
             outer.linked,

@@ -1,7 +1,7 @@
 -- The next instruction of a body begins, in the memory that a template leaves.
 use Rattle.std.proofs.Common.{◌≡◌, ℕ, ◌+◌, ◌*◌, ◌<◌, ◌≤◌, true, Option, Some, Ok, List, [], ◌∷◌, length, refl, sym, ap, subst, ◌∙◌, arith, inl, inr}
 use Rattle.std.specs.Prelude.{slice_get}
-use Rattle.match_bodies.specs.Words.{weight_of, STACK_START, STACK_END, Event, Memory, Rax, Rsp, State, register, BodyState, LinearBody, BodyName, FunctionBody, FuncletBody, body_of, Configuration, Context, Layout, context_of, regions_of, InCode, context_below, Activation, locals_of, activations_below, HoldsWords, IsActivation, HasActivation, HasPointers, BodyWaits, HasSpace, below_end, home_end, IsLinkedStack, IsData, On, IsWellFormed, IsFunctionLayout, IsLayoutIf, slots_end, counts_of, with_values, KeepsStackBut, OwnerHasFrame, last_temporary, Setting, RepresentsAt, now_of}
+use Rattle.match_bodies.specs.Words.{weight_of, STACK_START, STACK_END, Event, Memory, Rax, Rsp, State, register, BodyState, LinearBody, BodyName, FunctionBody, FuncletBody, body_of, Configuration, Context, Layout, context_of, regions_of, InCode, context_below, Activation, locals_of, activations_below, HoldsWords, IsActivation, HasActivation, HasPointers, BodyWaits, HasSpace, below_end, home_end, IsLinkedStack, IsData, On, IsWellFormed, IsFunctionLayout, IsLayoutIf, slots_end, counts_of, with_values, KeepsStackBut, OwnerHasFrame, last_temporary, Setting, RepresentsAt, now_of, host_list}
 use Rattle.virtual_unwind.specs.Undone.{Answer}
 use Rattle.match_bodies.proofs.Lemmas.{kept_by_other_memories}
 use Rattle.match_bodies.proofs.BodyResumption.{above_same}
@@ -24,7 +24,7 @@ module _ (setting : Setting) where
   further c acts label values ts landed source events = record {
     frame = record c.frame { next = label; temporaries = ts; landed = landed };
     below = c.below;
-    store = record {
+    store = record c.store {
       memory = source;
       activations =
           locals_of (with_values acts c.frame.activation values);
@@ -198,7 +198,7 @@ module _ (setting : Setting) where
 
       module _ (label : ℕ) (landed : Option ℕ) (events : List Event)
           (rip : u.cpu.rip ≡ p.address c.frame.body label) (inside : label < length code.code)
-          (well_formed : IsWellFormed u) (result : (value : ℕ) → landed ≡ Some value
+          (well_formed : IsWellFormed (host_list p c.store) u) (result : (value : ℕ) → landed ≡ Some value
           → register u.cpu Rax ≡ value)
           (caller : p.leaf c.frame.body ≡ true → CallerHasFrame p c.below)
           (owner : (k : ℕ) → c.frame.body ≡ FuncletBody k

@@ -1,7 +1,7 @@
 -- What a run of a template leaves of the body that runs: its slots, and its frame above them.
 use Rattle.std.proofs.Common.{◌≡◌, ℕ, ◌+◌, ◌*◌, ◌<◌, ◌≤◌, Option, Some, None, Ok, List, [], ◌∷◌, length, refl, sym, ap, subst, ◌∙◌, arith, inl, inr}
 use Rattle.std.specs.Prelude.{◌⊎◌, ◌-◌, slice_get}
-use Rattle.match_bodies.specs.Words.{STACK_START, STACK_END, Rsp, HasFrame, frame_of, State, register, word, Local, Temporary, BodyState, LinearBody, BodyName, FunctionBody, FuncletBody, Item, Waits, Searches, Unwinds, Configuration, Layout, FrameHolds, Activation, HoldsWords, IsInPlace, HoldsPlaces, FrameWords, HasActivation, HasPointers, IsAbove, slots_end, counts_of, frame_at, with_values, InTemporaries, InLocals, last_temporary, Setting, RepresentsAt, OtherRegisters, local_registers, KeepsRegisters, IsReached, now_of, arrived_in, IsFuncletPlan, IsLaidOut}
+use Rattle.match_bodies.specs.Words.{STACK_START, STACK_END, Rsp, HasFrame, frame_of, State, register, word, Local, Temporary, BodyState, LinearBody, BodyName, FunctionBody, FuncletBody, Item, Waits, Searches, Unwinds, Configuration, Layout, FrameHolds, Activation, HoldsWords, IsInPlace, HoldsPlaces, FrameWords, HasActivation, HasPointers, IsAbove, slots_end, counts_of, frame_at, with_values, InTemporaries, InLocals, last_temporary, Setting, RepresentsAt, OtherRegisters, local_registers, KeepsRegisters, IsReached, now_of, arrived_in, IsFuncletPlan, IsLaidOut, VectoredAt, FilterOf}
 use Rattle.match_bodies.proofs.BodyFrames.{frame_stays}
 use Rattle.match_bodies.proofs.LocalPlaces.{places_are, frame_words_are, place_of_local}
 use Rattle.match_bodies.proofs.SlotPlaces.{KeepsSlot, SlotsPlaced}
@@ -290,12 +290,13 @@ module _ (setting : Setting) where
       pointers_in [] a h = tt
       pointers_in (Waits w ∷ below) a h = tt
       pointers_in (Unwinds rest target ∷ below) a h = tt
-      pointers_in (Searches exception resumption asked rest ∷ below) a h = elim
+      pointers_in (Searches exception resumption (VectoredAt place) ∷ below) a h = tt
+      pointers_in (Searches exception resumption (FilterOf asked rest) ∷ below) a h = elim
           (kind setting s c b counted) [
             | inl f ↦ absurd (subst (λ n. IsAbove t fs program p c.frame n
-                (Searches exception resumption asked rest ∷ below)) f.name a)
+                (Searches exception resumption (FilterOf asked rest) ∷ below)) f.name a)
             | inr (inl f) ↦ absurd (subst (λ n. IsAbove t fs program p c.frame n
-                (Searches exception resumption asked rest ∷ below)) f.name a)
+                (Searches exception resumption (FilterOf asked rest) ∷ below)) f.name a)
             | inr (inr f) ↦ (let l = low in let e = top in let z = h.room in let g =
                 f.layout.pointers in let w = f.layout.kept in
                 record {

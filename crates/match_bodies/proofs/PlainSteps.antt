@@ -39,7 +39,7 @@ module _ (setting : Setting) (roomy : HaveRoom setting.program) where
   at_other c label values ts landed source events = record {
     frame = record c.frame { next = label; temporaries = ts; landed = landed };
     below = c.below;
-    store = record {
+    store = record c.store {
       memory = source;
       activations = slice_set c.store.activations c.frame.activation
           values;
@@ -94,7 +94,7 @@ module _ (setting : Setting) (roomy : HaveRoom setting.program) where
           is_there = subst (λ (xs : List (List ℕ)). let o : Configuration = record {
             frame = record c.frame { next = label; temporaries = ts; landed = landed };
             below = c.below;
-            store = record { memory = d.memory; activations = xs };
+            store = record c.store { memory = d.memory; activations = xs };
             events = c.events;
           } in RepresentsAt setting m.0 o) store m.2;
         }
@@ -182,7 +182,7 @@ module _ (setting : Setting) (roomy : HaveRoom setting.program) where
         record {
           frame = record c.frame { next = label };
           below = c.below;
-          store = record { memory = c.store.memory; activations = xs };
+          store = record c.store { memory = c.store.memory; activations = xs };
           events = c.events;
         } in
         next o) (sym same_store)) r.least (omega arith)
@@ -255,7 +255,7 @@ module _ (setting : Setting) (roomy : HaveRoom setting.program) where
         record {
           frame = record c.frame { next = c.frame.next + 1; temporaries = [] };
           below = c.below;
-          store = record { memory = c.store.memory; activations = xs };
+          store = record c.store { memory = c.store.memory; activations = xs };
           events = c.events;
         } in next o) (sym same_store)) r.least (omega arith)
 
@@ -338,7 +338,7 @@ module _ (setting : Setting) (roomy : HaveRoom setting.program) where
         record {
           frame = record c.frame { next = to; temporaries = after_test slot };
           below = c.below;
-          store = record { memory = c.store.memory; activations = xs };
+          store = record c.store { memory = c.store.memory; activations = xs };
           events = c.events;
         } in next o) (sym same_store)) some (omega arith)
 

@@ -1,10 +1,11 @@
 -- The program stays in a memory in which no byte of the image has changed.
 use Rattle.std.proofs.Common.{◌≡◌, ℕ, ◌+◌, ◌<◌, ◌≤◌, true, Some, List, [], ◌∷◌, length, sym, ap, subst, ◌∙◌, arith}
-use Rattle.match_bodies.specs.Words.{Service, address_of, Protection, is_readable, is_writable, Memory, Functions, Funclet, Instr, is_hidden, LinearProgram, LinearBody, BodyName, body_of, spelled, sizes, thunk, check_stack, code_from, body_size, HasCode, HasThunk, ImagePlan, Sites, links_of, begin_of, entry_code, code_of, cold_code_of, service_of, HasService, HasProgram, IsProgramImage, IMAGE_BASE, IMAGE_RANGE_END, IsInImage}
+use Rattle.match_bodies.specs.Words.{Service, address_of, Protection, is_readable, is_writable, Memory, Functions, Funclet, Instr, is_hidden, LinearProgram, LinearBody, BodyName, body_of, spelled, sizes, thunk, check_stack, code_from, body_size, HasCode, HasThunk, ImagePlan, Sites, links_of, begin_of, entry_code, code_of, cold_code_of, service_of, HasService, HasBuiltIn, HasName, stub_code, name_thunk, BuiltIn, HasProgram, IsProgramImage, IMAGE_BASE, IMAGE_RANGE_END, IsInImage}
 use Rattle.host_layout.specs.declared.service.Service.TheVariants as services
 use Rattle.match_bodies.proofs.Lemmas.{sizes_spelled, sizes_append, body_sizes, same_number}
 use Rattle.template_code.specs.ColdParts.{hot_code, cold_code}
 use Rattle.x64_templates.specs.Placed.{IsCodeAt}
+use Rattle.match_bodies.proofs.NameThunks.{name_size}
 use Rattle.x64_templates.proofs.Services.{thunk_size}
 
 -- bytes of a range, and what may be done there
@@ -91,6 +92,30 @@ module _ (t : Functions) (fs : List Funclet) (program : LinearProgram) (p : Imag
       slot = h.slot;
     }
 
+    built_in_there : (m m' : Memory) (f : BuiltIn) → KeepsImage program.globals m m'
+        → HasBuiltIn t fs program p q m f → HasBuiltIn t fs program p q m' f
+    built_in_there m m' f keeps h = record {
+      stub = has_code_there m m' (q.thunk f) (stub_code p f (q.thunk f))
+          (there m m' (q.thunk f) (q.thunk f + sizes (stub_code p f (q.thunk f))) keeps h.inside)
+          h.stub;
+      names = h.names;
+      service = service_there m m' (q.thunk f + sizes (stub_code p f (q.thunk f))) (service_of f)
+          keeps h.service;
+      inside = h.inside;
+    }
+
+    name_there : (m m' : Memory) (f : ℕ) → KeepsImage program.globals m m'
+        → HasName t fs program p q m f → HasName t fs program p q m' f
+    name_there m m' f keeps h =
+        let code = name_thunk (p.handler f) (q.function f) in
+        let n : sizes code ≡ 15 = name_size (p.handler f) (q.function f) in
+        record {
+          code = has_code_there m m' (p.handler f) code
+              (subst (λ k. SameThere m m' (p.handler f) (p.handler f + k)) (sym n)
+              (there m m' (p.handler f) (p.handler f + 15) keeps h.inside)) h.code;
+          inside = h.inside;
+        }
+
     module _ (image : IsProgramImage t fs program p q) where
       code_size : (name : BodyName) (b : LinearBody) → body_of program name ≡ Some b
           → begin_of p q name + sizes (code_of program p q name b)
@@ -123,8 +148,8 @@ module _ (t : Functions) (fs : List Funclet) (program : LinearProgram) (p : Imag
             has_code_there m m' (q.cold name) (cold_code_of p q name b)
             (subst (λ n. SameThere m m' (q.cold name) (q.cold name + n)) (sym size) inside)
             (h.cold_code name b e);
-        thunks = λ f called. service_there m m' (q.thunk f) (service_of f) keeps
-            (h.thunks f called);
+        built_in = λ f called. built_in_there m m' f keeps (h.built_in f called);
+        names = λ f lt adds. name_there m m' f keeps (h.names f lt adds);
         local_unwind = service_there m m' q.local_unwind services.LocalUnwind keeps h.local_unwind;
         check_stack = has_code_there m m' q.check_stack check_stack
             (there m m' q.check_stack (q.check_stack + sizes check_stack) keeps image.check_stack)

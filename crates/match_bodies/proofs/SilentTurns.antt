@@ -5,7 +5,7 @@ use Rattle.std.specs.Prelude.{slice_get}
 use Rattle.std.proofs.lemmas.Bool.{ne_eqb}
 use Rattle.std.proofs.lemmas.Option.{slice_get_cases}
 use Rattle.template_code.specs.ColdParts.{hot_code}
-use Rattle.match_bodies.specs.Words.{W64, Event, Service, address_of, Protection, is_readable, is_writable, Memory, executable, may_write, Rsp, Instr, leading, chosen, State, Functions, distance, Funclet, arrivals, LinearProgram, LinearFunclet, FuncletBody, LinearBody, BodyName, body_of, spelled, thunk, check_stack, code_from, Steps, Reaches, RunsInside, ReachesInside, Enters, HasCode, HasThunk, ImagePlan, AllKeep, Comes, Sites, begin_of, making_size, frame_code, arguments_code, entry_code, links_of, code_of, cold_code_of, service_of, HasService, HasProgram, IsProgramImage, funclet_body, takes_frame, Runs, IsLive}
+use Rattle.match_bodies.specs.Words.{W64, Event, Service, address_of, Protection, is_readable, is_writable, Memory, executable, may_write, Rsp, Instr, leading, chosen, State, BuiltIn, Functions, distance, Funclet, arrivals, LinearProgram, LinearFunclet, FuncletBody, LinearBody, BodyName, body_of, spelled, thunk, check_stack, code_from, Steps, Reaches, RunsInside, ReachesInside, Enters, HasCode, HasThunk, ImagePlan, AllKeep, Comes, Sites, begin_of, making_size, frame_code, arguments_code, entry_code, links_of, code_of, cold_code_of, service_of, stub_code, sizes, name_thunk, HasService, HasBuiltIn, HasProgram, IsProgramImage, funclet_body, takes_frame, Runs, IsLive}
 use Rattle.host_layout.specs.declared.service.Service.TheVariants as services
 use Rattle.x64_instr.specs.declared.operand.RegisterOrMemory.TheVariants as places
 use Rattle.x64_instr.specs.declared.operand.Operand.TheVariants as operands
@@ -67,6 +67,16 @@ module _ (t : Functions) (fs : List Funclet) (program : LinearProgram) (p : Imag
       slot = h.slot;
     }
 
+    built_in_kept : (m m' : Memory) (f : BuiltIn) → KeepsCode m m'
+        → HasBuiltIn t fs program p q m f → HasBuiltIn t fs program p q m' f
+    built_in_kept m m' f k h = record {
+      stub = code_kept m m' (q.thunk f) (stub_code p f (q.thunk f)) k h.stub;
+      names = h.names;
+      service = service_kept m m' (q.thunk f + sizes (stub_code p f (q.thunk f))) (service_of f) k
+          h.service;
+      inside = h.inside;
+    }
+
     pub program_kept : (m m' : Memory) → KeepsCode m m' → HasProgram t fs program p q m
         → HasProgram t fs program p q m'
     program_kept m m' k h = record {
@@ -74,7 +84,11 @@ module _ (t : Functions) (fs : List Funclet) (program : LinearProgram) (p : Imag
           (h.code name b e);
       cold_code = λ name b e. code_kept m m' (q.cold name) (cold_code_of p q name b) k
           (h.cold_code name b e);
-      thunks = λ f called. service_kept m m' (q.thunk f) (service_of f) k (h.thunks f called);
+      built_in = λ f called. built_in_kept m m' f k (h.built_in f called);
+      names = λ f lt adds. (let n = h.names f lt adds in record {
+        code = code_kept m m' (p.handler f) (name_thunk (p.handler f) (q.function f)) k n.code;
+        inside = n.inside;
+      });
       local_unwind = service_kept m m' q.local_unwind services.LocalUnwind k h.local_unwind;
       check_stack = code_kept m m' q.check_stack check_stack k h.check_stack;
     }

@@ -1,13 +1,16 @@
 -- What is known of a configuration says what its steps need: its locals are counted, what waits
 -- below a leaf has a frame, and so has the function of a funclet.
+use Rattle.linear_machine.specs.Frames.{VectoredAt, FilterOf}
 use Rattle.std.proofs.Common.{◌≡◌, ℕ, zero, suc, ◌+◌, ◌≤◌, Bool, true, false, Option, Some, None, List, [], ◌∷◌, ◌++◌, length, refl, sym, ap, subst, ◌∙◌, arith, length-append}
-use Rattle.std.specs.Prelude.{slice_get}
+use Rattle.std.specs.Prelude.{◌<◌, replicate, slice_get}
 use Rattle.std.proofs.lemmas.Option.{slice_get_within}
-use Rattle.match_bodies.specs.Words.{State, Instruction, LinearProgram, LinearBody, BodyName, FunctionBody, FuncletBody, body_of, Frame, Item, Waits, Searches, Unwinds, Configuration, instruction_at, Activation, activations_below, IsFuncletPlan, OwnerHasFrame, IsWellMade, IsKnown, Setting, RepresentsAt, LinearFunction, instruction_in, IsAt, IsCalledBy, AreWaiting, IsReady}
+use Rattle.match_bodies.specs.Words.{State, Instruction, LinearProgram, LinearBody, BodyName, FunctionBody, FuncletBody, body_of, Frame, Item, Waits, Searches, Unwinds, Configuration, instruction_at, Activation, activations_below, IsFuncletPlan, OwnerHasFrame, IsWellMade, IsKnown, Setting, RepresentsAt, LinearFunction, instruction_in, IsAt, IsCalledBy, AreWaiting, IsReady, AreAskable}
 use Rattle.linear_code.specs.declared.instruction.Instruction.TheVariants as instructions
 use Rattle.linear_machine.specs.Frames as linear
-use Rattle.lowering_invariants.specs.Bodies.{function_of, owner_of}
-use Rattle.lowering_invariants.specs.Waiting.{IsAbove}
+use Rattle.linear_code.specs.Program.{weight, depth_weight}
+use Rattle.match_runs.specs.Matched.{separators, separators_in}
+use Rattle.lowering_invariants.specs.Bodies.{function_of, owner_of, IsVectoredCallee, IsWhole}
+use Rattle.lowering_invariants.specs.Waiting.{IsAbove, CanBeAsked}
 use Rattle.lowering_invariants.specs.Activations.{with_own, owners_of, WorksOn, IsActivationOf, AreActivations}
 use Rattle.lowering_invariants.specs.Depths.{depth_in, depth_at}
 use Rattle.match_bodies.proofs.ActivationPlaces.{locals_count}
@@ -139,7 +142,8 @@ module _ (setting : Setting) (made : IsWellMade setting.program setting.plan) wh
       by : (below : List Item) → IsCalledBy program k below → CallerHasFrame p below
       by [] h = tt
       by (Waits w ∷ below) h = calls_with_frame w k h.0 h.1 h.2 (p.leaf w.body) refl
-      by (Searches exception resumption asked rest ∷ below) h = absurd h
+      by (Searches exception resumption (VectoredAt place) ∷ below) h = tt
+      by (Searches exception resumption (FilterOf asked rest) ∷ below) h = absurd h
       by (Unwinds rest target ∷ below) h = absurd h
 
   -- the functions of the activations number k are no leaves
@@ -155,7 +159,7 @@ module _ (setting : Setting) (made : IsWellMade setting.program setting.plan) wh
       → length acts ≡ length (owners_of items) → HaveFrames k (owners_of items)
       → OwnerHasFrame t fs program p k items acts
   owner_waits k [] acts h n frames = tt
-  owner_waits k (Searches exception resumption asked rest ∷ below) acts h n frames = owner_waits k
+  owner_waits k (Searches exception resumption asked ∷ below) acts h n frames = owner_waits k
       below acts h.2 n frames
   owner_waits k (Unwinds rest target ∷ below) acts h n frames = owner_waits k below acts h.2 n
       frames
@@ -245,3 +249,33 @@ module _ (setting : Setting) (made : IsWellMade setting.program setting.plan) wh
     pub ready_here : (i : Instruction) → instruction_at program c ≡ Some i → IsReady program c i
     ready_here i e = subst (IsReady program c)
         (some_is known.continues.instruction i (sym known.continues.at ∙ e)) known.continues.ready
+
+-- code that begins with so many separators has as many at the least
+separators_first : (n : ℕ) (code : List Instruction)
+    → n ≤ separators (replicate n instructions.Separator ++ code)
+separators_first zero code = omega arith
+separators_first (suc n) code = let rest = separators_first n code in omega arith
+
+handler_weighs : (program : LinearProgram) (f : ℕ) (h : IsVectoredCallee program f)
+    → weight h.callee.function < separators_in (body_of program (FunctionBody f)) 0
+handler_weighs program f h =
+    let count = depth_weight h.callee.function + 1 in
+    let least = separators_first count h.rest in
+    let same : separators_in (body_of program (FunctionBody f)) 0
+    ≡ separators (replicate count instructions.Separator ++ h.rest) =
+    ap (λ o. separators_in (linear.function_body o) 0) h.callee.there ∙ ap separators h.begins in
+    omega arith
+
+-- the vectored handlers of a configuration may be asked
+pub askable_here : (program : LinearProgram) (fs : List ℕ) → IsWhole program
+    → CanBeAsked program fs → AreAskable program fs
+askable_here program [] whole h = tt
+askable_here program (f ∷ fs) whole h = (
+  record {
+    callee = h.0.0.callee;
+    fits = whole.parameters f h.0.0.callee.function h.0.0.callee.there;
+    weighs = handler_weighs program f h.0.0;
+    adds = h.0.1;
+  },
+  askable_here program fs whole h.1,
+)

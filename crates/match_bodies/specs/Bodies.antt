@@ -8,7 +8,7 @@ use Rattle.virtual_unwind.specs.CallerOf.{Functions}
 use Rattle.virtual_unwind.specs.Undone.{word}
 use Rattle.host_model.specs.declared.funclet.Funclet.{Funclet}
 use Rattle.linear_code.specs.Program.{LinearProgram}
-use Rattle.linear_machine.specs.Frames.{BodyName, Item, Waits, Searches, Unwinds, Configuration}
+use Rattle.linear_machine.specs.Frames.{BodyName, Asked, FilterOf, VectoredAt, Item, Waits, Searches, Unwinds, Configuration}
 use Rattle.template_code.specs.declared.layout.Layout.{Layout}
 use Rattle.seh_records.specs.Laws.{AllSmall}
 use Rattle.match_stack.specs.Stack.{StackItem, StackFrame, IsAsTold}
@@ -16,7 +16,7 @@ use Rattle.match_stack.specs.WalkLaws.{context_below}
 use Rattle.match_stack.specs.ImagePlan.{ImagePlan}
 use Rattle.match_stack.specs.ItemMatches.{Activation, locals_of, activations_below, temporaries_end, home_end, BodyWaits, HasPointers, IsAbove, ReturnsTo}
 use Rattle.match_stack.specs.StackRecords.{On}
-use Rattle.match_stack.specs.DispatchStates.{IsWellFormed}
+use Rattle.match_stack.specs.DispatchStates.{IsWellFormed, host_list}
 use Rattle.match_bodies.specs.CodeSites.{Sites}
 use Rattle.match_bodies.specs.LocalRegisters.{now_of}
 use Rattle.match_bodies.specs.ProgramImages.{IsMachineMemory, frame_of}
@@ -41,16 +41,21 @@ abbrev pub HasFrame : State → Bool → StackFrame → Type 0
 HasFrame s true f = IsLeafFrame s f
 HasFrame s false f = IsAsTold s.memory (context_of s.cpu) f
 
--- how many temporaries a body that waits holds, and all of them
+-- what a search holds: two for the return of a vectored handler, which is longer than a filter's
+abbrev pub held_for : Asked → ℕ
+held_for (FilterOf h rest) = 0
+held_for (VectoredAt place) = 2
+
+-- how many temporaries the bodies that wait hold, with what the searches do
 abbrev pub held_below : List Item → ℕ
 held_below [] = 0
 held_below (Waits f ∷ below) = length f.temporaries + held_below below
-held_below (Searches exception resumption asked rest ∷ below) = held_below below
+held_below (Searches exception resumption asked ∷ below) = held_for asked + held_below below
 held_below (Unwinds rest target ∷ below) = held_below below
 
 -- turns of the machine that were not needed so far: three for each temporary that is held, since an
 -- instruction that makes one takes at most 13 turns, and a call needs the more the more arguments
--- it has
+-- it has; and six for each vectored handler that runs, whose separators have left as many
 abbrev pub turns_left : Configuration → ℕ
 turns_left c = 3 * (length c.frame.temporaries + held_below c.below)
 
@@ -85,7 +90,7 @@ module _ (t : Functions) (fs : List Funclet) (program : LinearProgram) (p : Imag
   -- exception's code
   pub record RepresentsAt (s : State) (c : Configuration) : Type 0 where
     pub rip : s.cpu.rip ≡ p.address c.frame.body c.frame.next
-    pub well_formed : IsWellFormed s
+    pub well_formed : IsWellFormed (host_list p c.store) s
     pub memory : IsMachineMemory t fs program p q s.memory c.store.memory
     pub body : InBody s c
     pub landed : (code : ℕ) → c.frame.landed ≡ Some code → register s.cpu Rax ≡ code

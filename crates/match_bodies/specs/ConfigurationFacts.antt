@@ -1,13 +1,17 @@
 -- What is known of a program of linear code, and of a configuration that it comes to.
-use Rattle.std.specs.Prelude.{◌≡◌, ℕ, true, false, slice_get, Some}
+use Rattle.std.specs.Prelude.{◌≡◌, ℕ, ◌<◌, ◌≤◌, true, false, List, slice_get, Some}
+use Rattle.std.specs.List.{AllByRecursion}
 use Rattle.linear_code.specs.declared.instruction.Instruction.{Instruction}
-use Rattle.linear_code.specs.Program.{LinearProgram, LinearBody}
-use Rattle.linear_machine.specs.Frames.{BodyName, body_of, Configuration, Next}
+use Rattle.linear_code.specs.Program.{LinearProgram, LinearBody, weight}
+use Rattle.linear_machine.specs.Frames.{BodyName, FunctionBody, body_of, Configuration, Next}
 use Rattle.linear_machine.specs.Instructions.{act}
 use Rattle.linear_machine.specs.Run.{instruction_at}
+use Rattle.match_runs.specs.Matched.{separators_in}
 use Rattle.match_stack.specs.ImagePlan.{ImagePlan}
 use Rattle.lowering_invariants.specs.Ready.{CanContinue}
-use Rattle.lowering_invariants.specs.Bodies.{IsWhole}
+use Rattle.c_operations.specs.declared.built_in.BuiltIn.TheVariants.{AddVectored}
+use Rattle.linear_machine.specs.BuiltInCalls.{CallsBuiltIn}
+use Rattle.lowering_invariants.specs.Bodies.{IsCallee, IsWhole}
 use Rattle.lowering_invariants.specs.Waiting.{IsStacked}
 use Rattle.lowering_invariants.specs.Activations.{HasActivations}
 use Rattle.lowering_invariants.specs.SmallNumbers.{HasSmallNumbers}
@@ -22,6 +26,17 @@ module _ (program : LinearProgram) where
       (name : BodyName) (b : LinearBody) (label : ℕ) (i : Instruction)
       → body_of program name ≡ Some b → p.leaf name ≡ true → slice_get b.code label ≡ Some i
       → is_call i ≡ false
+
+  -- a function that may be listed as a vectored handler takes a code and flags, begins with more
+  -- separators than its frame weighs, and the program adds it
+  pub record IsAskable (f : ℕ) : Type 0 where
+    pub callee : IsCallee program f 2
+    pub fits : callee.function.parameters ≤ callee.function.body.locals
+    pub weighs : weight callee.function < separators_in (body_of program (FunctionBody f)) 0
+    pub adds : CallsBuiltIn program (AddVectored f)
+
+  abbrev pub AreAskable : List ℕ → Type 0
+  AreAskable fs = AllByRecursion IsAskable fs
 
   -- of the program
   pub record IsWellMade (p : ImagePlan) : Type 0 where

@@ -21,7 +21,7 @@ use Rattle.host_model.specs.declared.funclet.Funclet.{Funclet}
 use Rattle.host_model.specs.Funclets.{by_kind, arrivals}
 use Rattle.c_operations.specs.declared.operation.Operation.{Operation}
 use Rattle.c_operations.specs.declared.built_in.BuiltIn.{BuiltIn}
-use Rattle.c_operations.specs.declared.built_in.BuiltIn.TheVariants.{Put, Protect, RaiseException, Walk}
+use Rattle.c_operations.specs.declared.built_in.BuiltIn.TheVariants.{Put, Protect, RaiseException, Walk, AddVectored, RemoveVectored}
 use Rattle.source_meaning.specs.Source.{is_hidden}
 use Rattle.linear_code.specs.declared.slot.Slot.{Slot}
 use Rattle.linear_code.specs.declared.slot.Slot.TheVariants.{Temporary}
@@ -37,6 +37,8 @@ use Rattle.template_code.specs.Bytes.{sizes}
 use Rattle.template_code.specs.Operands as operands
 use Rattle.template_code.specs.Slots.{fetch, operands_code}
 use Rattle.template_code.specs.Calls.{return_at}
+use Rattle.template_code.specs.Handlers.{name_thunk, address_in}
+use Rattle.template_code.specs.Jumps.{IsNear}
 use Rattle.template_code.specs.Probing.{check_stack}
 use Rattle.template_code.specs.Template.{template, template_size, body_size}
 use Rattle.template_code.specs.ColdParts.{HasLabelsApart, hot_code, cold_code, falls_through}
@@ -51,6 +53,7 @@ use Rattle.match_stack.specs.Stack.{StackFrame, FrameIsAt, LeafIsAt, IsAsTold, t
 use Rattle.match_stack.specs.ImagePlan.{ImagePlan, InCode, Gives}
 use Rattle.match_stack.specs.ControlAddresses.{NumbersFunctions}
 use Rattle.match_stack.specs.StackRecords.{IsData}
+use Rattle.match_stack.specs.AskLaws.{HandlersAreSmall}
 use Rattle.seh_walk.specs.Walk.{filter_return, finally_return, vectored_return}
 use Rattle.seh_walk.specs.Controls.{number_at}
 use Rattle.frame_rules.specs.Bytes.{spell}
@@ -69,6 +72,15 @@ service_of Put = services.Put
 service_of Protect = services.Protect
 service_of RaiseException = services.RaiseException
 service_of Walk = services.Walk
+service_of (AddVectored f) = services.AddVectored
+service_of (RemoveVectored f) = services.RemoveVectored
+
+-- a call goes through a thunk alone, but for those that name a function: their stub puts the
+-- function's name thunk into a register first, 7 bytes before the thunk
+abbrev pub stub_code : ImagePlan → BuiltIn → ℕ → List Instr
+stub_code p (AddVectored f) at = address_in Rdx (at + 7) (p.handler f) ∷ []
+stub_code p (RemoveVectored f) at = address_in Rcx (at + 7) (p.handler f) ∷ []
+stub_code p f at = []
 
 -- the frame of a body, by its layout, with the entry that the body begins in
 abbrev pub frame_of : ImagePlan → BodyName → (back : ℕ) → List ℕ → StackFrame
@@ -163,13 +175,42 @@ module _ (t : Functions) (fs : List Funclet) (program : LinearProgram) (p : Imag
     pub inside : IsInImage at (at + 6)
     pub slot : IsInImage (at + 6 + thunk.away) (at + 6 + thunk.away + 8)
 
-  -- all code of the program, with the thunks of what it calls and `__chkstk`
+  -- a stub at an address names a function of the program, whose name thunk is near the stub
+  pub record NamesFunction (at f : ℕ) : Type 0 where
+    pub is_function : f < length program.functions
+    pub near : IsNear (at + 7) (p.handler f)
+
+  abbrev pub StubNames : BuiltIn → Type 0
+  StubNames (AddVectored f) = NamesFunction (q.thunk (AddVectored f)) f
+  StubNames (RemoveVectored f) = NamesFunction (q.thunk (RemoveVectored f)) f
+  StubNames f = Unit {0}
+
+  -- what is called as a built-in function: its stub, and its thunk
+  pub record HasBuiltIn (m : Memory) (f : BuiltIn) : Type 0 where
+    pub stub : HasCode m (q.thunk f) (stub_code p f (q.thunk f))
+    pub names : StubNames f
+    pub service : HasService m (q.thunk f + sizes (stub_code p f (q.thunk f))) (service_of f)
+    pub inside : IsInImage (q.thunk f) (q.thunk f + sizes (stub_code p f (q.thunk f)))
+
+  -- a function's name thunk, through which the host calls it as a vectored handler; a program that
+  -- adds none has none
+  pub record HasName (m : Memory) (f : ℕ) : Type 0 where
+    pub code : HasCode m (p.handler f) (name_thunk (p.handler f) (q.function f))
+    pub inside : IsInImage (p.handler f) (p.handler f + 15)
+
+  -- a program adds vectored handlers
+  pub record AddsHandlers : Type 0 where
+    pub function : ℕ
+    pub adds : CallsBuiltIn program (AddVectored function)
+
+  -- all code of the program, with what it calls, its name thunks, and `__chkstk`
   pub record HasProgram (m : Memory) : Type 0 where
     pub code : (name : BodyName) (b : LinearBody) → body_of program name ≡ Some b
         → HasCode m (begin_of p q name) (code_of program p q name b)
     pub cold_code : (name : BodyName) (b : LinearBody) → body_of program name ≡ Some b
         → HasCode m (q.cold name) (cold_code_of p q name b)
-    pub thunks : (f : BuiltIn) → CallsBuiltIn program f → HasService m (q.thunk f) (service_of f)
+    pub built_in : (f : BuiltIn) → CallsBuiltIn program f → HasBuiltIn m f
+    pub names : (f : ℕ) → f < length program.functions → AddsHandlers → HasName m f
     pub local_unwind : HasService m q.local_unwind services.LocalUnwind
     pub check_stack : HasCode m q.check_stack check_stack
 
@@ -335,7 +376,10 @@ module _ (t : Functions) (fs : List Funclet) (program : LinearProgram) (p : Imag
   -- so it is where no entry of the function table is: in thunks, in `__chkstk`, and at the host's
   -- services
   pub record FindsCallersOutside : Type 0 where
-    pub thunks : (m : Memory) (f : BuiltIn) → CallsBuiltIn program f → FindsReturn t m (q.thunk f)
+    pub thunks : (m : Memory) (f : BuiltIn) (d : ℕ) → CallsBuiltIn program f
+        → d < sizes (stub_code p f (q.thunk f)) + 6 → FindsReturn t m (q.thunk f + d)
+    pub names : (m : Memory) (f d : ℕ) → AddsHandlers → f < length program.functions → d < 15
+        → FindsReturn t m (p.handler f + d)
     pub local_unwind : (m : Memory) → FindsReturn t m q.local_unwind
     pub check_stack : (m : Memory) (d : ℕ) → d < sizes check_stack
         → FindsReturn t m (q.check_stack + d)
@@ -379,3 +423,10 @@ module _ (t : Functions) (fs : List Funclet) (program : LinearProgram) (p : Imag
     -- where `walk` is called, the rows of names hold the code of functions alone, with their
     -- numbers
     pub names : CallsBuiltIn program Walk → NumbersFunctions program p (number_at t)
+    -- no funclet begins where a function does
+    pub functions_apart : (f k : ℕ) → f < length program.functions → k < length program.funclets
+        → q.function f ≢ p.funclet k
+    -- different functions have different name thunks
+    pub handlers_small : HandlersAreSmall p
+    pub handlers_apart : AddsHandlers → (f g : ℕ) → f < length program.functions
+        → g < length program.functions → p.handler f ≡ p.handler g → f ≡ g

@@ -80,7 +80,7 @@ module _ (t : Functions) (fs : List Funclet) (program : LinearProgram) (p : Imag
   OwnerHasFrame k (Waits b ∷ below) acts =
       (k ≡ length (activations_below b.body acts) → p.leaf b.body ≡ false)
       × OwnerHasFrame k below (activations_below b.body acts)
-  OwnerHasFrame k (Searches exception resumption asked rest ∷ below) acts =
+  OwnerHasFrame k (Searches exception resumption asked ∷ below) acts =
       OwnerHasFrame k below acts
   OwnerHasFrame k (Unwinds rest target ∷ below) acts = OwnerHasFrame k below acts
 

@@ -9,6 +9,7 @@ pub use Rattle.flat_memory.specs.Memory.{Memory, may_write, with_bytes, may_read
 unfoldable pub use Rattle.flat_memory.specs.Memory.{executable, first_refused, number_at, with_number}
 pub use Rattle.flat_memory.specs.Protections.{is_writable, is_readable}
 pub use Rattle.flat_memory.specs.declared.protection.Protection.{Protection}
+pub use Rattle.c_operations.specs.declared.built_in.BuiltIn.{BuiltIn}
 pub use Rattle.c_operations.specs.Performed.{Gives, performed, OperationResult}
 pub use Rattle.c_operations.specs.declared.operation.Operation.{Operation}
 pub use Rattle.source_meaning.specs.Source.{is_between, is_data, is_reserved, is_hidden}
@@ -19,7 +20,7 @@ pub use Rattle.linear_code.specs.declared.instruction.Instruction.{Instruction}
 pub use Rattle.linear_code.specs.declared.program.Region.{Region}
 pub use Rattle.linear_code.specs.declared.slot.Slot.{Slot}
 pub use Rattle.linear_code.specs.declared.slot.Slot.TheVariants.{Local, Temporary}
-pub use Rattle.linear_machine.specs.Frames.{BodyName, FunctionBody, FuncletBody, Item, Waits, Searches, Unwinds, body_of, weight_of, Frame, Configuration, Next, read, with_temporaries, forth, local_of, at_label, with_last, funclet_body}
+pub use Rattle.linear_machine.specs.Frames.{BodyName, FunctionBody, FuncletBody, Asked, FilterOf, VectoredAt, Item, Waits, Searches, Unwinds, Store, body_of, weight_of, Frame, Configuration, Next, read, with_temporaries, forth, local_of, at_label, with_last, funclet_body}
 unfoldable pub use Rattle.linear_machine.specs.Frames.{with_some, pick}
 pub use Rattle.linear_machine.specs.Instructions.{is_constant, operand, act, written, computed, not_landed, tested}
 pub use Rattle.linear_machine.specs.Regions.{holds, regions_of}
@@ -42,6 +43,7 @@ pub use Rattle.x64_machine.specs.declared.context.Context.{Context}
 pub use Rattle.template_code.specs.Bytes.{sizes, thunk, spelled}
 unfoldable pub use Rattle.template_code.specs.Bytes.{size}
 pub use Rattle.template_code.specs.Calls.{keep_register, parameter_register, stack_parameter, parameter_code, parameters_code, passing_code, return_code, information_code, finally_arguments}
+pub use Rattle.template_code.specs.Handlers.{name_thunk, address_in}
 pub use Rattle.template_code.specs.Jumps.{IsNear, call, test_code}
 pub use Rattle.template_code.specs.Operations.{before, above, work}
 pub use Rattle.template_code.specs.Probing.{check_stack, first_touch, page_down, loop_back, touched_range, touching}
@@ -60,6 +62,10 @@ pub use Rattle.x64_templates.specs.Thunks.{HasThunk}
 pub use Rattle.virtual_unwind.specs.CallerOf.{Functions, distance, CallerFrame}
 pub use Rattle.virtual_unwind.specs.Contexts.{get, rsp}
 pub use Rattle.virtual_unwind.specs.Undone.{word, readable}
+pub use Rattle.source_meaning.specs.State.{Exception}
+pub use Rattle.seh_records.specs.declared.dispatch.DispatchRecord.{DispatchRecord}
+pub use Rattle.seh_records.specs.declared.layout.TheConstants.{RECORD_SIZE}
+pub use Rattle.linear_machine.specs.Frames.{Resumption}
 pub use Rattle.seh_records.specs.Laws.{AllSmall, AreBytes}
 pub use Rattle.host_model.specs.Funclets.{arrivals}
 pub use Rattle.host_model.specs.declared.funclet.Funclet.{Funclet}
@@ -67,22 +73,22 @@ pub use Rattle.match_runs.specs.Comes.{Comes, IsLive}
 pub use Rattle.match_runs.specs.Ends.{HasRule}
 pub use Rattle.match_runs.specs.Matched.{Moves}
 pub use Rattle.match_runs.specs.Shadow.{GivesCallers, is_call, KeepsShadow, AllKeep, WalkGives, calls, caller_at, drop_below}
-pub use Rattle.match_stack.specs.DispatchStates.{IsWellFormed}
+pub use Rattle.match_stack.specs.DispatchStates.{IsWellFormed, host_list}
 pub use Rattle.match_stack.specs.ImagePlan.{ImagePlan, InCode, IsGiven}
 pub use Rattle.match_stack.specs.ItemMatches.{Activation, IsActivation, locals_of, activations_below, HoldsWords, IsInPlace, HoldsPlaces, HasActivation, HoldsLocals, ActivationHasBase, home_end, Linked, temporaries_end, HasPointers, IsAbove, HasSpace, below_end, BodyWaits, FuncletIsAbove, record_room, FrameWaits, LeafWaits, Resumes, leaf_values}
 pub use Rattle.match_stack.specs.ListLaws.{IsLinkedStack, KeepsStack}
 pub use Rattle.match_stack.specs.PlainWalks.{state, decided_or, plain_unwind}
-pub use Rattle.match_stack.specs.Stack.{IsAsTold, StackItem, Framed, Leaf, Searching, Unwinding, IsStack, after_frame, after_leaf, StackFrame, FrameIsAt, ItemIsAt, OwnedBy, context_after, LeafIsAt, Owned, caller_frame, caller_of_leaf, Agree}
+pub use Rattle.match_stack.specs.Stack.{is_asking, answer_return, IsAsTold, StackItem, Framed, Leaf, Searching, Unwinding, IsStack, after_frame, after_leaf, StackFrame, FrameIsAt, ItemIsAt, OwnedBy, context_after, LeafIsAt, Owned, caller_frame, caller_of_leaf, Agree}
 pub use Rattle.match_stack.specs.StackRecords.{On, IsData}
 pub use Rattle.match_stack.specs.WalkLaws.{context_below}
 pub use Rattle.match_bodies.specs.Bodies.{slots_end, last_temporary, HasFrame, InBody, turns_left}
 pub use Rattle.match_bodies.specs.BodyViews.{counts_of, seen_by_templates, arrived_in, frame_at, state_of, HasSlotsOf, KeepsRegisters, IsReached}
 pub use Rattle.match_bodies.specs.Callers.{frame_info, HasCaller, FindsReturn, FindsOwed, Owed, IsOwed, nothing_owed, owed_by, owed_of, caller_above, caller_left, caller_owed}
 pub use Rattle.match_bodies.specs.CodeSites.{Sites, links_of, arguments_code, begin_of, making_size, frame_code, entry_code, code_of, cold_code_of}
-pub use Rattle.match_bodies.specs.ConfigurationFacts.{IsWellMade, IsKnown}
+pub use Rattle.match_bodies.specs.ConfigurationFacts.{IsWellMade, IsKnown, IsAskable, AreAskable}
 pub use Rattle.match_bodies.specs.Layouts.{IsFunctionLayout, IsLayoutIf, IsLaidOut, AreLaidOut, IsLeafLayout, IsFuncletLayout, IsFuncletPlan}
 pub use Rattle.match_bodies.specs.LocalRegisters.{now_of, IsInRegister, RegistersHold}
-pub use Rattle.match_bodies.specs.ProgramImages.{HasProgram, IsProgramImage, frame_of, frame_at_label, service_of, HasService, IsMachineMemory, IsInImage, IsFramed}
+pub use Rattle.match_bodies.specs.ProgramImages.{HasBuiltIn, HasName, AddsHandlers, stub_code, HasProgram, IsProgramImage, frame_of, frame_at_label, service_of, HasService, IsMachineMemory, IsInImage, IsFramed}
 pub use Rattle.match_bodies.specs.Setting.{setting_of, Setting, RepresentsAt, IsResumed}
 pub use Rattle.match_bodies.specs.SlotStores.{with_values, KeepsStackBut, OwnerHasFrame, with_values_if, IsInFrame, FrameWords, IsLeft, LeavesRegisters, ActivationIsAt, ActivationsAreAt, ActivationsAreStored}
 pub use Rattle.template_code.specs.declared.layout.Place.{Place}

@@ -3,7 +3,7 @@ use Rattle.std.proofs.Common.{◌≡◌, inl, inr, ℕ, zero, suc, ◌+◌, ◌-
 use Rattle.std.proofs.Math.Nat.{mul-suc}
 use Rattle.std.proofs.lemmas.Bool.{cases_lt}
 use Rattle.std.proofs.lemmas.List.{append-nil}
-use Rattle.match_runs.specs.Words.{signed, Code, Event, W32, Rax, State, register, Functions, turn, Ends, Funclet, IsPrefixOf, is_calm, LinearProgram, Instruction, Configuration, Finished, Running, Stuck, Seen, Next, act, instruction_at, exec, Comes, IsLive, HasRule, turns_ahead, IsMatched, StepsAreMatched}
+use Rattle.match_runs.specs.Words.{signed, Code, Event, W32, Rax, State, register, Functions, turn, Ends, Funclet, IsPrefixOf, is_calm, LinearProgram, Instruction, Configuration, Finished, Running, Stuck, Seen, Next, act, instruction_at, exec, Comes, IsLive, HasRule, turns_ahead, Begins, IsMatched, StepsAreMatched}
 use Rattle.source_meaning.specs.declared.ended.Ended.{Ended}
 use Rattle.seh_num.specs.declared.end.RunEnd.TheVariants as ends
 use Rattle.source_meaning.specs.declared.ended.Ended.TheVariants as source
@@ -242,8 +242,33 @@ module _ (t : Functions) (fs : List Funclet) (program : LinearProgram) (turns_pe
           (prefix_after c.events v.events v.made v.front) v.wild
           (at_instruction program n c i at ∙ v.acts (exec program n)))
 
+      -- a function begins: what is shown comes first, and the turns after it may take what is ahead
+      begins : Begins t fs program turns_per_step credit (AreMatched n) s c i → RunFrom (suc n) s c
+      begins v =
+          let few = v.few in
+          let some = v.some in
+          let soon = v.soon in
+          let bound = most in
+          let e = leads_to v.configuration v.acts in
+          let d = v.configuration in
+          let left = Total - v.first in
+          let run : RunIsPaid t fs n (turns_per_step * n + credit d) (ahead d) v.state
+          (c.events ++ v.events) (exec program n d) = subst
+          (λ es. RunIsPaid t fs n (turns_per_step * n + credit d) (ahead d) v.state es
+          (exec program n d)) v.shown (rest v.state d v.is_there (subst HasRule e rule)) in
+          let after = silent_before t fs v.turns n (turns_per_step * n + credit d) (ahead d)
+          (v.turns + n) left 0 v.middle v.state (c.events ++ v.events) (exec program n d)
+          (omega arith) (omega arith) v.comes run in
+          record {
+            run = subst (RunIsMatched t fs (suc n) (Total - ahead c) s c.events) (sym e)
+                (turns_before t fs v.first (v.turns + n) (left - 0) (suc n) (Total - ahead c) s
+                v.middle c.events v.events (exec program n d) (omega arith) (omega (arith, none))
+                v.shows after.run);
+            paid = λ over. omega (arith, none);
+          }
+
     one_step : Takes t fs program turns_per_step credit (AreMatched n) s c i → RunFrom (suc n) s c
-    one_step (inl m) = plainly m.0 m.1
+    one_step (inl m) = elim m.1 [ inl x ↦ plainly m.0 x | inr v ↦ begins m.0 v ]
     one_step (inr v) = silently v
 
   -- steps that are matched one after another make a run that is matched

@@ -1,17 +1,17 @@
 -- Turns that keep the shadow: what a walk gives where they begin and where they end.
-use Rattle.std.proofs.Common.{◌≡◌, ℕ, zero, suc, ◌+◌, ◌<◌, ◌≤◌, Bool, true, false, Option, Some, None, Ok, Err, List, [], ◌∷◌, refl, sym, ap, subst, ◌∙◌, arith}
+use Rattle.std.proofs.Common.{◌≡◌, ℕ, zero, suc, ◌+◌, ◌<◌, ◌≤◌, Bool, true, false, ◌&&◌, ◌==◌, Option, Some, None, Ok, Err, List, [], ◌∷◌, refl, sym, ap, subst, ◌∙◌, arith}
 use Rattle.std.specs.Prelude.{nat_eq, map}
-use Rattle.std.proofs.lemmas.Bool.{lt-ltb, le-ltb}
-use Rattle.match_runs.specs.Words.{Code, Event, State, register, step, Answer, Context, Functions, distance, CallerFrame, arrivals, Funclet, KeepsShadow, WalkGives, shadow_after, caller_at, if_below, drop_below, is_call, entered, if_lower, started, served, by_step, callers_of, GivesCallers, AllKeep, Rsp}
+use Rattle.std.proofs.lemmas.Bool.{lt-ltb, le-ltb, eq-eqb}
+use Rattle.match_runs.specs.Words.{Code, Event, State, register, step, Answer, Context, Functions, distance, CallerFrame, arrivals, Funclet, KeepsShadow, WalkGives, shadow_after, caller_at, if_below, drop_below, is_call, entered, started, served, by_step, callers_of, GivesCallers, AllKeep, Rsp}
 use Rattle.host_layout.specs.Services.{service_at}
-use Rattle.flat_memory.specs.Memory.{Memory, executable}
+use Rattle.flat_memory.specs.Memory.{Memory, number_at, executable}
 use Rattle.x64_instr.specs.declared.instruction.Instr.{Instr}
 use Rattle.x64_instr.specs.Spelling.{leading}
 use Rattle.x64_machine.specs.declared.outcome.Stop.TheVariants as stops
 use Rattle.x64_machine.specs.Contexts.{context_of}
 use Rattle.virtual_unwind.specs.Contexts.{rsp}
 use Rattle.seh_walk.specs.declared.walk.WalkState.{WalkState}
-use Rattle.seh_walk.specs.Walk.{Visited, Over, Past, Frame, visited, if_over}
+use Rattle.seh_walk.specs.Walk.{Visited, Over, Past, Frame, visited, if_over, vectored_return}
 use Rattle.match_runs.specs.Walked.{LiveFrame, with_frame, given_by, walked}
 
 -- ---- what a walk gives
@@ -135,10 +135,23 @@ module _ (t : Functions) (fs : List Funclet) (s u : State) where
 
   -- ---- the host
 
-  -- where RSP doesn't fall no routine is started
+  abbrev returns_to_dispatcher : Bool
+  returns_to_dispatcher = number_at u.memory.byte 8 (register u.cpu Rsp) == vectored_return
+
+  -- where RSP doesn't fall no vectored handler is called
   pub none_started : (cs : List Context) → register s.cpu Rsp ≤ register u.cpu Rsp
       → started s u [] cs ≡ cs
-  none_started cs le = ap (if_lower u cs) (le-ltb (register u.cpu Rsp) (register s.cpu Rsp) le)
+  none_started cs le = ap (λ (b : Bool). entered u cs (b && returns_to_dispatcher))
+      (le-ltb (register u.cpu Rsp) (register s.cpu Rsp) le)
+
+  -- where it falls to the dispatcher's return address for vectored handlers, one is called
+  pub handler_started : (cs : List Context) → register u.cpu Rsp < register s.cpu Rsp
+      → number_at u.memory.byte 8 (register u.cpu Rsp) ≡ vectored_return
+      → started s u [] cs ≡ caller_at u ∷ cs
+  handler_started cs lower returns =
+      ap (λ (b : Bool). entered u cs (b && returns_to_dispatcher))
+      (lt-ltb (register u.cpu Rsp) (register s.cpu Rsp) lower)
+      ∙ ap (entered u cs) (eq-eqb _ _ returns)
 
   -- a service of the host, or one of its return addresses
   pub host_keeps : (a : ℕ) (es : List Event) (cs ds : List Context) → step s ≡ Err (stops.Host a)

@@ -61,7 +61,7 @@ module _ (t : Functions) (fs : List Funclet) (program : LinearProgram) (turns_pe
     (credit : Configuration → ℕ) where
   -- ---- the steps that are matched
 
-  -- a step that shows nothing, and that may take what is ahead of where it leads
+  -- a separator, which shows nothing, and takes what is ahead of where it leads
   pub record MovesSilently (Represents : State → Configuration → Type 0) (s : State)
       (c : Configuration) (i : Instruction) : Type 0 where
     pub turns : ℕ
@@ -79,7 +79,8 @@ module _ (t : Functions) (fs : List Funclet) (program : LinearProgram) (turns_pe
   abbrev pub Takes : (State → Configuration → Type 0) → State → Configuration → Instruction → Type 0
   Takes Represents s c i =
       ((turns_ahead program turns_per_step c ≡ 0)
-      × IsMatched t fs program turns_per_step credit Represents s c i)
+      × (IsMatched t fs program turns_per_step credit Represents s c i
+      ⊎ Begins t fs program turns_per_step credit Represents s c i))
       ⊎ MovesSilently Represents s c i
 
   module _ (Represents : State → Configuration → Type 0) (s : State) (c : Configuration) where
@@ -88,21 +89,6 @@ module _ (t : Functions) (fs : List Funclet) (program : LinearProgram) (turns_pe
     none_ahead i at plain =
         ap (λ n. (turns_per_step - 1) * n)
         (none_in (body_of program c.frame.body) c.frame.next i at plain) ∙ omega arith
-
-    begins : (i : Instruction) → turns_ahead program turns_per_step c ≡ 0
-        → Begins t fs program turns_per_step credit Represents s c i
-        → MovesSilently Represents s c i
-    begins i none v = let few = v.few in record {
-      turns = v.turns;
-      some = v.some;
-      configuration = v.configuration;
-      few = omega arith;
-      state = v.state;
-      comes = v.comes;
-      acts = v.acts;
-      shown = v.shown;
-      is_there = v.is_there;
-    }
 
     separates : (i : Instruction) → is_separator i ≡ true → instruction_at program c ≡ Some i
         → 1 ≤ turns_per_step → Moves t fs program 1 credit Represents s c i
@@ -141,8 +127,7 @@ module _ (t : Functions) (fs : List Funclet) (program : LinearProgram) (turns_pe
             → IsTakenIf t fs program turns_per_step credit b Represents s c i
             → Takes Represents s c i
         by true e m = inr (separates i e at m.0 m.1)
-        by false e (inl m) = inl (none_ahead i at e, m)
-        by false e (inr m) = inr (begins i (none_ahead i at e) m)
+        by false e m = inl (none_ahead i at e, m)
 
   -- ---- by what a relation implies
 
@@ -166,6 +151,11 @@ module _ (t : Functions) (fs : List Funclet) (program : LinearProgram) (turns_pe
     begins_as : Begins t fs program turns_per_step credit X s c i
         → Begins t fs program turns_per_step credit Y s c i
     begins_as v = record {
+      first = v.first;
+      soon = v.soon;
+      middle = v.middle;
+      events = v.events;
+      shows = v.shows;
       turns = v.turns;
       some = v.some;
       configuration = v.configuration;

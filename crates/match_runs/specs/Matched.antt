@@ -105,19 +105,25 @@ module _ (t : Functions) (fs : List Funclet) (program : LinearProgram) (turns_pe
     pub wild : is_calm (Some end) ≡ false
     pub acts : (next : Next) → act program i next c ≡ Finished end (c.events ++ events)
 
-  -- a function begins, and shows nothing: this may take the turns of the separators that it begins
-  -- with
+  -- a function begins: this may take the turns of the separators that it begins with. What is
+  -- shown, as where an exception is raised that it is asked about, is shown in the turns of the
+  -- step itself, and those after them show nothing
   pub record Begins (Represents : State → Configuration → Type 0) (s : State) (c : Configuration)
       (i : Instruction) : Type 0 where
+    pub first : ℕ
+    pub soon : first ≤ turns_per_step + credit c
+    pub middle : State
+    pub events : List Event
+    pub shows : Comes t fs first s events middle
     pub turns : ℕ
-    pub some : 1 ≤ turns
+    pub some : 1 ≤ first + turns
     pub configuration : Configuration
-    pub few : turns + credit configuration
+    pub few : first + turns + credit configuration
         ≤ turns_per_step + credit c + turns_ahead program turns_per_step configuration
     pub state : State
-    pub comes : Comes t fs turns s [] state
+    pub comes : Comes t fs turns middle [] state
     pub acts : (next : Next) → act program i next c ≡ next configuration
-    pub shown : configuration.events ≡ c.events
+    pub shown : configuration.events ≡ c.events ++ events
     pub is_there : Represents state configuration
 
   -- turns of the machine match an instruction in one of four ways

@@ -1,7 +1,7 @@
 -- The shadow of a run: of each routine that has not returned, innermost first, what its caller goes
 -- on with. It is kept by what each turn does, with no look at unwind codes: of the tables it takes
 -- the funclets alone, which scope records name, to know where one starts.
-use Rattle.std.specs.Prelude.{◌≡◌, ℕ, zero, suc, ◌+◌, ◌≤◌, Bool, true, false, nat_lt, List, [], ◌∷◌, map, drop, option_map, Option, Some, None, Ok, Err, slice_set}
+use Rattle.std.specs.Prelude.{◌≡◌, ℕ, zero, suc, ◌+◌, ◌≤◌, Bool, true, false, ◌&&◌, nat_lt, ◌==◌, List, [], ◌∷◌, map, drop, option_map, Option, Some, None, Ok, Err, slice_set}
 use Rattle.seh_num.specs.declared.event.Event.{Event}
 use Rattle.seh_num.specs.declared.event.Event.TheVariants as events
 use Rattle.seh_num.specs.declared.size.TheConstants.{LONGEST_INSTRUCTION}
@@ -20,6 +20,7 @@ use Rattle.x64_machine.specs.Effect.{State, Answer, register, step}
 use Rattle.virtual_unwind.specs.Contexts.{rsp}
 use Rattle.virtual_unwind.specs.CallerOf.{Functions, distance}
 use Rattle.seh_walk.specs.declared.walk.WalkState.{WalkState}
+use Rattle.seh_walk.specs.Walk.{vectored_return}
 use Rattle.host_model.specs.declared.funclet.Funclet.{Funclet}
 use Rattle.host_model.specs.Funclets.{arrivals}
 use Rattle.match_runs.specs.Walked.{LiveFrame, walked}
@@ -63,18 +64,19 @@ abbrev pub entered : State → List Context → Bool → List Context
 entered u cs true = caller_at u ∷ cs
 entered u cs false = cs
 
--- so does the dispatcher, with a routine that it starts, where it lowers the stack pointer: a
--- vectored handler, which has no event
-abbrev pub if_lower : State → List Context → Bool → List Context
-if_lower u cs true = caller_at u ∷ cs
-if_lower u cs false = cs
+-- the dispatcher calls a vectored handler with its own return address for them, below where the
+-- stack pointer was; no event shows it
+abbrev pub calls_vectored : State → State → Bool
+calls_vectored s u =
+    nat_lt (register u.cpu Rsp) (register s.cpu Rsp)
+    && (number_at u.memory.byte 8 (register u.cpu Rsp) == vectored_return)
 
--- a filter, on all that is live; a `__finally` block, in an unwinding that has left what was below
--- its frame, which is in RDX
+-- what the dispatcher starts is entered too: a filter, on all that is live; a `__finally` block, in
+-- an unwinding that has left what was below its frame, which is in RDX; a vectored handler
 abbrev pub started : State → State → List Event → List Context → List Context
 started s u (events.Filter k ∷ es) cs = caller_at u ∷ cs
 started s u (events.Finally k flag ∷ es) cs = caller_at u ∷ drop_below (register u.cpu Rdx) cs
-started s u es cs = if_lower u cs (nat_lt (register u.cpu Rsp) (register s.cpu Rsp))
+started s u es cs = entered u cs (calls_vectored s u)
 
 -- RaiseException and `_local_unwind` have been called too: their own call is over, where they
 -- dispatch

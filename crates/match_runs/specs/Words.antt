@@ -30,5 +30,5 @@ pub use Rattle.match_runs.specs.Comes.{Comes, IsLive}
 pub use Rattle.match_runs.specs.Ends.{HasRule, IsCalm, run_end_of}
 pub use Rattle.match_runs.specs.Laws.{ShowsAll, ShowsNoMore, RunBegins, RunsShowAll, RunsShowNoMore, ProgramsShowAll, ProgramsShowNoMore, ProgramsWalkTheShadow, TurnsAreEnough}
 pub use Rattle.match_runs.specs.Matched.{is_separator, separators, separators_in, separators_at, turns_ahead, Moves, Begins, IsMatched, IsTakenIf, IsTaken, StepsAreMatched, Fails, StepIsMatched, Simulates}
-pub use Rattle.match_runs.specs.Shadow.{WalkGives, KeepsShadow, caller_at, if_below, drop_below, is_call, entered, if_lower, started, served, by_step, callers_of, GivesCallers, AllKeep}
+pub use Rattle.match_runs.specs.Shadow.{WalkGives, KeepsShadow, caller_at, if_below, drop_below, is_call, entered, calls_vectored, started, served, by_step, callers_of, GivesCallers, AllKeep}
 unfoldable pub use Rattle.match_runs.specs.Shadow.{shadow_after}

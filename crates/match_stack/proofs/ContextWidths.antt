@@ -41,13 +41,13 @@ wide_of c n h = record { count = refl; each = at }
     at (suc (suc (suc (suc (suc (suc (suc (suc (suc j))))))))) l = absurd (omega arith)
 
 -- a state stays well formed, whatever is stored in memory
-pub well_formed_with : (s : State) (m : Memory) → IsWellFormed s
-    → IsWellFormed (record s { memory = m })
-well_formed_with s m w = record {
+pub well_formed_with : (handlers : List ℕ) (s : State) (m : Memory) → IsWellFormed handlers s
+    → IsWellFormed handlers (record s { memory = m })
+well_formed_with handlers s m w = record {
   rip_small = w.rip_small;
   count = w.count;
   small = w.small;
-  no_handlers = w.no_handlers;
+  listed = w.listed;
 }
 
 pub wide_saved : (r : DispatchRecord) → RecordFits r → IsWide (context_of r.saved).kept

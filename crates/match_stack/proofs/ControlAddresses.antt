@@ -59,7 +59,7 @@ module _ (t : Functions) (fs : List Funclet) (program : LinearProgram) (p : Imag
       waiting m c _ _ _ b acts (control_addresses (after_leaf c back) is) (functions_in below)
       l.0.waits
       (of_functions m (after_leaf c back) is below (activations_below b.body acts) l.2)
-  of_functions m c (Searching r ∷ is) (Searches exception resumption asked rest ∷ below) acts l =
+  of_functions m c (Searching r ∷ is) (Searches exception resumption asked ∷ below) acts l =
       of_functions m (context_of r.saved) is below acts l.1
   of_functions m c (Unwinding r ∷ is) (Unwinds rest target ∷ below) acts l =
       of_functions m r.walk is below acts l.1

@@ -1,6 +1,8 @@
 -- A suspended search or unwinding is one item more.
 use Rattle.std.proofs.Common.{ℕ, ◌^◌, ◌<◌, List, ◌∷◌, refl, sym, subst, ◌∙◌, arith}
-use Rattle.match_stack.specs.Words.{Memory, with_bytes, Context, context_of, rsp, Functions, DispatchRecord, placed, filter_return, finally_return, Funclet, LinearProgram, Item, Searches, Unwinds, StackItem, Searching, Unwinding, context_below, ImagePlan, Activation, IsLinkedStack, On, RecordHasRoom, RecordLeavesTheList, SearchIsOneMore, UnwindingIsOneMore}
+use Rattle.match_stack.specs.Words.{Memory, with_bytes, Context, context_of, rsp, Functions, DispatchRecord, placed, filter_return, finally_return, vectored_return, answer_return, Funclet, LinearProgram, Item, Searches, Unwinds, StackItem, Searching, Unwinding, context_below, ImagePlan, Activation, IsLinkedStack, On, RecordHasRoom, RecordLeavesTheList, SearchIsOneMore, UnwindingIsOneMore}
+use Rattle.seh_records.specs.declared.dispatch.Kind.{Kind}
+use Rattle.seh_records.specs.declared.dispatch.Kind.TheVariants as kinds
 use Rattle.match_stack.proofs.ListKeeping.{misplaced_same, kept_by_stores_below}
 use Rattle.match_stack.proofs.RecordMemory.{bytes, pushed_is, keeps_above, data_pushed, record_pushed, pointers_pushed, placed_keeps_above, data_placed}
 
@@ -25,24 +27,32 @@ record_leaves_the_list t fs program p m at r c is items acts on room = record {
   data_alone = data_placed m at r 0 (rsp c) on.data_alone room (omega arith);
 }
 
+-- the host's return addresses are low
+pub return_small : (k : Kind) → answer_return k < 2 ^ 64
+return_small kinds.Search = let e : filter_return < 2 ^ 64 = omega arith in e
+return_small kinds.ExceptionUnwind = let e : filter_return < 2 ^ 64 = omega arith in e
+return_small kinds.LocalUnwind = let e : filter_return < 2 ^ 64 = omega arith in e
+return_small kinds.Vectored = let e : vectored_return < 2 ^ 64 = omega arith in e
+
 pub search_is_one_more : SearchIsOneMore
-search_is_one_more t fs program p m at r is items acts exception resumption asked rest others on
-    kind room s =
+search_is_one_more t fs program p m at r is items acts exception resumption asked others on kind
+    room s =
     let c = context_of r.saved in
-    let small : filter_return < 2 ^ 64 = omega arith in
-    let new = bytes m at r filter_return (rsp c) on.data_alone room small in
-    let outer = others_are_at t fs program p m at r filter_return c is items acts on room small in
-    subst (λ (n : Memory). On t fs program p n (context_below filter_return at others)
-    (Searching r ∷ is) (Searches exception resumption asked rest ∷ items) acts)
-    (sym (pushed_is m at r filter_return (rsp c) on.data_alone room small))
+    let back = answer_return r.kind in
+    let small : back < 2 ^ 64 = return_small r.kind in
+    let new = bytes m at r back (rsp c) on.data_alone room small in
+    let outer = others_are_at t fs program p m at r back c is items acts on room small in
+    subst (λ (n : Memory). On t fs program p n (context_below back at others)
+    (Searching r ∷ is) (Searches exception resumption asked ∷ items) acts)
+    (sym (pushed_is m at r back (rsp c) on.data_alone room small))
     (record {
       is_there = record {
         stack = (
           record {
             at_host = refl;
-            fetches = record_pushed m at r filter_return (rsp c) on.data_alone
+            fetches = record_pushed m at r back (rsp c) on.data_alone
                 room small;
-            pointers = pointers_pushed m at r filter_return (rsp c) on.data_alone room
+            pointers = pointers_pushed m at r back (rsp c) on.data_alone room
                 small;
             kind = kind;
             above = room.below;
@@ -55,16 +65,13 @@ search_is_one_more t fs program p m at r is items acts exception resumption aske
             own = record { fits = s.own.fits; room = misplaced_same m new at ∙ s.own.room };
             carries = s.carries;
             resumes = s.resumes;
-            onward = s.onward;
-            address = s.address;
-            aimed = s.aimed;
-            before = s.before;
+            asks = s.asks;
             near = s.near;
           },
           outer.linked,
         );
       };
-      data_alone = data_pushed m at r filter_return (rsp c) on.data_alone room small;
+      data_alone = data_pushed m at r back (rsp c) on.data_alone room small;
     })
 
 pub unwinding_is_one_more : UnwindingIsOneMore

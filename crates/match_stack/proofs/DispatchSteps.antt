@@ -1,10 +1,10 @@
 -- Where a search or an unwinding begins, or continues.
-use Rattle.std.proofs.Common.{◌≡◌, inl, ℕ, zero, suc, ◌+◌, ◌-◌, ◌%◌, ◌^◌, ◌<◌, ◌≤◌, Bool, true, Option, Some, None, List, ◌∷◌, length, refl, ap, subst, ◌∙◌, arith}
-use Rattle.std.specs.Prelude.{not, ◌==◌, slice_get, slice_index, replicate}
-use Rattle.match_stack.specs.Words.{Code, Event, Memory, Cpu, Context, context_of, State, rsp, Functions, DispatchRecord, placed, misplaced, RecordFits, AllSmall, RECORD_SIZE, is_search, Funclet, with_event, if_placed, unwinds_on, Exception, noncontinuable, LinearProgram, Frame, Item, Waits, handlers, StackItem, Framed, Leaf, ImagePlan, Activation, HasSpace, below_end, record_room, Onward, Linked, On, RecordHasRoom, IsWellFormed, place_below, place_of, parameters, count, new_record, if_finally, accepting, accepted, again, anew, to_target, jumping, asks_at, searches_on, raise_event, placed_in, AsksHost, IsException, RaiseSearches, LocalUnwindUnwinds, AcceptanceUnwinds, AnswersContinue, FinallyReturnsUnwind}
+use Rattle.std.proofs.Common.{◌≡◌, inl, ℕ, zero, suc, ◌+◌, ◌-◌, ◌%◌, ◌^◌, ◌<◌, ◌≤◌, Bool, Option, Some, None, List, ◌∷◌, length, refl, ap, subst, ◌∙◌, arith}
+use Rattle.std.specs.Prelude.{not, ◌==◌, slice_index, replicate}
+use Rattle.match_stack.specs.Words.{Code, Event, Memory, Cpu, Context, context_of, State, rsp, Functions, DispatchRecord, placed, misplaced, RecordFits, AllSmall, RECORD_SIZE, Funclet, with_event, if_placed, unwinds_on, Exception, LinearProgram, Frame, Item, Waits, handlers, StackItem, Framed, Leaf, ImagePlan, Activation, HasSpace, below_end, record_room, Onward, Linked, On, RecordHasRoom, IsWellFormed, place_below, place_of, parameters, count, new_record, if_finally, accepting, accepted, again, to_target, jumping, asks_on, raise_event, host_list, AsksHost, IsException, RaiseAsks, LocalUnwindUnwinds, AcceptanceUnwinds, AnswersContinue, FinallyReturnsUnwind}
 use Rattle.seh_num.specs.declared.event.Event.TheVariants as events
 use Rattle.seh_records.specs.declared.dispatch.Kind.{Kind}
-use Rattle.seh_records.specs.declared.dispatch.Kind.TheVariants.{Search, ExceptionUnwind, LocalUnwind, Vectored}
+use Rattle.seh_records.specs.declared.dispatch.Kind.TheVariants.{LocalUnwind, Vectored}
 use Rattle.match_stack.proofs.ListKeeping.{misplaced_same}
 use Rattle.match_stack.proofs.DispatchItems.{record_leaves_the_list}
 use Rattle.match_stack.proofs.ContextWidths.{wide_of, well_formed_with}
@@ -17,7 +17,8 @@ place_near : (sp : ℕ) → RECORD_SIZE + 15 ≤ sp → sp < 2 ^ 64 → sp ≤ p
 place_near sp l h = let e : (sp + (2 ^ 64 - RECORD_SIZE)) % 2 ^ 64
     ≡ sp - RECORD_SIZE = omega arith in omega arith
 
-place_low : (sp : ℕ) → RECORD_SIZE + 15 ≤ sp → sp < 2 ^ 64 → place_below sp + RECORD_SIZE ≤ sp
+-- and below it
+pub place_low : (sp : ℕ) → RECORD_SIZE + 15 ≤ sp → sp < 2 ^ 64 → place_below sp + RECORD_SIZE ≤ sp
 place_low sp l h = let e : (sp + (2 ^ 64 - RECORD_SIZE)) % 2 ^ 64
     ≡ sp - RECORD_SIZE = omega arith in omega arith
 
@@ -48,16 +49,10 @@ flag_is zero b lt e = ap not e
 flag_is (suc zero) b lt e = ap not e
 flag_is (suc (suc n)) b lt e = absurd (omega arith)
 
-kind_is_search : (k : Kind) → is_search k ≡ true → k ≡ Search
-kind_is_search Search e = refl
-kind_is_search ExceptionUnwind e = absurd cc
-kind_is_search LocalUnwind e = absurd cc
-kind_is_search Vectored e = absurd cc
-
-fits_new : (s : State) (kind : Kind) (code : Code) (flags : ℕ) (access : Option (Bool × ℕ))
-    (saved : Cpu) → IsWellFormed (record s { cpu = saved }) → code.0 < 2 ^ 32 → flags < 2
+fits_new : (handlers : List ℕ) (s : State) (kind : Kind) (code : Code) (flags : ℕ)
+    (access : Option (Bool × ℕ)) (saved : Cpu) → IsWellFormed handlers (record s { cpu = saved }) → code.0 < 2 ^ 32 → flags < 2
     → AllSmall (parameters access) → RecordFits (new_record kind code flags access saved)
-fits_new s kind code flags access saved well_formed a b c = record {
+fits_new handlers s kind code flags access saved well_formed a b c = record {
   frame = none_small;
   row = none_small;
   target_frame = none_small;
@@ -115,8 +110,8 @@ fits_accepting r frame address f a b = record {
   kept_small = (wide_of r.saved f.registers f.registers_small).each;
 }
 
-fits_anew : (r : DispatchRecord) → RecordFits r → RecordFits (anew r)
-fits_anew r f = record {
+pub fits_again : (r : DispatchRecord) → RecordFits r → RecordFits (again r)
+fits_again r f = record {
   frame = none_small;
   row = none_small;
   target_frame = none_small;
@@ -134,7 +129,7 @@ fits_anew r f = record {
   kept_small = (wide_of r.saved f.registers f.registers_small).each;
 }
 
-placed_room : (m : Memory) (at : ℕ) (r : DispatchRecord) (above : ℕ) → RecordHasRoom m at r above
+pub placed_room : (m : Memory) (at : ℕ) (r : DispatchRecord) (above : ℕ) → RecordHasRoom m at r above
     → RecordHasRoom (placed m at r) at r above
 placed_room m at r above room = record {
   fits = room.fits;
@@ -152,7 +147,7 @@ with_record_below sp at depth h near = record {
 
 module _ (t : Functions) (fs : List Funclet) (program : LinearProgram) (p : ImagePlan) where
   -- from the innermost frame on
-  onward_here : (m : Memory) (c : Context) (is : List StackItem) (b : Frame) (below : List Item)
+  pub onward_here : (m : Memory) (c : Context) (is : List StackItem) (b : Frame) (below : List Item)
       (acts : List Activation) → Linked t fs program p m c is (Waits b ∷ below) acts
       → Onward t fs program p c 0 (handlers program (Waits b ∷ below) None) c is (Waits b ∷ below)
   onward_here m c (Framed f ∷ is) b below acts h = inl
@@ -172,15 +167,15 @@ module _ (t : Functions) (fs : List Funclet) (program : LinearProgram) (p : Imag
   space_here m c is b below acts at h near = absurd h
 
   near_of : (s : State) (saved : Cpu) (is : List StackItem) (items : List Item)
-      (acts : List Activation) → AsksHost t fs program p s saved is items acts
-      → rsp (context_of saved) ≤ place_of saved + record_room
-  near_of s saved is items acts a = let n = a.well_formed_saved.count in
+      (acts : List Activation) (handlers : List ℕ)
+      → AsksHost t fs program p s saved is items acts handlers → rsp (context_of saved) ≤ place_of saved + record_room
+  near_of s saved is items acts handlers a = let n = a.well_formed_saved.count in
       place_near (rsp (context_of saved)) a.low (a.well_formed_saved.small 4 (omega arith))
 
   room_of : (s : State) (saved : Cpu) (is : List StackItem) (items : List Item)
-      (acts : List Activation) (r : DispatchRecord) → AsksHost t fs program p s saved is items acts
-      → RecordFits r → RecordHasRoom s.memory (place_of saved) r (rsp (context_of saved))
-  room_of s saved is items acts r a fits =
+      (acts : List Activation) (handlers : List ℕ) (r : DispatchRecord)
+      → AsksHost t fs program p s saved is items acts handlers → RecordFits r → RecordHasRoom s.memory (place_of saved) r (rsp (context_of saved))
+  room_of s saved is items acts handlers r a fits =
       let n = a.well_formed_saved.count in
       let small : rsp (context_of saved) < 2 ^ 64 = a.well_formed_saved.small 4 (omega arith) in
       record {
@@ -200,31 +195,22 @@ event_is code flags access exception e =
     ∙ ap (λ (o : Option (Bool × ℕ)). events.Raise
     (let c : Code = record { 0 = exception.code } in c) exception.flag o) e.same_access
 
-pub raise_searches : RaiseSearches
-raise_searches t fs program p s code flags access saved is acts exception c a e =
-    let at = place_of saved in
-    let r : DispatchRecord = new_record Search code flags access saved in
-    let fits : RecordFits r = fits_new s Search code flags access saved a.well_formed_saved
-    e.code_small
-    e.one_flag e.access_small in
-    let room : RecordHasRoom s.memory at r (rsp (context_of saved)) = room_of t fs program p s saved
-    is (Waits c.frame ∷ c.below) acts r a fits in
+pub raise_asks : RaiseAsks
+raise_asks t fs program p s code flags access saved is acts exception c small a e =
+    let r : DispatchRecord = new_record Vectored code flags access saved in
+    let handlers = host_list p c.store in
+    let fits : RecordFits r = fits_new handlers s Vectored code flags access saved
+    a.well_formed_saved e.code_small e.one_flag e.access_small in
     record {
-      turns =
-          ap (λ (v : List ℕ). with_event (events.Raise code (flags == 1) access)
-          (asks_at t s at (new_record Vectored code flags access saved) (slice_get v 0)))
-          a.well_formed.no_handlers
-          ∙ ap (λ (o : Option ℕ). with_event (events.Raise code (flags == 1) access)
-          (if_placed s at r (λ u. searches_on t u at r) o)) a.room
-          ∙ ap (λ (v : Event). with_event v (searches_on t (placed_in s at r) at r))
+      turns = ap (λ (v : Event). with_event v (asks_on t s (place_of saved) r))
           (event_is code flags access exception e);
-      searching = record {
+      asking = record {
         gives = a.gives;
-        well_formed = well_formed_with s (placed s.memory at r) a.well_formed;
-        on = record_leaves_the_list t fs program p s.memory at r (context_of saved) is
-            (Waits c.frame ∷ c.below) acts a.on room;
+        well_formed = a.well_formed;
+        handlers = small;
+        on = a.on;
         kind = refl;
-        room = placed_room s.memory at r (rsp (context_of saved)) room;
+        room = room_of t fs program p s saved is (Waits c.frame ∷ c.below) acts handlers r a fits;
         carries = record {
           code = e.same_code;
           flag = flag_is flags exception.flag e.one_flag e.same_flag;
@@ -232,9 +218,9 @@ raise_searches t fs program p s code flags access saved is acts exception c a e 
           count = ap count e.same_access;
           parameters = ap parameters e.same_access;
         };
-        onward = onward_here t fs program p s.memory (context_of saved) is c.frame c.below acts
-            a.on.is_there.linked;
-        near = near_of t fs program p s saved is (Waits c.frame ∷ c.below) acts a;
+        row = refl;
+        walk = refl;
+        near = near_of t fs program p s saved is (Waits c.frame ∷ c.below) acts handlers a;
       };
     }
 
@@ -244,16 +230,16 @@ local_unwind_unwinds t fs program p s frame address saved is acts depth label f 
     let at = place_of saved in
     let r : DispatchRecord = to_target saved frame address in
     let fits : RecordFits r = fits_targeted (new_record LocalUnwind (record { 0 = 0 }) 0 None saved)
-    frame address (fits_new s LocalUnwind (record { 0 = 0 }) 0 None saved a.well_formed_saved
+    frame address (fits_new (host_list p source) s LocalUnwind (record { 0 = 0 }) 0 None saved a.well_formed_saved
     (let e : 0 < 2 ^ 32 = omega arith in e) (let e : 0 < 2 = omega arith in e)
     (λ j l. zeros_small 15 j)) frame_small address_small in
     let room : RecordHasRoom s.memory at r (rsp (context_of saved)) = room_of t fs program p s saved
-    is (Waits f ∷ below) acts r a fits in
+    is (Waits f ∷ below) acts (host_list p source) r a fits in
     record {
       turns = ap (λ (o : Option ℕ). if_placed s at r (λ u. unwinds_on t u at r) o) a.room;
       unwinding = record {
         gives = a.gives;
-        well_formed = well_formed_with s (placed s.memory at r) a.well_formed;
+        well_formed = well_formed_with (host_list p source) s (placed s.memory at r) a.well_formed;
         on = record_leaves_the_list t fs program p s.memory at r (context_of saved) is
             (Waits f ∷ below) acts a.on room;
         kind = refl;
@@ -262,12 +248,13 @@ local_unwind_unwinds t fs program p s frame address saved is acts depth label f 
         at_row = at_first_row t fs program p (Waits f ∷ below);
         aimed = aimed;
         space = space_here t fs program p s.memory (context_of saved) is f below acts at
-            a.on.is_there.linked (near_of t fs program p s saved is (Waits f ∷ below) acts a);
+            a.on.is_there.linked (near_of t fs program p s saved is (Waits f ∷ below) acts
+            (host_list p source) a);
       };
     }
 
 pub acceptance_unwinds : AcceptanceUnwinds
-acceptance_unwinds t fs program p s at r frame address is acts exception found h c source a
+acceptance_unwinds t fs program p s at r frame address is acts exception found h c a
     frame_small address_small aimed =
     let new : DispatchRecord = accepting r frame address in
     let above = rsp (context_of r.saved) in
@@ -282,7 +269,7 @@ acceptance_unwinds t fs program p s at r frame address is acts exception found h
       turns = ap (λ (o : Option ℕ). if_placed s at new (λ u. unwinds_on t u at new) o) a.room.room;
       unwinding = record {
         gives = a.gives;
-        well_formed = well_formed_with s (placed s.memory at new) a.well_formed;
+        well_formed = well_formed_with (host_list p c.store) s (placed s.memory at new) a.well_formed;
         on = record_leaves_the_list t fs program p s.memory at new (context_of r.saved) is
             (Waits c.frame ∷ c.below) acts a.on room;
         kind = refl;
@@ -309,18 +296,9 @@ answers_continue t fs program p s r is acts exception resumption asked rest c h 
       };
       data_alone = h.on.data_alone;
     } in
-    let kind : r.kind ≡ Search = kind_is_search r.kind is_there.kind in
     let room : RecordHasRoom s.memory at r above =
     record {
       fits = waits.own.fits;
-      below = is_there.above;
-      small = is_there.small;
-      room = waits.own.room;
-    } in
-    let new : DispatchRecord = anew r in
-    let new_room : RecordHasRoom s.memory at new
-    above = record {
-      fits = fits_anew r waits.own.fits;
       below = is_there.above;
       small = is_there.small;
       room = waits.own.room;
@@ -330,33 +308,34 @@ answers_continue t fs program p s r is acts exception resumption asked rest c h 
         gives = h.gives;
         well_formed = h.well_formed;
         on = outer;
-        kind = kind;
+        kind = waits.asks.kind;
         room = room;
         carries = waits.carries;
-        onward = waits.onward;
+        onward = waits.asks.onward;
         near = waits.near;
       };
-      address = waits.address;
+      address = waits.asks.address;
       takes_over =
-          ap (jumping t s at r) waits.before.before
-          ∙ ap (if_finally t s at r waits.before.row.jump_target) waits.before.jumps
-          ∙ ap (accepted t s at r r.frame) waits.before.target;
+          ap (jumping t s at r) waits.asks.before.before
+          ∙ ap (if_finally t s at r waits.asks.before.row.jump_target) waits.asks.before.jumps
+          ∙ ap (accepted t s at r r.frame) waits.asks.before.target;
       frame_small = waits.own.fits.frame;
-      address_small = subst (λ a. a < 2 ^ 64) waits.before.target
-          (let a : (t.base + waits.before.row.jump_target) % 2 ^ 64 < 2 ^ 64 = omega arith in a);
-      aimed = waits.aimed;
-      raises =
-          ap (λ (v : List ℕ). with_event (raise_event noncontinuable)
-          (asks_at t s at (again r) (slice_get v 0))) h.well_formed.no_handlers
-          ∙ ap (λ (o : Option ℕ). with_event (raise_event noncontinuable)
-          (if_placed s at new (λ u. searches_on t u at new) o)) waits.own.room;
-      searches_anew = record {
+      address_small = subst (λ a. a < 2 ^ 64) waits.asks.before.target
+          (let a : (t.base + waits.asks.before.row.jump_target) % 2 ^ 64 < 2 ^ 64 = omega arith in a);
+      aimed = waits.asks.aimed;
+      raises = refl;
+      asks_anew = record {
         gives = h.gives;
-        well_formed = well_formed_with s (placed s.memory at new) h.well_formed;
-        on = record_leaves_the_list t fs program p s.memory at new (context_of r.saved) is
-            (Waits c.frame ∷ c.below) acts outer new_room;
+        well_formed = h.well_formed;
+        handlers = h.handlers;
+        on = outer;
         kind = refl;
-        room = placed_room s.memory at new above new_room;
+        room = record {
+          fits = fits_again r waits.own.fits;
+          below = is_there.above;
+          small = is_there.small;
+          room = waits.own.room;
+        };
         carries = record {
           code = refl;
           flag = refl;
@@ -364,8 +343,8 @@ answers_continue t fs program p s r is acts exception resumption asked rest c h 
           count = refl;
           parameters = refl;
         };
-        onward = onward_here t fs program p s.memory (context_of r.saved) is c.frame c.below acts
-            h.on.is_there.linked.1;
+        row = refl;
+        walk = refl;
         near = waits.near;
       };
     }

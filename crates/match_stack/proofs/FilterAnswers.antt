@@ -2,7 +2,7 @@
 use Rattle.std.proofs.Common.{◌≡◌, ◌⊎◌, inl, inr, ℕ, ◌%◌, ◌^◌, Bool, true, false, List, refl, ap, ◌∙◌, arith}
 use Rattle.std.specs.Prelude.{nat_eq, nat_lt, nat_le, not, ◌==◌, ℤ, pos, ◌-ℤ◌, if◌then◌else◌}
 use Rattle.std.proofs.lemmas.Bool.{leb-true, leb-false, le-ltb, lt-ltb}
-use Rattle.match_stack.specs.Words.{W32, low, context_of, State, register, rsp, Functions, DispatchRecord, Funclet, with_event, Exception, LinearProgram, Handler, Resumption, Configuration, Next, pick, noncontinuable, StackItem, ImagePlan, Activation, half, limit, signed, Rax, eax, filter_returned, if_searching, by_answer, by_sign, continued, accept, raise, resumed, SearchIsAnswered, AnswersAs}
+use Rattle.match_stack.specs.Words.{W32, low, context_of, State, register, rsp, Functions, DispatchRecord, Funclet, with_event, Exception, LinearProgram, Handler, Resumption, Configuration, Next, pick, noncontinuable, StackItem, ImagePlan, Activation, half, limit, signed, Rax, is_search, eax, filter_returned, if_searching, by_answer, by_sign, continued, accept, raise, resumed, SearchIsAnswered, AnswersAs}
 use Rattle.seh_num.specs.declared.event.Event.TheVariants as events
 use Rattle.linear_machine.specs.Searching.{search}
 use Rattle.match_stack.specs.FilterReturns.{filter_turn, with_answer, answered, linear_answer, AsksTheNext, AskedTakesOver, ContinuesException, IsRaisedAnew, FilterReturns}
@@ -30,7 +30,7 @@ module _ (t : Functions) (fs : List Funclet) (program : LinearProgram) (p : Imag
   shown : filter_turn t s ≡ with_answer s (by_answer t s at r v (v == 0))
   shown =
       ap (filter_returned t s at) h.on.is_there.stack.0.fetches
-      ∙ ap (if_searching t s at r) h.on.is_there.stack.0.kind
+      ∙ ap (if_searching t s at r) (ap is_search h.on.is_there.linked.0.asks.kind)
       ∙ ap (λ (x : ℤ). with_event (events.Answer x) (by_answer t s at r v (v == 0)))
       (signed_low (register s.cpu Rax))
 
@@ -112,7 +112,7 @@ module _ (t : Functions) (fs : List Funclet) (program : LinearProgram) (p : Imag
       rip_small = h.on.is_there.linked.0.own.fits.rip;
       count = h.on.is_there.linked.0.own.fits.registers;
       small = h.on.is_there.linked.0.own.fits.registers_small;
-      no_handlers = h.well_formed.no_handlers;
+      listed = h.well_formed.listed;
     };
     resumes = h.on.is_there.linked.0.resumes;
   }

@@ -30,7 +30,8 @@ set_small xs i v h lt j l = by (nat_eq j i) refl
         subst (λ x. x < 2 ^ 64) (sym (get_or-set_other xs i j v 0 (eqb-false j i e)))
         (h j (omega arith))
 
-module _ (s : State) (at back handler first frame : ℕ) (well_formed : IsWellFormed s)
+module _ (handlers : List ℕ) (s : State) (at back handler first frame : ℕ)
+    (well_formed : IsWellFormed handlers s)
     (handler_small : handler < 2 ^ 64) (first_small : first < 2 ^ 64) (frame_small : frame < 2 ^ 64)
   where
     abbrev after : State
@@ -48,7 +49,7 @@ module _ (s : State) (at back handler first frame : ℕ) (well_formed : IsWellFo
     length_two : length two ≡ 16
     length_two = length-set one 2 frame ∙ length_one
 
-    pub entered_well_formed : IsWellFormed after
+    pub entered_well_formed : IsWellFormed handlers after
     entered_well_formed = record {
       rip_small = handler_small;
       count = length-set two 4 (return_address_at at) ∙ length_two;
@@ -56,7 +57,7 @@ module _ (s : State) (at back handler first frame : ℕ) (well_formed : IsWellFo
           (set_small one 2 frame (set_small s.cpu.registers 1 first well_formed.small first_small)
           frame_small)
           (omega arith);
-      no_handlers = well_formed.no_handlers;
+      listed = well_formed.listed;
     }
 
     pub entered_stack : register after.cpu Rsp ≡ return_address_at at
@@ -121,25 +122,25 @@ module _ (t : Functions) (fs : List Funclet) (program : LinearProgram) (p : Imag
   -- a funclet begins, with its record and its return address pushed
   unfoldable pub arrives : (s : State) (at : ℕ) (r : DispatchRecord)
       (back first frame above k activation : ℕ) (name : BodyName) (is : List StackItem)
-      (items : List Item) (acts : List Activation)
-      → IsWellFormed s → IsData s.memory → RecordHasRoom s.memory at r above → above ≤ frame
+      (items : List Item) (acts : List Activation) (handlers : List ℕ)
+      → IsWellFormed handlers s → IsData s.memory → RecordHasRoom s.memory at r above → above ≤ frame
       → frame < 2 ^ 64 → back < 2 ^ 64 → first < 2 ^ 64 → IsFunclet t fs program p name k
       → Reaches t fs program p s.memory name frame activation acts
       → ((others : List ℕ) → On t fs program p (pushed s.memory at r back)
       (context_below back at others) is items acts)
       → Arrives t fs program p (entered (with_record s at r) at back (p.funclet k) first frame) k
-      activation first items acts
-  arrives s at r back first frame above k activation name is items acts well_formed d room le
+      activation first items acts handlers
+  arrives s at r back first frame above k activation name is items acts handlers well_formed d room le
       frame_small
       back_small first_small funclet reach on =
       let old : State = with_record s at r in
-      let well_formed_old : IsWellFormed old = well_formed_with s (placed s.memory at r)
+      let well_formed_old : IsWellFormed handlers old = well_formed_with handlers s (placed s.memory at r)
       well_formed in
       let new : State = entered old at back (p.funclet k) first frame in
-      let stack_is = entered_stack old at back (p.funclet k) first frame well_formed_old
+      let stack_is = entered_stack handlers old at back (p.funclet k) first frame well_formed_old
       funclet.small
       first_small frame_small in
-      let frame_is = entered_frame old at back (p.funclet k) first frame well_formed_old
+      let frame_is = entered_frame handlers old at back (p.funclet k) first frame well_formed_old
       funclet.small
       first_small frame_small in
       let memory_is = pushed_is s.memory at r back above d room back_small in
@@ -151,7 +152,7 @@ module _ (t : Functions) (fs : List Funclet) (program : LinearProgram) (p : Imag
         rip = refl;
         name = name;
         funclet = funclet;
-        argument = entered_first old at back (p.funclet k) first frame well_formed_old funclet.small
+        argument = entered_first handlers old at back (p.funclet k) first frame well_formed_old funclet.small
             first_small frame_small;
         reaches =
             subst (λ x. Reaches t fs program p new.memory name x activation acts) (sym frame_is)
@@ -171,7 +172,7 @@ module _ (t : Functions) (fs : List Funclet) (program : LinearProgram) (p : Imag
             ∙ word_pushed s.memory at r back above d room back_small;
         is = is;
         on = on;
-        well_formed = entered_well_formed old at back (p.funclet k) first frame well_formed_old
+        well_formed = entered_well_formed handlers old at back (p.funclet k) first frame well_formed_old
             funclet.small first_small
             frame_small;
       }

@@ -54,7 +54,7 @@ search_rests : (t : Functions) (fs : List Funclet) (program : LinearProgram) (p 
     → On t fs program p m (context_below rip sp others) (Searching r ∷ is) items acts
     → On t fs program p m (context_below rip sp others') (Searching r ∷ is) items acts
 search_rests t fs program p m rip sp others others' r is
-    (Searches exception resumption asked rest ∷ below) acts on =
+    (Searches exception resumption asked ∷ below) acts on =
     let s = on.is_there.stack in
     let w = on.is_there.linked.0 in
     record {
@@ -75,10 +75,7 @@ search_rests t fs program p m rip sp others others' r is
             own = w.own;
             carries = w.carries;
             resumes = w.resumes;
-            onward = w.onward;
-            address = w.address;
-            aimed = w.aimed;
-            before = w.before;
+            asks = w.asks;
             near = w.near;
           },
           on.is_there.linked.1,
@@ -130,7 +127,7 @@ unwinding_rests t fs program p m rip sp others others' r is [] acts on = absurd 
 unwinding_rests t fs program p m rip sp others others' r is (Waits b ∷ below) acts on =
     absurd on.is_there.linked
 unwinding_rests t fs program p m rip sp others others' r is
-    (Searches exception resumption asked rest ∷ below) acts on = absurd on.is_there.linked
+    (Searches exception resumption asked ∷ below) acts on = absurd on.is_there.linked
 
 pub records_rest_on_stack : RecordsRestOnStack
 records_rest_on_stack t fs program p m rip sp others others' r is items acts = (

@@ -1,13 +1,15 @@
 -- What a walk comes to at each kind of item.
-use Rattle.std.proofs.Common.{◌≡◌, ℕ, ◌+◌, ◌-◌, ◌%◌, ◌^◌, ◌<◌, ◌≤◌, Bool, true, false, Option, Some, None, Ok, Err, List, [], ◌∷◌, length, refl, ap, ◌∙◌, arith}
+use Rattle.std.proofs.Common.{◌≡◌, ℕ, ◌+◌, ◌-◌, ◌%◌, ◌^◌, ◌<◌, ◌≤◌, Bool, true, false, Option, Some, None, Ok, Err, List, [], ◌∷◌, length, refl, sym, ap, ◌∙◌, arith}
 use Rattle.std.specs.Prelude.{nat_lt, nat_eq, not, slice_index, slice_set}
 use Rattle.std.proofs.lemmas.Bool.{lt-ltb}
-use Rattle.match_stack.specs.Words.{Memory, Instr, Context, context_of, Info, Entry, rsp, word, Functions, distance, fetched, RECORD_SIZE, WalkState, walk_in, filter_return, finally_return, StackFrame, FrameIsAt, LeafIsAt, after_frame, after_leaf, caller_frame, caller_of_leaf, state, rsp_raised, Answer, popped, operations, CallerFrame, found, in_body, by_distance, past_prologue, of_entry, rising, risen, caller_in, visited, if_over, if_filter, framed, past_filter, past_finally, if_kind, above, if_above, saved_in, FrameIsVisited, LeafIsVisited, SearchIsPassed, UnwindingIsPassed, StackIsOver, IsAsTold, IsChain, IsFragment, telling, teller, told, at_entry, get, base_if}
+use Rattle.match_stack.specs.Words.{Memory, Instr, Context, context_of, Info, Entry, rsp, word, Functions, distance, fetched, RECORD_SIZE, WalkState, walk_in, filter_return, finally_return, vectored_return, is_search, is_vectored, is_asking, answer_return, StackFrame, FrameIsAt, LeafIsAt, after_frame, after_leaf, caller_frame, caller_of_leaf, state, rsp_raised, Answer, popped, operations, CallerFrame, found, in_body, by_distance, past_prologue, of_entry, rising, risen, caller_in, visited, if_over, if_filter, framed, past_filter, past_finally, past_vectored, if_kind, above, if_above, saved_in, FrameIsVisited, LeafIsVisited, SearchIsPassed, UnwindingIsPassed, StackIsOver, IsAsTold, IsChain, IsFragment, telling, teller, told, at_entry, get, base_if}
 use Rattle.seh_num.specs.Answers.{◌>>=◌}
 use Rattle.eh_tables.specs.declared.code.UnwindCode.{UnwindCode}
 use Rattle.virtual_unwind.specs.CallerOf.{unwound, at_start, has_frame}
 use Rattle.virtual_unwind.specs.Undone.{Undo, undone, returned}
 use Rattle.seh_walk.specs.Walk.{if_finally, if_vectored}
+use Rattle.seh_records.specs.declared.dispatch.Kind.{Kind}
+use Rattle.seh_records.specs.declared.dispatch.Kind.TheVariants as kinds
 use Rattle.match_stack.proofs.Lemmas.{undoing}
 use Rattle.match_stack.proofs.FrameWords.{left_is}
 
@@ -141,6 +143,14 @@ at_finally t m w e = ap (λ a. if_over t m w (nat_eq a 0)) e
     ∙ ap (λ a. if_filter t m w (nat_eq a filter_return)) e
     ∙ ap (λ a. if_finally t m w (nat_eq a finally_return)) e
 
+at_vectored : (t : Functions) (m : Memory) (w : WalkState) → w.context.rip ≡ vectored_return
+    → visited t m w ≡ past_vectored (rsp w.context) (fetched m (rsp w.context))
+unfolding visited
+at_vectored t m w e = ap (λ a. if_over t m w (nat_eq a 0)) e
+    ∙ ap (λ a. if_filter t m w (nat_eq a filter_return)) e
+    ∙ ap (λ a. if_finally t m w (nat_eq a finally_return)) e
+    ∙ ap (λ a. if_vectored t m w (nat_eq a vectored_return)) e
+
 pub stack_is_over : StackIsOver
 unfolding visited
 stack_is_over t m c row e = ap (λ a. if_over t m (state c row) (nat_eq a 0)) e
@@ -149,9 +159,20 @@ pub search_is_passed : SearchIsPassed
 search_is_passed t m c row r h =
     let order : rsp c + RECORD_SIZE ≤ rsp (context_of r.saved) = h.above in
     let rises : nat_lt (rsp c) (rsp (context_of r.saved)) ≡ true = lt-ltb _ _ (omega arith) in
-    at_filter t m (state c row) h.at_host ∙ ap (past_filter (rsp c)) h.fetches
-    ∙ ap (if_kind (rsp c) (above (rsp c) (saved_in r))) h.kind
-    ∙ ap (if_above (rsp c) (saved_in r)) rises
+    by_kind r.kind refl ∙ ap (if_above (rsp c) (saved_in r)) rises
+  where
+    by_kind : (k : Kind) → r.kind ≡ k
+        → visited t m (state c row) ≡ above (rsp c) (saved_in r)
+    by_kind kinds.Search e = at_filter t m (state c row) (h.at_host ∙ ap answer_return e)
+        ∙ ap (past_filter (rsp c)) h.fetches
+        ∙ ap (λ k. if_kind (rsp c) (above (rsp c) (saved_in r)) (is_search k)) e
+    by_kind kinds.Vectored e = at_vectored t m (state c row) (h.at_host ∙ ap answer_return e)
+        ∙ ap (past_vectored (rsp c)) h.fetches
+        ∙ ap (λ k. if_kind (rsp c) (above (rsp c) (saved_in r)) (is_vectored k)) e
+    by_kind kinds.ExceptionUnwind e = absurd (let no : false ≡ true = sym (ap is_asking e) ∙ h.kind
+        in cc)
+    by_kind kinds.LocalUnwind e = absurd (let no : false ≡ true = sym (ap is_asking e) ∙ h.kind in
+        cc)
 
 pub unwinding_is_passed : UnwindingIsPassed
 unwinding_is_passed t m c row r h =

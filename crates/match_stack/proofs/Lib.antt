@@ -24,6 +24,8 @@ pub mod SearchTurns
 pub mod UnwindTurns
 pub mod DispatchSteps
 pub mod FilterAnswers
+pub mod Asking
+pub mod VectoredAnswers
 pub mod HostRegisters
 pub mod AllocatedFrames
 pub mod ControlAddresses

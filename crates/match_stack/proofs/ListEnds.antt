@@ -38,7 +38,7 @@ module _ (t : Functions) (fs : List Funclet) (program : LinearProgram) (p : Imag
   in_stack m c (Leaf back ∷ is) (Waits b ∷ below) acts s h = let e = rises t m c (Leaf back) s.0 in
       let l = in_stack m (after_leaf c back) is below (activations_below b.body acts) s.1 h.2 in
       omega arith
-  in_stack m c (Searching r ∷ is) (Searches exception resumption asked rest ∷ below) acts s h =
+  in_stack m c (Searching r ∷ is) (Searches exception resumption asked ∷ below) acts s h =
       let e = rises t m c (Searching r) s.0 in
       let l = in_stack m (context_of r.saved) is below acts s.1 h.1 in omega arith
   in_stack m c (Unwinding r ∷ is) (Unwinds rest target ∷ below) acts s h = let e = rises t m c

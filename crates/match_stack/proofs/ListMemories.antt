@@ -1,7 +1,7 @@
 -- The list is in each memory that reads the same in the stack, from its stack pointer up, and has
 -- the same code.
 use Rattle.std.proofs.Common.{◌≡◌, ℕ, ◌+◌, ◌≤◌, Bool, Ok, List, [], ◌∷◌, ◌∙◌, arith, Option, Some, None}
-use Rattle.match_stack.specs.Words.{STACK_END, Memory, Context, context_of, rsp, word, tail_at, Functions, DispatchRecord, misplaced, fetched, RECORD_SIZE, Kind, is_search, is_unwinding, filter_return, finally_return, Funclet, Layout, LinearProgram, BodyName, FunctionBody, FuncletBody, Frame, Item, Waits, Searches, Unwinds, StackFrame, StackItem, Framed, Leaf, Searching, Unwinding, FrameIsAt, LeafIsAt, RecordIsAt, IsStack, after_frame, after_leaf, ImagePlan, Activation, activations_below, HoldsWords, temporaries_end, HasActivation, FrameWaits, LeafWaits, Linked, IsLinkedStack, home_end, HasPointers, BodyWaits, IsOwnRecord, IsWord, get, IsInPlace, HoldsPlaces}
+use Rattle.match_stack.specs.Words.{answer_return, is_asking, FilterOf, VectoredAt, STACK_END, Memory, Context, context_of, rsp, word, tail_at, Functions, DispatchRecord, misplaced, fetched, RECORD_SIZE, Kind, is_unwinding, finally_return, Funclet, Layout, LinearProgram, BodyName, FunctionBody, FuncletBody, Frame, Item, Waits, Searches, Unwinds, StackFrame, StackItem, Framed, Leaf, Searching, Unwinding, FrameIsAt, LeafIsAt, RecordIsAt, IsStack, after_frame, after_leaf, ImagePlan, Activation, activations_below, HoldsWords, temporaries_end, HasActivation, FrameWaits, LeafWaits, Linked, IsLinkedStack, home_end, HasPointers, BodyWaits, IsOwnRecord, IsWord, get, IsInPlace, HoldsPlaces}
 use Rattle.match_stack.proofs.ItemVisits.{set_head}
 use Rattle.match_stack.proofs.FrameWords.{told_above}
 use Rattle.match_stack.proofs.ListEnds.{words_fit, places_fit, end_within, in_stack}
@@ -77,7 +77,8 @@ module _ (m m' : Memory) (top : ℕ) where
         → HasPointers t fs program p m' y sp size below
     pointers_kept y sp size [] r fits h = tt
     pointers_kept y sp size (Waits w ∷ below) r fits h = tt
-    pointers_kept y sp size (Searches exception resumption asked rest ∷ below) r fits h =
+    pointers_kept y sp size (Searches exception resumption (VectoredAt place) ∷ below) r fits h = tt
+    pointers_kept y sp size (Searches exception resumption (FilterOf asked rest) ∷ below) r fits h =
         let room = h.room in record {
           room = h.room;
           kept = r.words (sp + y.pointers) (sp + size + 88) (omega arith) (omega arith) h.kept;
@@ -246,14 +247,14 @@ module _ (m m' : Memory) (t : Functions) (fs : List Funclet) (program : LinearPr
           outer.linked,
         );
       }
-  list_kept c (Searching d ∷ is) (Searches exception resumption asked rest ∷ below) acts r s h =
+  list_kept c (Searching d ∷ is) (Searches exception resumption asked ∷ below) acts r s h =
       let a = s.0.above in
       let l = in_stack t fs program p m (context_of d.saved) is below acts s.1 h.1 in
       let outer = list_kept (context_of d.saved) is below acts
       (higher m m' STACK_END (rsp c) (rsp (context_of d.saved)) (omega arith) r) s.1 h.1 in
       record {
         stack = (
-          record_is_at m m' STACK_END t fs program p c d filter_return is_search
+          record_is_at m m' STACK_END t fs program p c d (answer_return d.kind) is_asking
               (context_of d.saved) r (omega arith) s.0,
           outer.stack,
         );
@@ -262,10 +263,7 @@ module _ (m m' : Memory) (t : Functions) (fs : List Funclet) (program : LinearPr
             own = own_kept m m' STACK_END t fs program p (rsp c) d r (omega arith) h.0.own;
             carries = h.0.carries;
             resumes = h.0.resumes;
-            onward = h.0.onward;
-            address = h.0.address;
-            aimed = h.0.aimed;
-            before = h.0.before;
+            asks = h.0.asks;
             near = h.0.near;
           },
           outer.linked,

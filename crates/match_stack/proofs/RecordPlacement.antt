@@ -1,7 +1,7 @@
 -- A record that is placed below a stack is one item more.
 use Rattle.std.proofs.Common.{◌≡◌, ◌⊎◌, ℕ, ◌+◌, ◌%◌, ◌^◌, ◌<◌, ◌≤◌, Bool, true, false, List, refl, sym, ap, ◌∙◌, arith, inl, inr}
 use Rattle.std.proofs.lemmas.Bool.{cases_lt}
-use Rattle.match_stack.specs.Words.{Memory, first_refused, may_read, Context, context_of, rsp, Functions, DispatchRecord, placed, RECORD_SIZE, Kind, is_search, is_unwinding, filter_return, finally_return, StackItem, IsStack, IsBetween, RecordIsAt, context_below, Owned, CanBePlaced, RecordIsOneMore}
+use Rattle.match_stack.specs.Words.{answer_return, is_asking, Memory, first_refused, may_read, Context, context_of, rsp, Functions, DispatchRecord, placed, RECORD_SIZE, Kind, is_unwinding, finally_return, StackItem, IsStack, IsBetween, RecordIsAt, context_below, Owned, CanBePlaced, RecordIsOneMore}
 use Rattle.match_stack.proofs.Lemmas.{none_within, placed_is_fetched, placing_leaves_others}
 use Rattle.match_stack.proofs.ExceptionPointers.{placed_points}
 use Rattle.match_stack.proofs.StackKeeping.{kept_by_other_stores, nothing_below_is_owned}
@@ -64,7 +64,8 @@ module _ (t : Functions) (m : Memory) (is : List StackItem) (r : DispatchRecord)
 pub record_is_one_more : RecordIsOneMore
 record_is_one_more t m is r at others = record {
   search = λ k p s. (
-    is_there t m is r at others filter_return is_search (context_of r.saved) k p,
+    is_there t m is r at others (answer_return r.kind) is_asking (context_of r.saved) k
+        p,
     rest_is_at t m is r at others (context_of r.saved) p s,
   );
   unwinding = λ k p s. (

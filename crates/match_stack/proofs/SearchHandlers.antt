@@ -23,7 +23,7 @@ pub at_first_row : (t : Functions) (fs : List Funclet) (program : LinearProgram)
     (items : List Item) → IsAtRow t fs program p 0 items None
 at_first_row t fs program p [] = tt
 at_first_row t fs program p (Waits b ∷ below) = refl
-at_first_row t fs program p (Searches exception resumption asked rest ∷ below) = tt
+at_first_row t fs program p (Searches exception resumption asked ∷ below) = tt
 at_first_row t fs program p (Unwinds rest target ∷ below) = tt
 
 module _ (t : Functions) (fs : List Funclet) (program : LinearProgram) (p : ImagePlan) where
@@ -315,10 +315,10 @@ module _ (t : Functions) (fs : List Funclet) (program : LinearProgram) (p : Imag
       (past_leaf m c back is b below acts s.0 h.0 row
       (searched_plainly m (activations_below b.body acts) is below (after_leaf c back) 0 None s.1
       h.2 (at_first_row t fs program p below) (wide_after_leaf t m c back s.0 wide)))
-  searched_plainly m acts (Searching r ∷ is) (Searches exception resumption asked rest ∷ below) c
+  searched_plainly m acts (Searching r ∷ is) (Searches exception resumption asked ∷ below) c
       row left s h at wide =
       searched_outer t fs program p m acts acts c (context_of r.saved) (Searching r ∷ is) is
-      (Searches exception resumption asked rest ∷ below) below
+      (Searches exception resumption asked ∷ below) below
       (let q = rises t m c (Searching r) s.0 in omega arith)
       (λ k base distance register i. i) (λ to row found o. o) (λ depth label frame address a. a) _ _
       _ refl
@@ -375,10 +375,10 @@ module _ (t : Functions) (fs : List Funclet) (program : LinearProgram) (p : Imag
       _ found refl
       (continues m (activations_below b.body acts) is below (after_leaf c back) to row found n s.1
       h.2 (wide_after_leaf t m c back s.0 wide) o (omega arith))
-  continues m acts (Searching r ∷ is) (Searches exception resumption asked rest ∷ below) c to row
+  continues m acts (Searching r ∷ is) (Searches exception resumption asked ∷ below) c to row
       found n s h wide o lt =
       searched_outer t fs program p m acts acts c (context_of r.saved) (Searching r ∷ is) is
-      (Searches exception resumption asked rest ∷ below) below
+      (Searches exception resumption asked ∷ below) below
       (let q = rises t m c (Searching r) s.0 in omega arith)
       (λ k base distance register i. i) (λ to row found o. o) (λ depth label frame address a. a) _ _
       found refl
@@ -393,13 +393,13 @@ module _ (t : Functions) (fs : List Funclet) (program : LinearProgram) (p : Imag
       (omega arith))
   continues m acts [] items c to row found n s h wide o lt = absurd o
   continues m acts (Framed f ∷ is) [] c to row found n s h wide o lt = absurd h
-  continues m acts (Framed f ∷ is) (Searches exception resumption asked rest ∷ below) c to row found
+  continues m acts (Framed f ∷ is) (Searches exception resumption asked ∷ below) c to row found
       n s h wide o lt =
       absurd h
   continues m acts (Framed f ∷ is) (Unwinds rest target ∷ below) c to row found n s h wide o lt =
       absurd h
   continues m acts (Leaf back ∷ is) [] c to row found n s h wide o lt = absurd h
-  continues m acts (Leaf back ∷ is) (Searches exception resumption asked rest ∷ below) c to row
+  continues m acts (Leaf back ∷ is) (Searches exception resumption asked ∷ below) c to row
       found n s h wide o lt =
       absurd h
   continues m acts (Leaf back ∷ is) (Unwinds rest target ∷ below) c to row found n s h wide o lt =
@@ -410,7 +410,7 @@ module _ (t : Functions) (fs : List Funclet) (program : LinearProgram) (p : Imag
       absurd h
   continues m acts (Unwinding r ∷ is) [] c to row found n s h wide o lt = absurd h
   continues m acts (Unwinding r ∷ is) (Waits b ∷ below) c to row found n s h wide o lt = absurd h
-  continues m acts (Unwinding r ∷ is) (Searches exception resumption asked rest ∷ below) c to row
+  continues m acts (Unwinding r ∷ is) (Searches exception resumption asked ∷ below) c to row
       found n s h wide o lt =
       absurd h
 

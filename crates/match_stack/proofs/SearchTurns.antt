@@ -1,6 +1,6 @@
 -- A turn that searches does what linear code's search does.
-use Rattle.std.proofs.Common.{◌≡◌, ◌⊎◌, inl, inr, ℕ, ◌+◌, ◌%◌, ◌^◌, ◌<◌, ◌≤◌, true, Option, Some, None, List, [], ◌∷◌, refl, sym, ap, ◌∙◌, arith}
-use Rattle.match_stack.specs.Words.{Code, Rcx, Rsp, Cpu, context_of, State, register, rsp, Functions, DispatchRecord, placed, return_address_at, RecordFits, is_search, filter_return, walk_in, steps, SearchResult, search, Funclet, Turn, Continues, arrived, in_hand, if_placed, entered, Exception, LinearProgram, Handler, Resumption, Item, Waits, Searches, Configuration, StackItem, Searching, ImagePlan, Activation, RecordHasRoom, FindsHandler, SearchedAs, IsWellFormed, Ends, after_search, consult, Asks, Accepts, IsSearching, SearchTurns, ResumesFrom}
+use Rattle.std.proofs.Common.{◌≡◌, ◌⊎◌, inl, inr, ℕ, ◌+◌, ◌%◌, ◌^◌, ◌<◌, ◌≤◌, true, Option, Some, None, List, [], ◌∷◌, refl, sym, ap, subst, ◌∙◌, arith}
+use Rattle.match_stack.specs.Words.{answer_return, pushed, context_below, On, Code, Rcx, Rsp, Cpu, context_of, State, register, rsp, Functions, DispatchRecord, placed, return_address_at, RecordFits, is_asking, filter_return, host_list, FilterOf, walk_in, steps, SearchResult, search, Funclet, Turn, Continues, arrived, in_hand, if_placed, entered, Exception, LinearProgram, Handler, Resumption, Item, Waits, Searches, Configuration, StackItem, Searching, ImagePlan, Activation, RecordHasRoom, FindsHandler, SearchedAs, IsWellFormed, Ends, after_search, consult, Asks, Accepts, IsSearching, SearchTurns, ResumesFrom}
 use Rattle.seh_num.specs.declared.end.RunEnd.TheVariants as ends
 use Rattle.match_stack.proofs.ListEnds.{in_stack}
 use Rattle.match_stack.proofs.RecordMemory.{IsPlace, place_of, pushed_record_leaves_others}
@@ -18,6 +18,9 @@ module _ (t : Functions) (fs : List Funclet) (program : LinearProgram) (p : Imag
   abbrev items : List Item
   items = Waits c.frame ∷ c.below
 
+  abbrev handlers : List ℕ
+  handlers = host_list p c.store
+
   abbrev turn_of : SearchResult → Turn
   turn_of x = arrived t fs (after_search t s at r x)
 
@@ -28,16 +31,16 @@ module _ (t : Functions) (fs : List Funclet) (program : LinearProgram) (p : Imag
       (p.funclet k) ((at + 80) % 2 ^ 64) frame).cpu in register cpu Rcx ≡ register cpu Rsp + 88
   pointers_above hand room frame k handler_small frame_small =
       let old : State = with_record t fs program p s at hand in
-      let well_formed : IsWellFormed old = well_formed_with s (placed s.memory at hand)
+      let well_formed : IsWellFormed handlers old = well_formed_with handlers s (placed s.memory at hand)
       h.well_formed in
       let b = room.below in
       let small = room.small in
       let place : IsPlace at = place_of s.memory at (omega arith) room.room in
       let l : 0x70000008 ≤ at = place.low in
-      let first = entered_first old at filter_return (p.funclet k) ((at + 80) % 2 ^ 64) frame
+      let first = entered_first handlers old at filter_return (p.funclet k) ((at + 80) % 2 ^ 64) frame
       well_formed
       handler_small (omega arith) frame_small in
-      let sp = entered_stack old at filter_return (p.funclet k) ((at + 80) % 2 ^ 64) frame
+      let sp = entered_stack handlers old at filter_return (p.funclet k) ((at + 80) % 2 ^ 64) frame
       well_formed
       handler_small (omega arith) frame_small in
       let e : (at + 80) % 2 ^ 64 ≡ return_address_at at + 88 = omega arith in
@@ -59,7 +62,7 @@ module _ (t : Functions) (fs : List Funclet) (program : LinearProgram) (p : Imag
         small = h.room.small;
         room = h.room.room;
       } in
-      let kind : is_search hand.kind ≡ true = ap is_search h.kind in
+      let kind : is_asking hand.kind ≡ true = ap is_asking h.kind in
       let new : State = entered (with_record t fs program p s at hand) at filter_return
       (p.funclet k) ((at + 80) % 2 ^ 64) a.frame in
       let le = a.above in
@@ -80,13 +83,16 @@ module _ (t : Functions) (fs : List Funclet) (program : LinearProgram) (p : Imag
         goes = λ next. ap (λ (o : Option ℕ). consult program o f rest exception resumption next c)
             e;
         arrives = arrives t fs program p s at hand filter_return ((at + 80) % 2 ^ 64) a.frame above
-            k f.activation a.name (Searching hand ∷ is) (Searches exception resumption f rest ∷
+            k f.activation a.name (Searching hand ∷ is) (Searches exception resumption (FilterOf f rest) ∷
             items)
-            acts
+            acts handlers
             h.well_formed h.on.data_alone room le frame_small (omega arith) (omega arith) a.funclet
             a.reaches
-            (λ others. search_is_one_more t fs program p s.memory at hand is items acts exception
-            resumption f rest others h.on kind room
+            (λ others. subst (λ k. On t fs program p (pushed s.memory at hand (answer_return k))
+            (context_below (answer_return k) at others) (Searching hand ∷ is)
+            (Searches exception resumption (FilterOf f rest) ∷ items) acts) h.kind
+            (search_is_one_more t fs program p s.memory at hand is items acts exception resumption
+            (FilterOf f rest) others h.on kind room
             (record {
               own = record { fits = hand_fits; room = h.room.room };
               carries = record {
@@ -97,12 +103,15 @@ module _ (t : Functions) (fs : List Funclet) (program : LinearProgram) (p : Imag
                 parameters = h.carries.parameters;
               };
               resumes = resumes;
-              onward = a.onward;
-              address = a.address;
-              aimed = a.aimed;
-              before = a.before;
+              asks = record {
+                kind = h.kind;
+                onward = a.onward;
+                address = a.address;
+                aimed = a.aimed;
+                before = a.before;
+              };
               near = h.near;
-            }));
+            })));
         named = a.named new.cpu;
         hand = hand;
         same_saved = refl;

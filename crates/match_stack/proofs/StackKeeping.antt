@@ -1,6 +1,6 @@
 -- A stack outlives what changes none of its bytes.
 use Rattle.std.proofs.Common.{◌≡◌, ℕ, ◌+◌, ◌<◌, ◌≤◌, Bool, true, List, [], ◌∷◌, ◌++◌, refl, ◌∙◌, arith, inl, inr}
-use Rattle.match_stack.specs.Words.{Memory, with_bytes, Context, context_of, rsp, Functions, DispatchRecord, RECORD_SIZE, Kind, is_search, is_unwinding, filter_return, finally_return, StackItem, Framed, Leaf, Searching, Unwinding, RecordIsAt, IsStack, IsBetween, after_frame, ItemIsAt, OwnedBy, context_after, context_at, KeptByOtherStores, NothingBelowIsOwned, SlotsAreFree}
+use Rattle.match_stack.specs.Words.{answer_return, is_asking, Memory, with_bytes, Context, context_of, rsp, Functions, DispatchRecord, RECORD_SIZE, Kind, is_unwinding, finally_return, StackItem, Framed, Leaf, Searching, Unwinding, RecordIsAt, IsStack, IsBetween, after_frame, ItemIsAt, OwnedBy, context_after, context_at, KeptByOtherStores, NothingBelowIsOwned, SlotsAreFree}
 use Rattle.match_stack.proofs.Lemmas.{fetched_by_its_bytes}
 use Rattle.match_stack.proofs.ItemVisits.{set_head}
 use Rattle.match_stack.proofs.FrameWords.{told_same, owned_low as frame_low, owned_high as frame_high}
@@ -11,7 +11,8 @@ use Rattle.match_stack.proofs.MemoryReads.{tail_at_same, word_same}
 within : (a from to : ℕ) → from ≤ a → a < to → IsBetween a from to
 within a from to low high = record { low = low; high = high }
 
-record_same : (m : Memory) (byte : ℕ → ℕ) (c : Context) (r : DispatchRecord) (at : ℕ)
+-- a record is there, whatever its home space has
+pub record_same : (m : Memory) (byte : ℕ → ℕ) (c : Context) (r : DispatchRecord) (at : ℕ)
     (is : Kind → Bool) (next : Context) → ((a : ℕ) → IsBetween a (rsp c + 32) (rsp c + RECORD_SIZE)
     → byte a ≡ m.byte a) → RecordIsAt m c r at is next
     → RecordIsAt (with_bytes m byte) c r at is next
@@ -67,8 +68,8 @@ item_is_same t m byte c (Leaf back) code same s =
       returns = word_same m byte (rsp c) (omega arith)
           (λ x p q. same x (within x (rsp c) (rsp c + 8) p q)) ∙ s.returns;
     }
-item_is_same t m byte c (Searching r) code same s = record_same m byte c r filter_return
-    is_search (context_of r.saved) same s
+item_is_same t m byte c (Searching r) code same s = record_same m byte c r
+    (answer_return r.kind) is_asking (context_of r.saved) same s
 item_is_same t m byte c (Unwinding r) code same s = record_same m byte c r finally_return
     is_unwinding r.walk same s
 

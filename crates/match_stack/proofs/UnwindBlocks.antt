@@ -41,7 +41,7 @@ past_is (FuncletBody k) target held = refl
 
 module _ (t : Functions) (fs : List Funclet) (program : LinearProgram) (p : ImagePlan)
     (g : Gives t fs program p) (m : Memory) (target : Target) (frame address depth : ℕ)
-    (source : Memory) (events : List Event) where
+    (source : Store) (events : List Event) where
   abbrev to_target : ℕ → Target
   to_target held = record target { held = held }
 
@@ -334,7 +334,7 @@ module _ (t : Functions) (fs : List Funclet) (program : LinearProgram) (p : Imag
       (counted_past m (p.layout b.body) (rsp c)
       (p.layout b.body).temporaries b.activation acts b.body held h.0.now
       (p.register b.body) h.0.waits.activation ∙ e))
-  unwound_plainly held acts (Searching r ∷ is) (Searches exception resumption asked rest
+  unwound_plainly held acts (Searching r ∷ is) (Searches exception resumption asked
       ∷ below) c row left s h at wide a e =
       from_rear t fs program p m target held held frame address (rsp c) (rsp (context_of r.saved))
       depth source events _ _ _ _ refl (λ then. refl) (omega arith)

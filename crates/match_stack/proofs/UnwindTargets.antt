@@ -11,13 +11,13 @@ locals_length [] = refl
 locals_length (a ∷ outer) = let e = locals_length outer in
     omega (arith, length-append (locals_of outer) (a.values ∷ []))
 
-pub left_activations : (m source : Memory) (y : Layout) (sp size k : ℕ) (acts : List Activation)
+pub left_activations : (m : Memory) (source : Store) (y : Layout) (sp size k : ℕ) (acts : List Activation)
     (name : BodyName) (now : ℕ → ℕ) (register : ℕ → Option ℕ)
     → HasActivation m now register y sp size k acts name
     → left_store name k (store_of source acts) ≡ store_of source (activations_below name acts)
 left_activations m source y sp size k [] (FunctionBody f) now register h = absurd h
 left_activations m source y sp size k (a ∷ outer) (FunctionBody f) now register h =
-    ap (λ (xs : List (List ℕ)). let s : Store = record { memory = source; activations = xs } in s)
+    ap (λ (xs : List (List ℕ)). let s : Store = record source { activations = xs } in s)
     (take_at (locals_of outer) (a.values ∷ []) k (locals_length outer ∙ sym h.activation.number))
 left_activations m source y sp size k acts (FuncletBody j) now register h = refl
 
@@ -37,7 +37,7 @@ module _ (t : Functions) (fs : List Funclet) (program : LinearProgram) (p : Imag
       m c (Leaf back) s.0 in let h = aimed_above m depth label frame address (after_leaf c back) is
       below s.1 a in omega arith
   aimed_above m depth label frame address c (Searching r ∷ is)
-      (Searches exception resumption asked rest ∷ below) s a = let e = rises t m c (Searching r)
+      (Searches exception resumption asked ∷ below) s a = let e = rises t m c (Searching r)
       s.0 in let h = aimed_above m depth label frame address (context_of r.saved) is below s.1 a in
       omega arith
   aimed_above m depth label frame address c (Unwinding r ∷ is) (Unwinds rest older ∷ below) s a =
@@ -56,7 +56,7 @@ module _ (t : Functions) (fs : List Funclet) (program : LinearProgram) (p : Imag
   aimed_below depth label frame address c (Leaf back ∷ is) (Waits b ∷ below) a = let h = aimed_below
       depth label frame address (after_leaf c back) is below a in omega arith
   aimed_below depth label frame address c (Searching r ∷ is)
-      (Searches exception resumption asked rest ∷ below) a = let h = aimed_below depth label frame
+      (Searches exception resumption asked ∷ below) a = let h = aimed_below depth label frame
       address (context_of r.saved) is below a in omega arith
   aimed_below depth label frame address c (Unwinding r ∷ is) (Unwinds rest older ∷ below) a =
       let h = aimed_below depth label frame address r.walk is below a in omega arith
@@ -65,7 +65,7 @@ module _ (t : Functions) (fs : List Funclet) (program : LinearProgram) (p : Imag
   -- ---- from a rear part of the stack
 
   -- an unwinding's target grows by what is held for the activations that it has left
-  abbrev pub course_of : Target → (held frame address low depth : ℕ) → Memory → List Event → Course
+  abbrev pub course_of : Target → (held frame address low depth : ℕ) → Store → List Event → Course
   course_of target held frame address low depth source
       events = record {
         target = record target { held = held };
@@ -78,7 +78,7 @@ module _ (t : Functions) (fs : List Funclet) (program : LinearProgram) (p : Imag
       }
 
   pub from_rear : (m : Memory) (target : Target) (held held' frame address low low' depth : ℕ)
-      (source : Memory) (events : List Event) (u u' : UnwindResult) (seen seen' : Next → Seen)
+      (source : Store) (events : List Event) (u u' : UnwindResult) (seen seen' : Next → Seen)
       → u ≡ u' → ((then : Next) → seen then ≡ seen' then) → held ≤ held' → low ≤ low'
       → UnwoundAs t fs program p m (course_of target held' frame address low' depth source events)
       u' seen' → UnwoundAs t fs program p m

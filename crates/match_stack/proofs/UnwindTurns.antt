@@ -1,7 +1,7 @@
 -- A turn that unwinds does what linear code's unwinding does.
 use Rattle.std.proofs.Common.{◌≡◌, ◌⊎◌, inl, inr, ℕ, zero, suc, ◌+◌, ◌^◌, ◌<◌, ◌≤◌, Option, Some, None, List, [], ◌∷◌, ◌++◌, length, refl, sym, ap, subst, ◌∙◌, arith}
 use Rattle.std.specs.Prelude.{not, ◌==◌, slice_index}
-use Rattle.match_stack.specs.Words.{W32, Code, Event, low, Context, State, rsp, Functions, distance, DispatchRecord, placed, RecordFits, AllSmall, finally_return, walk_in, steps, UnwindResult, unwind, Funclet, Turn, Continues, arrivals, arrived, in_hand, if_placed, entered, unwinds_on, LinearProgram, Waits, Unwinds, Seen, Next, StackItem, Unwinding, ImagePlan, HasSpace, below_end, record_room, RecordHasRoom, IsWide, store_of, Course, RunsBlock, UnwoundAs, IsWellFormed, landed, at_landing, by_purpose, after_unwind, HasPurpose, Lands, IsUnwinding, UnwindTurns}
+use Rattle.match_stack.specs.Words.{W32, Code, Event, low, Context, State, rsp, Functions, distance, DispatchRecord, placed, RecordFits, AllSmall, finally_return, walk_in, steps, UnwindResult, unwind, Funclet, Turn, Continues, arrivals, arrived, in_hand, if_placed, entered, unwinds_on, LinearProgram, Waits, Unwinds, Seen, Next, StackItem, Unwinding, ImagePlan, HasSpace, below_end, record_room, RecordHasRoom, IsWide, store_of, Course, RunsBlock, UnwoundAs, IsWellFormed, host_list, landed, at_landing, by_purpose, after_unwind, HasPurpose, Lands, IsUnwinding, UnwindTurns}
 use Rattle.seh_num.specs.declared.event.Event.TheVariants as events
 use Rattle.linear_machine.specs.Unwinding as linear
 use Rattle.match_stack.proofs.ListEnds.{in_stack}
@@ -29,6 +29,9 @@ module _ (t : Functions) (fs : List Funclet) (program : LinearProgram) (p : Imag
     source = w.source;
     events = w.shown;
   }
+
+  abbrev handlers : List ℕ
+  handlers = host_list p w.source
 
   abbrev seen : Next → Seen
   seen next = linear.unwind program next w.target w.items w.left w.shown (store_of w.source w.acts)
@@ -61,8 +64,8 @@ module _ (t : Functions) (fs : List Funclet) (program : LinearProgram) (p : Imag
       } in
       let new : State = entered (with_record t fs program p s at hand) at finally_return
       (p.funclet a.block) 1 (rsp a.to) in
-      let first = entered_first (with_record t fs program p s at hand) at finally_return
-      (p.funclet a.block) 1 (rsp a.to) (well_formed_with s (placed s.memory at hand) h.well_formed)
+      let first = entered_first handlers (with_record t fs program p s at hand) at finally_return
+      (p.funclet a.block) 1 (rsp a.to) (well_formed_with handlers s (placed s.memory at hand) h.well_formed)
       a.funclet.small (omega arith) frame_small in
       record {
         block = a.block;
@@ -85,7 +88,7 @@ module _ (t : Functions) (fs : List Funclet) (program : LinearProgram) (p : Imag
         arrives = arrives t fs program p s at hand finally_return 1 (rsp a.to) above a.block
             a.body.activation a.body.body (Unwinding hand ∷ a.is)
             (Unwinds a.left (record w.target { held = a.held }) ∷ Waits a.body ∷ a.below) a.acts
-            h.well_formed h.on.data_alone room le frame_small (omega arith) (omega arith) a.funclet
+            handlers h.well_formed h.on.data_alone room le frame_small (omega arith) (omega arith) a.funclet
             a.reaches
             (λ others. unwinding_is_one_more t fs program p s.memory at hand a.is
             (Waits a.body ∷ a.below) a.acts a.left (record w.target { held = a.held }) others
@@ -114,8 +117,8 @@ module _ (t : Functions) (fs : List Funclet) (program : LinearProgram) (p : Imag
         stack = a.stack;
         list = refl;
         same_walk = refl;
-        frame = entered_frame (with_record t fs program p s at hand) at finally_return
-            (p.funclet a.block) 1 (rsp a.to) (well_formed_with s (placed s.memory at hand)
+        frame = entered_frame handlers (with_record t fs program p s at hand) at finally_return
+            (p.funclet a.block) 1 (rsp a.to) (well_formed_with handlers s (placed s.memory at hand)
             h.well_formed)
             a.funclet.small (omega arith) frame_small;
       }
@@ -140,12 +143,12 @@ module _ (t : Functions) (fs : List Funclet) (program : LinearProgram) (p : Imag
       let small : code < 2 ^ 64 = omega arith in small
 
   landed_well_formed : (to : Context) (v : ℕ) → IsWide to.kept → v < 2 ^ 64
-      → IsWellFormed (at_landing s to v r.target)
+      → IsWellFormed (host_list p w.source) (at_landing s to v r.target)
   landed_well_formed to v wide small = record {
     rip_small = h.room.fits.target;
     count = refl;
     small = each;
-    no_handlers = h.well_formed.no_handlers;
+    listed = h.well_formed.listed;
   }
     where
       kept_small : (k : ℕ) → k < 9 → slice_index to.kept k < 2 ^ 64

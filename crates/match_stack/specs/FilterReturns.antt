@@ -16,13 +16,13 @@ use Rattle.host_model.specs.Dispatch.{eax, filter_returned, searches_on, accepte
 use Rattle.source_meaning.specs.State.{Exception}
 use Rattle.source_meaning.specs.Raises.{noncontinuable}
 use Rattle.linear_code.specs.Program.{LinearProgram}
-use Rattle.linear_machine.specs.Frames.{Handler, Resumption, Waits, Searches, Configuration, Seen, Next}
+use Rattle.linear_machine.specs.Frames.{Handler, Resumption, FilterOf, Waits, Searches, Configuration, Seen, Next}
 use Rattle.linear_machine.specs.Searching.{search, accept, raise, resumed, answer}
 use Rattle.match_stack.specs.Stack.{StackItem}
 use Rattle.match_stack.specs.ImagePlan.{ImagePlan}
 use Rattle.match_stack.specs.ItemMatches.{Activation, Aimed, ResumesFrom}
 use Rattle.match_stack.specs.StackRecords.{On}
-use Rattle.match_stack.specs.DispatchStates.{IsWellFormed}
+use Rattle.match_stack.specs.DispatchStates.{IsWellFormed, host_list}
 use Rattle.match_stack.specs.DispatchSteps.{SearchIsAnswered}
 
 -- the record is at RSP
@@ -46,7 +46,7 @@ answered s c =
 abbrev pub linear_answer : LinearProgram → State → Exception → Resumption → Handler → List Handler
     → Configuration → Next → Seen
 linear_answer program s exception resumption asked rest c next =
-    answer program next (eax s) (Searches exception resumption asked rest ∷ Waits c.frame ∷ c.below)
+    answer program next (eax s) (Searches exception resumption (FilterOf asked rest) ∷ Waits c.frame ∷ c.below)
     c.events c.store
 
 -- 0: the next handler
@@ -83,7 +83,7 @@ pub record ContinuesException (t : Functions) (fs : List Funclet) (program : Lin
   pub goes : (next : Next) → linear_answer program s exception resumption asked rest c next
       ≡ next (resumed resumption (answered s c))
   pub on : On t fs program p s.memory (context_of r.saved) is (Waits c.frame ∷ c.below) acts
-  pub well_formed : IsWellFormed (restored s r)
+  pub well_formed : IsWellFormed (host_list p c.store) (restored s r)
   pub resumes : ResumesFrom p resumption c.frame acts r.saved
 
 -- or C0000025 is raised, where it is noncontinuable

@@ -20,25 +20,25 @@ use Rattle.match_stack.specs.ImagePlan.{ImagePlan, IsFunclet}
 use Rattle.match_stack.specs.ItemMatches.{Activation, locals_of, Reaches, IsAtRow, Aimed, Linked}
 use Rattle.match_stack.specs.HostSearch.{IsWide, CanBeKept}
 
--- the source's memory, and the locals of the live activations
-abbrev pub store_of : Memory → List Activation → Store
-store_of source acts = record { memory = source; activations = locals_of acts }
+-- a store with the locals of these live activations
+abbrev pub store_of : Store → List Activation → Store
+store_of source acts = record source { activations = locals_of acts }
 
 -- a body on top of what waits
-abbrev pub on_top : Frame → List Item → Memory → List Activation → List Event → Configuration
+abbrev pub on_top : Frame → List Item → Store → List Activation → List Event → Configuration
 on_top b below source acts events =
     record { frame = b; below = below; store = store_of source acts; events = events }
 
 -- where an unwinding goes, and on what: its frame and the address where it lands, the lowest stack
 -- pointer, the depth where it begins, which is that of its activations with what is held, the
--- source's memory and the events so far
+-- store and the events so far
 pub record Course : Type 0 where
   pub target : Target
   pub frame : ℕ
   pub address : ℕ
   pub low : ℕ
   pub depth : ℕ
-  pub source : Memory
+  pub source : Store
   pub events : List Event
 
 module _ (t : Functions) (fs : List Funclet) (program : LinearProgram) (p : ImagePlan) where

@@ -26,6 +26,8 @@ pub record ImagePlan : Type 0 where
   pub address : BodyName → ℕ → ℕ  -- where the code of an instruction begins
   pub after : BodyName → ℕ → ℕ  -- where it ends
   pub funclet : ℕ → ℕ  -- the first byte of a funclet, by its number
+  -- where a function begins as a vectored handler: the first byte of its name thunk
+  pub handler : ℕ → ℕ
   pub leaf : BodyName → Bool  -- a leaf function, which has no frame and no entry
   -- in any other body, the entry of the function table that an instruction's code is in
   pub entry : BodyName → ℕ → Entry

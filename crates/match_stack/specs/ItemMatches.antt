@@ -10,7 +10,7 @@ use Rattle.eh_tables.specs.declared.scope.ScopeRecord.{ScopeRecord}
 use Rattle.virtual_unwind.specs.Contexts.{get, rsp}
 use Rattle.virtual_unwind.specs.Undone.{word}
 use Rattle.virtual_unwind.specs.CallerOf.{Functions, entry_of}
-use Rattle.seh_records.specs.declared.dispatch.Kind.TheVariants.{ExceptionUnwind, LocalUnwind}
+use Rattle.seh_records.specs.declared.dispatch.Kind.TheVariants.{Search, ExceptionUnwind, LocalUnwind, Vectored}
 use Rattle.seh_records.specs.declared.dispatch.DispatchRecord.{DispatchRecord}
 use Rattle.seh_records.specs.declared.layout.TheConstants.{PLACED_SIZE}
 use Rattle.seh_records.specs.Record.{misplaced}
@@ -27,7 +27,7 @@ use Rattle.source_meaning.specs.declared.depth.TheConstants.{DEEPEST}
 use Rattle.linear_code.specs.declared.program.Region.{Region}
 use Rattle.linear_code.specs.declared.program.FuncletKind.TheVariants as funclets
 use Rattle.linear_code.specs.Program.{LinearProgram, LinearBody, LinearFunclet}
-use Rattle.linear_machine.specs.Frames.{BodyName, FunctionBody, FuncletBody, body_of, Frame, Handler, Target, Resumption, Item, Waits, Searches, Unwinds}
+use Rattle.linear_machine.specs.Frames.{BodyName, FunctionBody, FuncletBody, body_of, Frame, Handler, Target, Resumption, Asked, FilterOf, VectoredAt, Item, Waits, Searches, Unwinds}
 use Rattle.linear_machine.specs.Run.{instruction_in}
 use Rattle.linear_machine.specs.Regions.{holds, regions_of, regions_at, regions_left, handlers_in, handlers}
 use Rattle.match_stack.specs.Stack.{StackFrame, StackItem, Framed, Leaf, Searching, Unwinding, after_frame, after_leaf}
@@ -226,7 +226,7 @@ module _ (t : Functions) (fs : List Funclet) (program : LinearProgram) (p : Imag
 
   -- a filter keeps the address of EXCEPTION_POINTERS
   abbrev pub HasPointers : Memory → Layout → (sp size : ℕ) → List Item → Type 0
-  HasPointers m y sp size (Searches exception resumption asked rest ∷ below) =
+  HasPointers m y sp size (Searches exception resumption (FilterOf h rest) ∷ below) =
       KeepsPointers m y sp size
   HasPointers m y sp size items = Unit {0}
 
@@ -271,17 +271,19 @@ module _ (t : Functions) (fs : List Funclet) (program : LinearProgram) (p : Imag
 
   -- what waits below a funclet is what called it
   abbrev pub FuncletIsAbove : ℕ → Frame → Option LinearFunclet → List Item → Type 0
-  FuncletIsAbove k b (Some f) (Searches exception resumption asked rest ∷ Waits w ∷ below) =
+  FuncletIsAbove k b (Some f)
+      (Searches exception resumption (FilterOf asked rest) ∷ Waits w ∷ below) =
       (f.kind ≡ funclets.Filter) × IsAskedBy k b exception asked
   FuncletIsAbove k b (Some f) (Unwinds rest target ∷ Waits w ∷ below) =
       (flag : ℕ) × (f.kind ≡ funclets.Finally flag)
   FuncletIsAbove k b (Some f) (Waits w ∷ below) = (flag : ℕ) × (f.kind ≡ funclets.Finally flag)
   FuncletIsAbove k b f items = ⊥
 
-  -- a function was called, or is the first
+  -- a function was called, is the first, or is asked as a vectored handler
   abbrev pub FunctionIsAbove : List Item → Type 0
   FunctionIsAbove [] = Unit {0}
   FunctionIsAbove (Waits w ∷ below) = Unit {0}
+  FunctionIsAbove (Searches exception resumption (VectoredAt place) ∷ Waits w ∷ below) = Unit {0}
   FunctionIsAbove items = ⊥
 
   -- what waits below a body is what called it
@@ -315,7 +317,7 @@ module _ (t : Functions) (fs : List Funclet) (program : LinearProgram) (p : Imag
       OnwardHere to row found c b below ⊎ Onward to row found (after_frame c f) is below
   Onward to row found c (Leaf back ∷ is) (Waits b ∷ below) =
       OnwardHere to row found c b below ⊎ Onward to row found (after_leaf c back) is below
-  Onward to row found c (Searching r ∷ is) (Searches exception resumption asked rest ∷ below) =
+  Onward to row found c (Searching r ∷ is) (Searches exception resumption asked ∷ below) =
       Onward to row found (context_of r.saved) is below
   Onward to row found c (Unwinding r ∷ is) (Unwinds rest target ∷ below) =
       Onward to row found r.walk is below
@@ -337,7 +339,7 @@ module _ (t : Functions) (fs : List Funclet) (program : LinearProgram) (p : Imag
   Aimed depth label frame address c (Leaf back ∷ is) (Waits b ∷ below) =
       Aimed depth label frame address (after_leaf c back) is below
   Aimed depth label frame address c (Searching r ∷ is)
-      (Searches exception resumption asked rest ∷ below) =
+      (Searches exception resumption asked ∷ below) =
       Aimed depth label frame address (context_of r.saved) is below
   Aimed depth label frame address c (Unwinding r ∷ is) (Unwinds rest target ∷ below) =
       Aimed depth label frame address r.walk is below
@@ -370,18 +372,33 @@ module _ (t : Functions) (fs : List Funclet) (program : LinearProgram) (p : Imag
   Resumes resumption (Waits b ∷ below) acts saved = ResumesFrom p resumption b acts saved
   Resumes resumption items acts saved = Unit {0}
 
-  -- a search that asks a handler's filter, with the others after it; of memory it owns its record
-  -- at RSP
-  pub record SearchWaits (m : Memory) (c : Context) (r : DispatchRecord) (exception : Exception)
-      (resumption : Resumption) (asked : Handler) (rest : List Handler) (is : List StackItem)
-      (below : List Item) (acts : List Activation) : Type 0 where
-    pub own : IsOwnRecord m (rsp c) r
-    pub carries : HasException r exception
-    pub resumes : Resumes resumption below acts r.saved
+  -- a handler's filter is asked, with the others after it
+  pub record FilterIsAsked (r : DispatchRecord) (asked : Handler) (rest : List Handler)
+      (is : List StackItem) (below : List Item) : Type 0 where
+    pub kind : r.kind ≡ Search
     pub onward : Onward r.walk r.row rest (context_of r.saved) is below
     pub address : ℕ
     pub aimed : Aimed asked.depth asked.target r.frame address (context_of r.saved) is below
     pub before : JumpsBefore r.walk.rip r.row address
+
+  -- a vectored handler is asked, at a place of their list: the walk hasn't begun
+  pub record HandlerIsAsked (r : DispatchRecord) (place : ℕ) : Type 0 where
+    pub kind : r.kind ≡ Vectored
+    pub row : r.row ≡ place
+    pub walk : r.walk ≡ context_of r.saved
+
+  abbrev pub Awaits : DispatchRecord → Asked → List StackItem → List Item → Type 0
+  Awaits r (FilterOf asked rest) is below = FilterIsAsked r asked rest is below
+  Awaits r (VectoredAt place) is below = HandlerIsAsked r place
+
+  -- a search that waits for an answer; of memory it owns its record at RSP
+  pub record SearchWaits (m : Memory) (c : Context) (r : DispatchRecord) (exception : Exception)
+      (resumption : Resumption) (asked : Asked) (is : List StackItem) (below : List Item)
+      (acts : List Activation) : Type 0 where
+    pub own : IsOwnRecord m (rsp c) r
+    pub carries : HasException r exception
+    pub resumes : Resumes resumption below acts r.saved
+    pub asks : Awaits r asked is below
     pub near : rsp (context_of r.saved) ≤ rsp c + record_room
 
   -- an exception's unwinding has its code
@@ -410,8 +427,8 @@ module _ (t : Functions) (fs : List Funclet) (program : LinearProgram) (p : Imag
   Linked m c (Leaf back ∷ is) (Waits b ∷ below) acts =
       LeafWaits m c back b below acts × IsAbove b b.body below
       × Linked m (after_leaf c back) is below (activations_below b.body acts)
-  Linked m c (Searching r ∷ is) (Searches exception resumption asked rest ∷ below) acts =
-      SearchWaits m c r exception resumption asked rest is below acts
+  Linked m c (Searching r ∷ is) (Searches exception resumption asked ∷ below) acts =
+      SearchWaits m c r exception resumption asked is below acts
       × Linked m (context_of r.saved) is below acts
   Linked m c (Unwinding r ∷ is) (Unwinds rest target ∷ below) acts =
       UnwindingWaits m c r rest target is below acts × Linked m r.walk is below acts

@@ -15,8 +15,10 @@ pub mod DispatchStates
 pub mod SearchOutcomes
 pub mod UnwindOutcomes
 pub mod TurnLaws
+pub mod AskLaws
 pub mod DispatchSteps
 pub mod FilterReturns
+pub mod VectoredReturns
 pub mod RegisterLaws
 pub mod AllocatedFrames
 pub mod ControlAddresses

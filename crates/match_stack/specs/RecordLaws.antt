@@ -9,13 +9,13 @@ use Rattle.virtual_unwind.specs.Undone.{word}
 use Rattle.virtual_unwind.specs.CallerOf.{Functions}
 use Rattle.seh_records.specs.declared.dispatch.DispatchRecord.{DispatchRecord}
 use Rattle.seh_records.specs.Record.{placed, return_address_at}
-use Rattle.seh_walk.specs.Walk.{is_search, is_unwinding, filter_return, finally_return}
+use Rattle.seh_walk.specs.Walk.{is_unwinding, finally_return}
 use Rattle.host_model.specs.declared.funclet.Funclet.{Funclet}
 use Rattle.source_meaning.specs.State.{Exception}
 use Rattle.linear_code.specs.declared.program.Region.{Region}
 use Rattle.linear_code.specs.Program.{LinearProgram}
-use Rattle.linear_machine.specs.Frames.{Handler, Target, Resumption, Item, Searches, Unwinds}
-use Rattle.match_stack.specs.Stack.{StackItem, Searching, Unwinding}
+use Rattle.linear_machine.specs.Frames.{Asked, Target, Resumption, Item, Searches, Unwinds}
+use Rattle.match_stack.specs.Stack.{is_asking, answer_return, StackItem, Searching, Unwinding}
 use Rattle.match_stack.specs.WalkLaws.{context_below}
 use Rattle.match_stack.specs.ImagePlan.{ImagePlan}
 use Rattle.match_stack.specs.ItemMatches.{Activation, SearchWaits, UnwindingWaits}
@@ -31,20 +31,20 @@ RecordLeavesTheList =
     → On t fs program p m c is items acts → RecordHasRoom m at r (rsp c)
     → On t fs program p (placed m at r) c is items acts
 
--- a search that waits, at the return address of its filter
+-- a search that waits, at the return address of what it has asked
 abbrev pub SearchIsOneMore : Type 0
 SearchIsOneMore =
     (t : Functions) (fs : List Funclet) (program : LinearProgram) (p : ImagePlan) (m : Memory)
     (at : ℕ)
     (r : DispatchRecord) (is : List StackItem) (items : List Item) (acts : List Activation)
-    (exception : Exception) (resumption : Resumption) (asked : Handler) (rest : List Handler)
-    (others : List ℕ)
-    → On t fs program p m (context_of r.saved) is items acts → is_search r.kind ≡ true
+    (exception : Exception) (resumption : Resumption) (asked : Asked) (others : List ℕ)
+    → On t fs program p m (context_of r.saved) is items acts → is_asking r.kind ≡ true
     → RecordHasRoom m at r (rsp (context_of r.saved))
-    → SearchWaits t fs program p m (context_below filter_return at []) r exception resumption asked
-    rest is items acts
-    → On t fs program p (pushed m at r filter_return) (context_below filter_return at others)
-    (Searching r ∷ is) (Searches exception resumption asked rest ∷ items) acts
+    → SearchWaits t fs program p m (context_below (answer_return r.kind) at []) r exception
+    resumption asked is items acts
+    → On t fs program p (pushed m at r (answer_return r.kind))
+    (context_below (answer_return r.kind) at others) (Searching r ∷ is)
+    (Searches exception resumption asked ∷ items) acts
 
 -- an unwinding that waits, at the return address of its `__finally` block
 abbrev pub UnwindingIsOneMore : Type 0

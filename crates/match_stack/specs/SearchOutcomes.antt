@@ -15,14 +15,14 @@ use Rattle.source_meaning.specs.declared.ended.Ended.TheVariants.{Unhandled}
 use Rattle.source_meaning.specs.State.{Exception}
 use Rattle.seh_records.specs.declared.layout.TheConstants.{POINTERS_AT}
 use Rattle.linear_code.specs.Program.{LinearProgram}
-use Rattle.linear_machine.specs.Frames.{Handler, Resumption, Waits, Searches, Configuration, Finished, Next, deeper}
+use Rattle.linear_machine.specs.Frames.{Handler, FilterOf, Resumption, Waits, Searches, Configuration, Finished, Next, deeper}
 use Rattle.linear_machine.specs.Searching as linear
 use Rattle.linear_machine.specs.Searching.{begin_filter, accept}
 use Rattle.match_stack.specs.Stack.{StackItem, Searching}
 use Rattle.match_stack.specs.ImagePlan.{ImagePlan}
 use Rattle.match_stack.specs.ItemMatches.{Activation, Aimed}
 use Rattle.match_stack.specs.StackRecords.{IsUntouched}
-use Rattle.match_stack.specs.DispatchStates.{Arrives}
+use Rattle.match_stack.specs.DispatchStates.{Arrives, host_list}
 
 module _ (t : Functions) (fs : List Funclet) (program : LinearProgram) (p : ImagePlan) where
   -- the filter of the first handler begins, unless linear code is too deep; its EXCEPTION_POINTERS
@@ -40,8 +40,8 @@ module _ (t : Functions) (fs : List Funclet) (program : LinearProgram) (p : Imag
         ≡ deeper 2 c.frame.held c.store c.events
         (next (begin_filter filter handler rest exception resumption c))
     pub arrives : Arrives t fs program p state filter handler.activation
-        ((at + POINTERS_AT) % 2 ^ 64) (Searches exception resumption handler rest
-        ∷ Waits c.frame ∷ c.below) acts
+        ((at + POINTERS_AT) % 2 ^ 64) (Searches exception resumption (FilterOf handler rest)
+        ∷ Waits c.frame ∷ c.below) acts (host_list p c.store)
     pub named : arrivals state.cpu (distance t.base state.cpu.rip) 1 fs
         ≡ events.Filter (filter + 1) ∷ []
     pub hand : DispatchRecord

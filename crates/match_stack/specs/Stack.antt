@@ -18,7 +18,8 @@ use Rattle.seh_records.specs.declared.dispatch.DispatchRecord.{DispatchRecord}
 use Rattle.seh_records.specs.Record.{fetched}
 use Rattle.seh_records.specs.declared.layout.TheConstants.{RECORD_SIZE, POINTERS_AT}
 use Rattle.seh_records.specs.declared.dispatch.Kind.{Kind}
-use Rattle.seh_walk.specs.Walk.{filter_return, finally_return, vectored_return, is_search, is_unwinding}
+use Rattle.seh_records.specs.declared.dispatch.Kind.TheVariants as kinds
+use Rattle.seh_walk.specs.Walk.{filter_return, finally_return, vectored_return, is_unwinding}
 
 -- a frame of a body: the entry of the function table that RIP is in; how far above RSP its slots
 -- end, and its return address is; that address; and what its caller has in RBX, RBP, RSI, RDI and
@@ -30,8 +31,8 @@ pub record StackFrame : Type 0 where
   pub return_address : ℕ
   pub others : List ℕ
 
--- a frame; a leaf function, which has none, by its return address; a suspended search; a suspended
--- unwinding
+-- a frame; a leaf function, which has none, by its return address; a suspended search, which has
+-- asked a filter or a vectored handler; a suspended unwinding
 pub data StackItem : Type 0 where
   Framed : StackFrame → StackItem
   Leaf : ℕ → StackItem
@@ -155,10 +156,25 @@ pub record RecordIsAt (m : Memory) (c : Context) (r : DispatchRecord) (address :
   pub above : rsp c + RECORD_SIZE ≤ rsp next
   pub small : rsp next < 2 ^ 64
 
+-- the record of a search waits for the answer of a filter, or of a vectored handler
+abbrev pub is_asking : Kind → Bool
+is_asking kinds.Search = true
+is_asking kinds.ExceptionUnwind = false
+is_asking kinds.LocalUnwind = false
+is_asking kinds.Vectored = true
+
+-- where what it has asked returns to
+abbrev pub answer_return : Kind → ℕ
+answer_return kinds.Search = filter_return
+answer_return kinds.ExceptionUnwind = filter_return
+answer_return kinds.LocalUnwind = filter_return
+answer_return kinds.Vectored = vectored_return
+
 abbrev pub ItemIsAt : Functions → Memory → Context → StackItem → Type 0
 ItemIsAt t m c (Framed f) = FrameIsAt t m c f
 ItemIsAt t m c (Leaf back) = LeafIsAt t m c back
-ItemIsAt t m c (Searching r) = RecordIsAt m c r filter_return is_search (context_of r.saved)
+ItemIsAt t m c (Searching r) =
+    RecordIsAt m c r (answer_return r.kind) is_asking (context_of r.saved)
 ItemIsAt t m c (Unwinding r) = RecordIsAt m c r finally_return is_unwinding r.walk
 
 -- the list is there from a context on, up to the first frame, which returns to 0

@@ -17,7 +17,7 @@ use Rattle.match_stack.specs.Stack.{StackItem}
 use Rattle.match_stack.specs.ImagePlan.{ImagePlan, Gives}
 use Rattle.match_stack.specs.ItemMatches.{Activation, HasSpace, below_end, record_room, IsAtRow, Onward, Aimed, HasException, HasPurpose, ResumesFrom}
 use Rattle.match_stack.specs.StackRecords.{On, RecordHasRoom}
-use Rattle.match_stack.specs.DispatchStates.{IsWellFormed}
+use Rattle.match_stack.specs.DispatchStates.{IsWellFormed, host_list}
 use Rattle.match_stack.specs.SearchOutcomes.{FilterBegins, TakesOver, NobodyTakesOver}
 use Rattle.match_stack.specs.UnwindOutcomes.{Unwound, BlockBegins, LandsThere}
 
@@ -27,7 +27,7 @@ pub record IsSearching (t : Functions) (fs : List Funclet) (program : LinearProg
     (s : State) (at : ℕ) (r : DispatchRecord) (is : List StackItem) (acts : List Activation)
     (exception : Exception) (found : List Handler) (c : Configuration) : Type 0 where
   pub gives : Gives t fs program p
-  pub well_formed : IsWellFormed s
+  pub well_formed : IsWellFormed (host_list p c.store) s
   pub on : On t fs program p s.memory (context_of r.saved) is (Waits c.frame ∷ c.below) acts
   pub kind : r.kind ≡ Search
   pub room : RecordHasRoom s.memory at r (rsp (context_of r.saved))
@@ -56,7 +56,7 @@ SearchTurns =
 pub record IsUnwinding (t : Functions) (fs : List Funclet) (program : LinearProgram) (p : ImagePlan)
     (s : State) (at : ℕ) (r : DispatchRecord) (is : List StackItem) (w : Unwound) : Type 0 where
   pub gives : Gives t fs program p
-  pub well_formed : IsWellFormed s
+  pub well_formed : IsWellFormed (host_list p w.source) s
   pub on : On t fs program p s.memory r.walk is w.items w.acts
   pub kind : is_unwinding r.kind ≡ true
   pub purpose : HasPurpose t fs program p w.target.code r

@@ -9,7 +9,7 @@ use Rattle.seh_unwind.specs.Unwind as hosts
 use Rattle.host_model.specs.declared.funclet.Funclet.{Funclet}
 use Rattle.linear_code.specs.declared.program.Region.{Region}
 use Rattle.linear_code.specs.Program.{LinearProgram}
-use Rattle.linear_machine.specs.Frames.{Target, Item}
+use Rattle.linear_machine.specs.Frames.{Target, Item, Store}
 use Rattle.linear_machine.specs.Unwinding as linear
 use Rattle.match_stack.specs.Stack.{StackItem}
 use Rattle.match_stack.specs.PlainWalks.{state}
@@ -24,7 +24,7 @@ UnwindingIsTheLists =
     (t : Functions) (fs : List Funclet) (program : LinearProgram) (p : ImagePlan) (m : Memory)
     (c : Context) (is : List StackItem) (items : List Item) (acts : List Activation) (row : ℕ)
     (left : Option (List Region))
-    (target : Target) (frame address : ℕ) (source : Memory) (events : List Event) (n : ℕ)
+    (target : Target) (frame address : ℕ) (source : Store) (events : List Event) (n : ℕ)
     → IsSearchedStack t fs program p m c is items acts → IsAtRow t fs program p row items left
     → Aimed t fs program p target.depth target.label frame address c is items → length is < n
     → UnwoundAs t fs program p m (record {

@@ -2,7 +2,6 @@
 use Rattle.std.specs.Prelude.{◌≡◌, ℕ, ◌+◌, ◌≤◌, true, List, [], ◌∷◌, length, Option, Some, None}
 use Rattle.seh_num.specs.declared.event.Event.{Event}
 use Rattle.seh_num.specs.declared.event.Event.TheVariants as events
-use Rattle.flat_memory.specs.Memory.{Memory}
 use Rattle.x64_machine.specs.declared.context.Context.{Context}
 use Rattle.x64_machine.specs.declared.cpu.Cpu.{Cpu}
 use Rattle.x64_instr.specs.declared.register.Reg.TheVariants.{Rdx}
@@ -19,7 +18,7 @@ use Rattle.host_model.specs.Funclets.{arrivals}
 use Rattle.host_model.specs.Dispatch.{at_landing}
 use Rattle.linear_code.specs.declared.program.Region.{Region}
 use Rattle.linear_code.specs.Program.{LinearProgram}
-use Rattle.linear_machine.specs.Frames.{Frame, Target, Item, Waits, Unwinds, Next}
+use Rattle.linear_machine.specs.Frames.{Store, Frame, Target, Item, Waits, Unwinds, Next}
 use Rattle.linear_machine.specs.Unwinding as linear
 use Rattle.linear_machine.specs.Unwinding.{arrive, run_finally}
 use Rattle.match_stack.specs.Stack.{StackFrame, StackItem, Framed, Unwinding, IsStack}
@@ -27,7 +26,7 @@ use Rattle.match_stack.specs.ImagePlan.{ImagePlan}
 use Rattle.match_stack.specs.ItemMatches.{Activation}
 use Rattle.match_stack.specs.StackRecords.{On, IsUntouched}
 use Rattle.match_stack.specs.HostUnwind.{store_of, on_top}
-use Rattle.match_stack.specs.DispatchStates.{IsWellFormed, Arrives}
+use Rattle.match_stack.specs.DispatchStates.{IsWellFormed, Arrives, host_list}
 
 -- RAX where an unwinding lands, and what is shown: for an exception its code
 abbrev pub landing_value : Option ℕ → ℕ
@@ -45,7 +44,7 @@ pub record Unwound : Type 0 where
   pub items : List Item
   pub left : Option (List Region)
   pub acts : List Activation
-  pub source : Memory
+  pub source : Store
   pub shown : List Event
 
 module _ (t : Functions) (fs : List Funclet) (program : LinearProgram) (p : ImagePlan) where
@@ -71,6 +70,7 @@ module _ (t : Functions) (fs : List Funclet) (program : LinearProgram) (p : Imag
         (on_top body below w.source outer w.shown)
     pub arrives : Arrives t fs program p state block body.activation 1
         (Unwinds rest (record w.target { held = held }) ∷ Waits body ∷ below) outer
+        (host_list p w.source)
     pub untouched : IsUntouched s.memory state.memory
     pub named : arrivals state.cpu (distance t.base state.cpu.rip) 1 fs
         ≡ events.Finally (block + 1) true ∷ []
@@ -108,4 +108,5 @@ module _ (t : Functions) (fs : List Funclet) (program : LinearProgram) (p : Imag
     pub at_address : r.target ≡ p.address body.body w.target.label
     pub lands : p.lands body.body w.target.label ≡ true
     pub on : On t fs program p s.memory to (Framed framed ∷ is) (Waits body ∷ below) outer
-    pub well_formed : IsWellFormed (at_landing s to (landing_value w.target.code) r.target)
+    pub well_formed : IsWellFormed (host_list p w.source)
+        (at_landing s to (landing_value w.target.code) r.target)

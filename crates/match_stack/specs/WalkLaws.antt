@@ -10,10 +10,10 @@ use Rattle.seh_records.specs.Record.{placed}
 use Rattle.seh_records.specs.Laws.{RecordFits, AreBytes}
 use Rattle.seh_records.specs.declared.layout.TheConstants.{RECORD_SIZE}
 use Rattle.seh_walk.specs.Walk as walk
-use Rattle.seh_walk.specs.Walk.{visited, saved_in, walk_in, is_search, is_unwinding, filter_return, finally_return}
+use Rattle.seh_walk.specs.Walk.{visited, saved_in, walk_in, is_unwinding, finally_return}
 use Rattle.seh_search.specs.Search.{search}
 use Rattle.seh_unwind.specs.Unwind.{unwind}
-use Rattle.match_stack.specs.Stack.{StackFrame, StackItem, Framed, Leaf, Searching, Unwinding, ItemIsAt, IsStack, Owned, Agree, IsBetween, after_frame, after_leaf, caller_frame, caller_of_leaf, context_at}
+use Rattle.match_stack.specs.Stack.{StackFrame, StackItem, Framed, Leaf, Searching, Unwinding, ItemIsAt, IsStack, is_asking, answer_return, Owned, Agree, IsBetween, after_frame, after_leaf, caller_frame, caller_of_leaf, context_at}
 use Rattle.match_stack.specs.PlainWalks.{state, plain_search, plain_unwind}
 
 -- ---- what a walk comes to
@@ -94,9 +94,10 @@ pub record CanBePlaced (m : Memory) (at : ℕ) (r : DispatchRecord) (above : Con
 pub record RecordsAreItems (t : Functions) (m : Memory) (is : List StackItem) (r : DispatchRecord)
     (at : ℕ) (others : List ℕ) : Type 0 where
   pub search :
-      is_search r.kind ≡ true → CanBePlaced m at r (context_of r.saved)
+      is_asking r.kind ≡ true → CanBePlaced m at r (context_of r.saved)
       → IsStack t m (context_of r.saved) is
-      → IsStack t (placed m at r) (context_below filter_return at others) (Searching r ∷ is)
+      → IsStack t (placed m at r) (context_below (answer_return r.kind) at others)
+      (Searching r ∷ is)
   pub unwinding :
       is_unwinding r.kind ≡ true → CanBePlaced m at r r.walk → IsStack t m r.walk is
       → IsStack t (placed m at r) (context_below finally_return at others) (Unwinding r ∷ is)

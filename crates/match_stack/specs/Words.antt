@@ -13,10 +13,10 @@ pub use Rattle.source_meaning.specs.State.{Exception}
 pub use Rattle.linear_code.specs.Program.{LinearProgram}
 pub use Rattle.linear_code.specs.declared.program.Region.{Region}
 pub use Rattle.linear_code.specs.declared.program.RegionKind.{RegionKind}
-pub use Rattle.linear_machine.specs.Frames.{Item, Searches, Unwinds, Frame, Waits, Handler, Resumption, Configuration, Next, BodyName, Target, Store, Seen, FunctionBody, FuncletBody, body_of, with_function, functions_in}
+pub use Rattle.linear_machine.specs.Frames.{Item, Searches, Unwinds, Frame, Waits, Handler, Resumption, Asked, FilterOf, VectoredAt, Configuration, Next, BodyName, Target, Store, Seen, FunctionBody, FuncletBody, body_of, with_function, functions_in}
 unfoldable pub use Rattle.linear_machine.specs.Frames.{pick}
 pub use Rattle.linear_machine.specs.Regions.{handlers, holds, handlers_in, regions_of, handlers_of, leads_to, stops}
-pub use Rattle.linear_machine.specs.Searching.{accept, raise, resumed, consult}
+pub use Rattle.linear_machine.specs.Searching.{accept, raise, resumed, consult, ask_at, ask_from, vectored_answered}
 pub use Rattle.linear_machine.specs.Unwinding.{left_store, unwind_body, arrive, run_finally, leave_region, target_past}
 pub use Rattle.eh_tables.specs.Infos.{Info}
 pub use Rattle.eh_tables.specs.Tables.{Entry}
@@ -43,7 +43,7 @@ pub use Rattle.seh_records.specs.declared.dispatch.DispatchRecord.{DispatchRecor
 pub use Rattle.seh_records.specs.declared.dispatch.Kind.{Kind}
 pub use Rattle.seh_records.specs.declared.layout.TheConstants.{RECORD_SIZE, PLACED_SIZE}
 pub use Rattle.seh_walk.specs.Asked.{AskedRecord, holding, rows_from, is_end, unwound, until, until_if, first_with_jump_target, first_finally, is_searched, is_unwound, asked_by, searched}
-pub use Rattle.seh_walk.specs.Walk.{filter_return, finally_return, is_search, is_unwinding, walk_in, steps, if_over, if_filter, framed, past_filter, past_finally, if_kind, above, if_above, saved_in, continue_walk}
+pub use Rattle.seh_walk.specs.Walk.{filter_return, finally_return, vectored_return, is_search, is_unwinding, is_vectored, walk_in, steps, if_over, if_filter, framed, past_filter, past_finally, past_vectored, if_kind, above, if_above, saved_in, continue_walk}
 unfoldable pub use Rattle.seh_walk.specs.Walk.{visited}
 pub use Rattle.seh_walk.specs.declared.walk.WalkState.{WalkState}
 pub use Rattle.seh_search.specs.Search.{by_handler, chosen}
@@ -52,13 +52,15 @@ pub use Rattle.seh_search.specs.declared.search_result.SearchResult.{SearchResul
 pub use Rattle.seh_unwind.specs.Unwind.{if_past, by_row, if_target}
 unfoldable pub use Rattle.seh_unwind.specs.Unwind.{unwind}
 pub use Rattle.seh_unwind.specs.declared.unwind_result.UnwindResult.{UnwindResult}
-pub use Rattle.host_model.specs.Dispatch.{if_placed, unwinds_on, row_before, entered, in_hand, place_of, parameters, count, new_record, if_finally, accepting, accepted, again, asks_at, to_target, jumping, searches_on, eax, filter_returned, if_searching, by_answer, by_sign, continued, rows_of, after_search, landed, at_landing, by_purpose, after_unwind}
+pub use Rattle.host_model.specs.Dispatch.{if_placed, unwinds_on, row_before, entered, in_hand, place_of, parameters, count, new_record, if_finally, accepting, accepted, again, searching, asks_at, asks_on, to_target, jumping, searches_on, eax, filter_returned, if_searching, vectored_returned, if_vectored, by_vectored_answer, restored, by_answer, by_sign, continued, rows_of, after_search, landed, at_landing, by_purpose, after_unwind}
 pub use Rattle.host_model.specs.Funclets.{arrived, arrivals}
 pub use Rattle.host_model.specs.Turns.{with_event, Turn, Continues, Ends}
 pub use Rattle.host_model.specs.declared.funclet.Funclet.{Funclet}
 pub use Rattle.match_stack.specs.ControlAddresses.{control_addresses, number_of, NumbersFunctions, ControlsAreOfTheList, ControlAddressesAreOfFunctions}
-pub use Rattle.match_stack.specs.DispatchStates.{IsWellFormed}
-pub use Rattle.match_stack.specs.DispatchSteps.{placed_in, anew, AsksHost, IsException, RaiseSearches, LocalUnwindUnwinds, AcceptanceUnwinds, AnswersContinue, FinallyReturnsUnwind, SearchIsAnswered, AnswersAs}
+pub use Rattle.match_stack.specs.DispatchStates.{IsWellFormed, host_list}
+pub use Rattle.match_stack.specs.AskLaws.{HandlersAreSmall, IsAsking, HandlerBegins, SearchFollows, AskTurns}
+pub use Rattle.match_stack.specs.VectoredReturns.{vectored_turn, at_next, linear_vectored, HandlerHasAnswered, AsksOn, ContinuesSaved, AsksAnew, HandlerReturned, VectoredReturns}
+pub use Rattle.match_stack.specs.DispatchSteps.{placed_in, AsksHost, IsException, RaiseAsks, LocalUnwindUnwinds, AcceptanceUnwinds, AnswersContinue, FinallyReturnsUnwind, SearchIsAnswered, AnswersAs}
 pub use Rattle.match_stack.specs.FrameHandlers.{NoHandler, FirstHandler, NoBlock, Arrives, FirstBlock}
 pub use Rattle.match_stack.specs.HostSearch.{IsWide, FindsHandler, SearchedAs, CanBeKept, Asks, Accepts}
 pub use Rattle.match_stack.specs.HostUnwind.{store_of, Course, RunsBlock, UnwoundAs, on_top, Lands}
@@ -68,7 +70,7 @@ pub use Rattle.match_stack.specs.ListLaws.{IsLinkedStack, KeepsAbove, left_from,
 pub use Rattle.match_stack.specs.PlainWalks.{state, chosen_or, asked_row, plain_search, decided_or, plain_unwind}
 pub use Rattle.match_stack.specs.RecordLaws.{RecordLeavesTheList, SearchIsOneMore, UnwindingIsOneMore, PushedRecordLeavesOthers, ReturnAddressIsPushed}
 pub use Rattle.frame_rules.specs.Frame.{IsWord}
-pub use Rattle.match_stack.specs.Stack.{teller, telling, told, IsChain, IsFragment, at_entry, IsAsTold, StackFrame, FrameIsAt, LeafIsAt, after_frame, after_leaf, StackItem, Searching, Unwinding, Framed, Leaf, IsStack, caller_frame, caller_of_leaf, RecordIsAt, IsBetween, Owned, ItemIsAt, OwnedBy, context_after, context_at}
+pub use Rattle.match_stack.specs.Stack.{is_asking, answer_return, teller, telling, told, IsChain, IsFragment, at_entry, IsAsTold, StackFrame, FrameIsAt, LeafIsAt, after_frame, after_leaf, StackItem, Searching, Unwinding, Framed, Leaf, IsStack, caller_frame, caller_of_leaf, RecordIsAt, IsBetween, Owned, ItemIsAt, OwnedBy, context_after, context_at}
 pub use Rattle.match_stack.specs.StackRecords.{On, RecordHasRoom, IsData, pushed, IsUntouched}
 pub use Rattle.match_stack.specs.TurnLaws.{IsSearching, SearchTurns, IsUnwinding, UnwindTurns}
 pub use Rattle.match_stack.specs.WalkLaws.{context_below, FrameIsVisited, LeafIsVisited, SearchIsPassed, UnwindingIsPassed, StackIsOver, SearchIsOfTheList, UnwindingIsOfTheList, CanBePlaced, RecordIsOneMore, KeptByOtherStores, NothingBelowIsOwned, SlotsAreFree}

@@ -1,5 +1,6 @@
--- The same body in another memory, whose stack is the same from RSP up.
-use Rattle.std.proofs.Common.{◌≡◌, ℕ, ◌+◌, ◌≤◌, false, sym, ap, ◌∙◌, arith, refl}
+-- The same body in another memory, whose stack is the same from RSP up, and with another list of
+-- vectored handlers.
+use Rattle.std.proofs.Common.{◌≡◌, ℕ, ◌+◌, ◌≤◌, false, List, map, sym, ap, ◌∙◌, arith, refl}
 use Rattle.match_turns.specs.Words.{STACK_START, STACK_END, Memory, Rsp, context_of, State, register, Configuration, context_below, activations_below, BodyWaits, temporaries_end, KeepsStack, slots_end, last_temporary, Setting, IsMachineMemory, RepresentsAt, now_of}
 use Rattle.match_turns.proofs.Lemmas.{end_within, reads_other, kept_by_other_memories, frame_stays, slots_within, IsCounted, sp_low, frame_top}
 use Rattle.match_stack.proofs.ListMemories.{ReadsSame, body_kept, pointers_kept}
@@ -18,14 +19,16 @@ module _ (setting : Setting) (s : State) (c : Configuration)
     (b : RepresentsAt setting s c) (counted : IsCounted setting c)
     (framed : setting.plan.leaf c.frame.body ≡ false)
     (m source : Memory) (keeps : KeepsStack s.memory m (register s.cpu Rsp))
-    (memory : IsMachineMemory setting m source) where
+    (memory : IsMachineMemory setting m source) (list handlers : List ℕ)
+    (listed : list ≡ map setting.plan.handler handlers) where
   open setting use {functions as t, funclets as fs, program, plan as p}
 
   abbrev pub elsewhere : State
-  elsewhere = record s { memory = m }
+  elsewhere = record s { memory = m; vectored = list }
 
   abbrev pub source_elsewhere : Configuration
-  source_elsewhere = record c { store = record c.store { memory = source } }
+  source_elsewhere =
+      record c { store = record c.store { memory = source; vectored = handlers } }
 
   abbrev sp : ℕ
   sp = register s.cpu Rsp
@@ -89,7 +92,7 @@ module _ (setting : Setting) (s : State) (c : Configuration)
           rip_small = b.well_formed.rip_small;
           count = b.well_formed.count;
           small = b.well_formed.small;
-          no_handlers = b.well_formed.no_handlers;
+          listed = listed;
         };
         memory = memory;
         body = record {

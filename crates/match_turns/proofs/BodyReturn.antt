@@ -1,7 +1,7 @@
 -- A body returns: RAX has the number of its slot, and RIP and RSP are those of its return address.
 use Rattle.std.proofs.Common.{◌≡◌, ℕ, ◌+◌, ◌^◌, ◌<◌, ◌≤◌, Bool, true, false, Option, Some, None, ◌∷◌, length, refl, sym, ap, subst, ◌∙◌, arith, length-append}
 use Rattle.std.specs.Prelude.{slice_get}
-use Rattle.match_turns.specs.Words.{kept_of, context_of, Rax, Rsp, State, register, Slot, Local, Temporary, IsSlot, Configuration, read, Layout, return_code, fetch, local_at, fetch_local, MachineView, machine, HasBack, Returned, HaveRoom, IsWellFormed, AllKeep, counts_of, owed_of, Setting, RepresentsAt, Place, InRegister, InFrame, fetch_placed, IsReached, Arriving}
+use Rattle.match_turns.specs.Words.{kept_of, context_of, Rax, Rsp, State, register, Slot, Local, Temporary, IsSlot, Configuration, read, Layout, return_code, fetch, local_at, fetch_local, MachineView, machine, HasBack, Returned, HaveRoom, IsWellFormed, AllKeep, counts_of, owed_of, Setting, RepresentsAt, Place, InRegister, InFrame, fetch_placed, IsReached, Arriving, host_list}
 use Rattle.template_code.specs.Places.{place_of}
 use Rattle.match_bodies.specs.Callers.{frame_info, owed_by}
 use Rattle.match_bodies.specs.CodeSites.{body_plan}
@@ -223,7 +223,7 @@ module _ (setting : Setting) (roomy : HaveRoom setting.program) where
     pub rax_after : register after.cpu Rax ≡ result
     rax_after = run.rax
 
-    pub well_formed_after : IsWellFormed after
+    pub well_formed_after : IsWellFormed (host_list p c.store) after
     well_formed_after = stays_well_formed s after (reaches_keeps n s after reaches) has_back.small
         b.well_formed
 

@@ -2,7 +2,7 @@
 -- the same, and RIP at the instruction or, where a call is the last of its code, at the next one.
 use Rattle.std.proofs.Common.{◌≡◌, ℕ, zero, suc, ◌+◌, ◌^◌, ◌<◌, ◌≤◌, true, false, List, [], ◌∷◌, length, Option, Some, sym, ap, subst, arith}
 use Rattle.std.specs.Prelude.{slice_get, slice_index, take}
-use Rattle.match_turns.specs.Words.{STACK_END, Memory, Rsp, Cpu, kept_of, State, register, Functions, Funclet, Layout, LinearProgram, LinearFunclet, BodyName, FunctionBody, FuncletBody, body_of, Frame, Item, Waits, Searches, Unwinds, Configuration, with_last, context_below, ImagePlan, InCode, activations_below, home_end, below_end, HoldsWords, HasSpace, SameRegions, HasPointers, FuncletIsAbove, IsAbove, On, Sites, slots_end, last_temporary, frame_of, now_of}
+use Rattle.match_turns.specs.Words.{STACK_END, Memory, Rsp, Cpu, kept_of, State, register, Functions, Funclet, Layout, LinearProgram, LinearFunclet, BodyName, FunctionBody, FuncletBody, body_of, Frame, Item, Waits, Searches, Unwinds, Configuration, with_last, context_below, ImagePlan, InCode, activations_below, home_end, below_end, HoldsWords, HasSpace, SameRegions, HasPointers, FuncletIsAbove, IsAbove, On, Sites, slots_end, last_temporary, frame_of, now_of, FilterOf}
 use Rattle.match_bodies.specs.Bodies.{InBody, RepresentsAt}
 use Rattle.match_bodies.proofs.LeafRegisters.{activation_at, framed_hold}
 use Rattle.match_turns.proofs.Lemmas.{IsFront, frame_with}
@@ -31,7 +31,7 @@ module _ (t : Functions) (fs : List Funclet) (program : LinearProgram) (p : Imag
         by_funclet : (f : Option LinearFunclet) (below : List Item)
             → FuncletIsAbove t fs program p k b f below
             → FuncletIsAbove t fs program p k (record b { temporaries = ts }) f below
-        by_funclet (Some f) (Searches exception resumption asked rest ∷ Waits w ∷ below) h = h
+        by_funclet (Some f) (Searches exception resumption (FilterOf asked rest) ∷ Waits w ∷ below) h = h
         by_funclet (Some f) (Unwinds rest target ∷ Waits w ∷ below) h = h
         by_funclet (Some f) (Waits w ∷ below) h = h
         by_funclet f below h = absurd h

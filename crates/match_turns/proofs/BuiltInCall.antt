@@ -1,10 +1,9 @@
--- A built-in function is called: RAX is cleared, the arguments are passed, and the thunk leads to
--- the service.
+-- A built-in function is called: RAX is cleared, the arguments are passed, and its stub or thunk
+-- begins.
 use Rattle.std.proofs.Common.{◌≡◌, ℕ, ◌+◌, ◌≤◌, [], ◌∷◌, refl, ap, subst, arith}
 use Rattle.match_turns.specs.Words.{opcode_register, Flags, Temporary, BodyState, size, sizes, keep, IsNear, return_at, begin_call, call_code, clear_result, call_built_in_code, MachineView, machine, sp_of, with_four, pushed, HasBelow, HasCode, FramePlace, Roomy, FrameHolds, effect}
 use Rattle.x64_templates.specs.Runs.{Reaches}
-use Rattle.x64_templates.specs.Thunks.{HasThunk}
-use Rattle.match_turns.proofs.Lemmas.{reaches_then, code_split, call_begins, thunk_reaches, pushed_thunk}
+use Rattle.match_turns.proofs.Lemmas.{reaches_then, code_split, call_begins}
 use Rattle.x64_templates.proofs.Jumps.{one_reaches}
 
 abbrev pub cleared : MachineView → MachineView
@@ -19,21 +18,20 @@ with_arguments_of v b first = with_four (cleared v) (b.slots (Temporary first))
     (b.slots (Temporary (first + 1))) (b.slots (Temporary (first + 2)))
     (b.slots (Temporary (first + 3)))
 
--- the service is reached, with the return address at RSP
-pub record ServiceReached (p : FramePlace) (first : ℕ) (v : MachineView) (rip service : ℕ)
-    (f : Flags) (b : BodyState) : Type 0 where
+-- its stub or thunk is reached, with the return address at RSP
+pub record ThunkReached (p : FramePlace) (first : ℕ) (v : MachineView) (rip to : ℕ) (f : Flags)
+    (b : BodyState) : Type 0 where
   pub flags : Flags
-  pub comes : Reaches 7 (machine v rip f) (machine
-      (pushed (with_arguments_of v b first) p.sp (return_at p.layout first (rip + 5))) service
-      flags)
+  pub comes : Reaches 6 (machine v rip f) (machine
+      (pushed (with_arguments_of v b first) p.sp (return_at p.layout first (rip + 5))) to flags)
 
-pub service_reached : (p : FramePlace) (first : ℕ) (v : MachineView) (rip to service : ℕ)
-    (f : Flags) (b : BodyState) → Roomy p → first + 4 ≤ p.counts.temporaries → sp_of v ≡ p.sp
+pub thunk_reached : (p : FramePlace) (first : ℕ) (v : MachineView) (rip to : ℕ) (f : Flags)
+    (b : BodyState) → Roomy p → first + 4 ≤ p.counts.temporaries → sp_of v ≡ p.sp
     → FrameHolds p v.locals v.memory b → HasBelow v.memory p.sp 8
     → IsNear (return_at p.layout first (rip + 5)) to
-    → HasCode v.memory rip (call_built_in_code p.layout first rip to) → HasThunk v.memory to service
-    → ServiceReached p first v rip service f b
-service_reached p first v rip to service f b room le at h below near code thunk =
+    → HasCode v.memory rip (call_built_in_code p.layout first rip to)
+    → ThunkReached p first v rip to f b
+thunk_reached p first v rip to f b room le at h below near code =
     let y = p.layout in
     let call = call_code y (Temporary first) first (rip + 5) to in
     let parts = code_split v.memory rip (clear_result ∷ []) call code in
@@ -49,12 +47,8 @@ service_reached p first v rip to service f b room le at h below near code thunk 
     let one : Reaches 1 (machine v rip f) (machine w (rip + 5) f) = one_reaches clear_result v w rip
     (rip + 5) f f refl refl parts.0 (ap (λ (a : ℕ). effect (machine v a f) clear_result) next) in
     let five = call_begins p first w (rip + 5) to f b room le at h below near begin.0 in
-    let last = thunk_reaches (pushed u p.sp back) to service five.flags
-    (pushed_thunk u p.sp back to service below thunk) in
     record {
       flags = five.flags;
-      comes = reaches_then 1 6 (machine v rip f) (machine w (rip + 5) f)
-          (machine (pushed u p.sp back) service five.flags) one
-          (reaches_then 5 1 (machine w (rip + 5) f) (machine (pushed u p.sp back) to five.flags)
-          (machine (pushed u p.sp back) service five.flags) five.comes last);
+      comes = reaches_then 1 5 (machine v rip f) (machine w (rip + 5) f)
+          (machine (pushed u p.sp back) to five.flags) one five.comes;
     }

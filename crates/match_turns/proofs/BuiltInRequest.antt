@@ -2,13 +2,14 @@
 -- the list.
 use Rattle.std.proofs.Common.{◌≡◌, ℕ, ◌+◌, ◌-◌, ◌%◌, ◌^◌, ◌<◌, ◌≤◌, Some, List, [], ◌∷◌, Ok, refl, sym, ap, subst, ◌∙◌, arith, length-set}
 use Rattle.std.specs.Prelude.{◌==◌, false, slice_get, take}
-use Rattle.match_turns.specs.Words.{kept_of, W64, loaded, IMAGE_BASE, IMAGE_RANGE_END, STACK_START, STACK_END, address_of, Rsp, Instr, opcode_register, Cpu, State, register, BuiltIn, Put, Protect, RaiseException, Walk, Temporary, BodyState, LinearBody, Configuration, body_of, regions_of, waiting, instruction_at, Layout, size, sizes, put_back, keep, temporary_at, call, IsNear, return_at, begin_call, clear_result, template, template_size, MachineView, machine, pushed, HasCode, InCode, KeepsAbove, IsWellFormed, IsLive, Comes, links_of, service_of, CallsBuiltIn, IsWellMade, IsKnown, Setting, InBody, IsMachineMemory, IsResumed, RepresentsAt, arguments_code}
+use Rattle.match_turns.specs.Words.{kept_of, W64, loaded, IMAGE_BASE, IMAGE_RANGE_END, STACK_START, STACK_END, address_of, Rsp, Instr, opcode_register, Cpu, Flags, State, register, BuiltIn, Put, Protect, RaiseException, Walk, AddVectored, RemoveVectored, Temporary, BodyState, LinearBody, Configuration, body_of, regions_of, waiting, instruction_at, Layout, size, sizes, put_back, keep, temporary_at, call, IsNear, return_at, begin_call, clear_result, template, template_size, MachineView, machine, pushed, HasCode, InCode, KeepsAbove, IsWellFormed, IsLive, Comes, links_of, service_of, CallsBuiltIn, IsWellMade, IsKnown, Setting, InBody, IsMachineMemory, IsResumed, RepresentsAt, arguments_code, host_list}
 use Rattle.x64_templates.specs.Runs.{Reaches}
 use Rattle.linear_code.specs.declared.instruction.Instruction.TheVariants as instructions
-use Rattle.match_turns.proofs.Lemmas.{sizes_append, call_size, template_sizes, set_small, template_some, reaches_silently, counted_here, code_at, reaches_keeps, stays_well_formed, frame, slots, v, same_state, template_here, has_slots, label_near, end_near, code_end, sp_is, IsCounted, sp_low, frame_top, room_here, holds_here, others_of}
+use Rattle.match_turns.proofs.BuiltInRun.{thunk_turns, named, service_reaches}
+use Rattle.match_turns.proofs.Lemmas.{sizes_append, call_size, template_sizes, set_small, template_some, reaches_then, reaches_silently, program_reaches, counted_here, code_at, reaches_keeps, stays_well_formed, frame, slots, v, same_state, template_here, has_slots, label_near, end_near, code_end, sp_is, IsCounted, sp_low, frame_top, room_here, holds_here, others_of}
 use Rattle.match_turns.proofs.FunctionFrame.{same_itself}
 use Rattle.match_turns.proofs.CallResult.{caller_framed}
-use Rattle.match_turns.proofs.BuiltInCall.{with_arguments_of, ServiceReached, service_reached}
+use Rattle.match_turns.proofs.BuiltInCall.{with_arguments_of, ThunkReached, thunk_reached}
 use Rattle.match_turns.proofs.BuiltInShadow.{calls_it, built_in_keeps}
 use Rattle.match_turns.proofs.HostRequest.{Asks, asks_host}
 use Rattle.match_turns.proofs.DispatchMemory.{memory_untouched}
@@ -23,12 +24,16 @@ service_low Put = (omega arith, omega arith)
 service_low Protect = (omega arith, omega arith)
 service_low RaiseException = (omega arith, omega arith)
 service_low Walk = (omega arith, omega arith)
+service_low (AddVectored f) = (omega arith, omega arith)
+service_low (RemoveVectored f) = (omega arith, omega arith)
 
 service_live : (f : BuiltIn) → (address_of (service_of f) == 0) ≡ false
 service_live Put = refl
 service_live Protect = refl
 service_live RaiseException = refl
 service_live Walk = refl
+service_live (AddVectored f) = refl
+service_live (RemoveVectored f) = refl
 
 pub clear_size : size clear_result ≡ 5
 unfolding size opcode_register
@@ -128,8 +133,9 @@ module _ (setting : Setting) (made : IsWellMade setting.program setting.plan) wh
         let n = back_near in
         let l = n.0 in
         let h = n.1 in
-        let a = (b.memory.code.thunks f called_here).inside.low in
-        let z = (b.memory.code.thunks f called_here).inside.high in
+        let has = b.memory.code.built_in f called_here in
+        let a = has.inside.low in
+        let z = has.inside.high in
         (omega arith, omega arith, omega arith, omega arith)
 
     resumed : IsResumed setting c.frame.body body c.frame.next back
@@ -156,38 +162,56 @@ module _ (setting : Setting) (made : IsWellMade setting.program setting.plan) wh
         (instructions.CallBuiltIn f first))) b.rip
         (template_here setting made.room s c b counted (instructions.CallBuiltIn f first) here)
 
-    pub run : ServiceReached (frame setting made.room s c b counted) first view place service
+    begun : ThunkReached (frame setting made.room s c b counted) first view place (q.thunk f)
         s.cpu.flags numbers
-    run =
-        service_reached (frame setting made.room s c b counted) first view place (q.thunk f) service
+    begun =
+        thunk_reached (frame setting made.room s c b counted) first view place (q.thunk f)
         s.cpu.flags numbers (room_here setting s c b counted) room
         (sp_is setting made.room s c b counted) (holds_here setting s c b counted)
         (let l = low in let h = top in pushing.below view sp back (omega arith) (omega arith)
         b.memory.data_alone b.memory.stack)
-        near code_here (b.memory.code.thunks f called_here).thunk
+        near code_here
 
-    -- with the arguments in their registers
+    -- with the arguments in their registers, and with what a stub puts there
+    abbrev passed : MachineView
+    passed = with_arguments_of view numbers first
+
     abbrev pub given : MachineView
-    given = with_arguments_of view numbers first
+    given = named p f passed
+
+    pub flags_there : Flags
+    flags_there = begun.flags
+
+    -- at the stub or the thunk
+    abbrev at_thunk : State
+    at_thunk = machine (pushed passed sp back) (q.thunk f) flags_there
+
+    reaches_thunk : Reaches 6 s at_thunk
+    unfolding flags_there
+    reaches_thunk = subst (λ x. Reaches 6 x at_thunk) (sym same) begun.comes
 
     abbrev pub state : State
-    state = machine (pushed given sp back) service run.flags
+    state = machine (pushed given sp back) service flags_there
 
-    pub reaches : Reaches 7 s state
-    reaches = subst (λ x. Reaches 7 x state) (sym same) run.comes
+    pub reaches : Reaches (6 + thunk_turns f) s state
+    reaches = reaches_then 6 (thunk_turns f) s at_thunk state reaches_thunk
+        (service_reaches setting f (pushed passed sp back) flags_there
+        ((program_reaches t fs program p q 6 s at_thunk reaches_thunk b.memory.code).built_in f
+        called_here))
 
-    pub comes : Comes t fs 7 s [] state
-    comes = reaches_silently t fs program p q image 7 s state reaches
-        (built_in_keeps setting made.room s c b counted f first here state reaches refl near)
+    pub comes : Comes t fs (6 + thunk_turns f) s [] state
+    comes = reaches_silently t fs program p q image (6 + thunk_turns f) s state reaches
+        (built_in_keeps setting made.room s c b counted f first here (pushed passed sp back)
+        flags_there reaches_thunk near)
         b.memory.code (host_silent setting s.memory service state.cpu b.memory.code
         (service_low f).1)
 
     pub live : IsLive state
     live = service_live f
 
-    pub well_formed : IsWellFormed state
+    pub well_formed : IsWellFormed (host_list p c.store) state
     well_formed = let l = (service_low f).1 in stays_well_formed s state
-        (reaches_keeps 7 s state reaches)
+        (reaches_keeps (6 + thunk_turns f) s state reaches)
         (omega arith) b.well_formed
 
     -- ---- the return
@@ -204,31 +228,31 @@ module _ (setting : Setting) (made : IsWellMade setting.program setting.plan) wh
     -- the state that the service continues from, and that it may save
     abbrev pub saved : Cpu
     saved = pushing.saved given sp back low_enough high_enough b.memory.data_alone b.memory.stack
-        service run.flags back_small
+        service flags_there back_small
 
     pub returns : loaded state.memory (register state.cpu Rsp) W64 ≡ Ok back
     returns = pushing.returns_there given sp back low_enough high_enough b.memory.data_alone
-        b.memory.stack service run.flags back_small
+        b.memory.stack service flags_there back_small
 
     pub sp_there : register state.cpu Rsp ≡ sp - 8
     sp_there = pushing.sp_there given sp back low_enough high_enough b.memory.data_alone
-        b.memory.stack service run.flags back_small
+        b.memory.stack service flags_there back_small
 
     pub sp_saved : register saved Rsp ≡ sp
     sp_saved = pushing.sp_saved given sp back low_enough high_enough b.memory.data_alone
-        b.memory.stack service run.flags back_small
+        b.memory.stack service flags_there back_small
 
     registers_saved : kept_of saved.registers ≡ kept_of s.cpu.registers
     registers_saved = ap (λ x. x ∷ others_of s.cpu.registers) sp_saved
 
-    pub well_formed_saved : IsWellFormed (record state { cpu = saved })
+    pub well_formed_saved : IsWellFormed (host_list p c.store) (record state { cpu = saved })
     well_formed_saved =
         let raised = (register state.cpu Rsp + 8) % 2 ^ 64 % 2 ^ 64 in
         record {
           rip_small = back_small;
           count = length-set state.cpu.registers 4 raised ∙ well_formed.count;
           small = set_small state.cpu.registers 4 raised well_formed.small (omega arith);
-          no_handlers = well_formed.no_handlers;
+          listed = well_formed.listed;
         }
 
     -- ---- memory, and the list

@@ -1,10 +1,13 @@
 -- Each turn of a call of a built-in function, up to its service, keeps the shadow.
 use Rattle.std.proofs.Common.{◌≡◌, ℕ, ◌+◌, ◌-◌, Option, Some, List, [], ◌∷◌, ◌++◌, refl, ap, ◌∙◌, arith, inl}
 use Rattle.std.specs.Prelude.{slice_get}
-use Rattle.match_turns.specs.Words.{address_of, Memory, Rsp, Instr, opcode_register, State, register, BuiltIn, Put, Protect, RaiseException, Walk, Temporary, LinearBody, Configuration, instruction_in, Layout, size, sizes, put_back, keep, temporary_at, IsNear, call, return_at, clear_result, AllKeep, HaveRoom, service_of, FindsReturn, CallsBuiltIn, Setting, IsResumed, RepresentsAt, arguments_code}
+use Rattle.match_turns.specs.Words.{Rsp, Flags, Instr, opcode_register, State, register, BuiltIn, Temporary, LinearBody, Configuration, instruction_in, Layout, size, sizes, put_back, keep, temporary_at, IsNear, call, return_at, clear_result, AllKeep, HaveRoom, MachineView, machine, CallsBuiltIn, Setting, IsResumed, RepresentsAt, arguments_code}
 use Rattle.x64_templates.specs.Runs.{Reaches}
 use Rattle.linear_code.specs.declared.instruction.Instruction.TheVariants as instructions
-use Rattle.match_turns.proofs.Lemmas.{sizes_append, call_size, others_of, StepsTo, reaches_steps, steps_split, keeps_split, AllPlain, arguments_plain, calls_keep, CalleeBegins, callee_begins, thunk_keeps, IsCounted, sp_low, room_here, has_slots}
+use Rattle.match_turns.proofs.BuiltInThunks.{called_found}
+use Rattle.match_turns.proofs.BuiltInRun.{thunk_turns}
+use Rattle.match_turns.proofs.StubTurns.{turns_keep}
+use Rattle.match_turns.proofs.Lemmas.{sizes_append, call_size, others_of, StepsTo, reaches_steps, keeps_split, AllPlain, arguments_plain, calls_keep, CalleeBegins, callee_begins, IsCounted, sp_low, room_here, has_slots}
 use Rattle.match_turns.proofs.ReturnAddressPlace.{top_of, begins_beneath}
 
 clear_size : size clear_result ≡ 5
@@ -13,20 +16,6 @@ clear_size = refl
 
 module _ (setting : Setting) (roomy : HaveRoom setting.program) where
   open setting use {functions as t, funclets as fs, program, plan as p, sites as q, image}
-
-  service_found : (f : BuiltIn) (m : Memory) → FindsReturn t m (address_of (service_of f))
-  service_found Put m = image.callers_outside.services m (address_of (service_of Put)) (omega arith)
-      (omega arith) (λ e. absurd (omega arith)) (λ e. absurd (omega arith))
-      (λ e. absurd (omega arith))
-  service_found Protect m = image.callers_outside.services m (address_of (service_of Protect))
-      (omega arith) (omega arith) (λ e. absurd (omega arith)) (λ e. absurd (omega arith))
-      (λ e. absurd (omega arith))
-  service_found RaiseException m = image.callers_outside.services m
-      (address_of (service_of RaiseException)) (omega arith) (omega arith)
-      (λ e. absurd (omega arith)) (λ e. absurd (omega arith)) (λ e. absurd (omega arith))
-  service_found Walk m = image.callers_outside.services m (address_of (service_of Walk))
-      (omega arith) (omega arith) (λ e. absurd (omega arith)) (λ e. absurd (omega arith))
-      (λ e. absurd (omega arith))
 
   -- the program calls it
   abbrev pub calls_it : (s : State) (c : Configuration) (b : RepresentsAt setting s c)
@@ -43,7 +32,7 @@ module _ (setting : Setting) (roomy : HaveRoom setting.program) where
   module _ (s : State) (c : Configuration) (b : RepresentsAt setting s c)
       (counted : IsCounted setting c) (f : BuiltIn) (first : ℕ)
       (at : slice_get b.body.slots.code.code c.frame.next ≡ Some (instructions.CallBuiltIn f first))
-      (w : State) (run : Reaches 7 s w) (there : w.cpu.rip ≡ address_of (service_of f))
+      (v : MachineView) (g : Flags) (run : Reaches 6 s (machine v (q.thunk f) g))
       (near : IsNear (return_at (p.layout c.frame.body) first
       (p.address c.frame.body c.frame.next + 5)) (q.thunk f)) where
     abbrev called_here : CallsBuiltIn program f
@@ -90,37 +79,40 @@ module _ (setting : Setting) (roomy : HaveRoom setting.program) where
         (instructions.CallBuiltIn f first) at in
         ((refl, inl refl), arguments_plain y.slots y.frame 8 y first (omega arith))
 
-    halves : (u : State) × StepsTo 6 s u × StepsTo 1 u w
-    halves = steps_split 6 1 s w (reaches_steps 7 s w run)
+    -- at its stub or thunk
+    abbrev u : State
+    u = machine v (q.thunk f) g
+
+    steps : StepsTo 6 s u
+    steps = reaches_steps 6 s u run
 
     abbrev sp : ℕ
     sp = register s.cpu Rsp
 
     called : CalleeBegins setting c.frame.body b.body.slots.code b.body.slots.body c.frame.next
         (instructions.CallBuiltIn f first) at (λ h. h) before after next (q.thunk f) refl next_is
-        near c.frame.next resumed (λ m. image.callers_outside.thunks m f called_here) s halves.0
+        near c.frame.next resumed (λ m. called_found setting f m called_here) s u
         (top_of setting s c b counted) b.body.back b.body.others b.body.is b.rip
         (begins_beneath setting s c b counted) refl
-        (let l = sp_low setting s c b counted in omega arith) b.memory.code plain halves.1 sp
+        (let l = sp_low setting s c b counted in omega arith) b.memory.code plain steps sp
     called =
         callee_begins setting c.frame.body b.body.slots.code b.body.slots.body c.frame.next
         (instructions.CallBuiltIn f first) at (λ h. h) before after next (q.thunk f) refl next_is
-        near c.frame.next resumed (λ m. image.callers_outside.thunks m f called_here) s halves.0
+        near c.frame.next resumed (λ m. called_found setting f m called_here) s u
         (top_of setting s c b counted) b.body.back b.body.others b.body.is b.rip
         (begins_beneath setting s c b counted) refl
-        (let l = sp_low setting s c b counted in omega arith) b.memory.code plain halves.1 sp
+        (let l = sp_low setting s c b counted in omega arith) b.memory.code plain steps sp
         (omega arith) (omega arith)
 
-    pub built_in_keeps : AllKeep t fs 7 s
+    pub built_in_keeps : AllKeep t fs (6 + thunk_turns f) s
     built_in_keeps =
-        keeps_split t fs 6 1 s halves.0 halves.1
+        keeps_split t fs 6 (thunk_turns f) s u steps
         (calls_keep setting c.frame.body b.body.slots.code b.body.slots.body c.frame.next
         (instructions.CallBuiltIn f first) at (λ h. h) before after next (q.thunk f) refl next_is
-        near c.frame.next resumed (λ m. image.callers_outside.thunks m f called_here) s halves.0
+        near c.frame.next resumed (λ m. called_found setting f m called_here) s u
         (top_of setting s c b counted) b.body.back b.body.others b.body.is b.rip
         (begins_beneath setting s c b counted) refl
-        (let l = sp_low setting s c b counted in omega arith) b.memory.code plain halves.1)
-        (thunk_keeps setting halves.0 w (sp - 8) sp next (others_of s.cpu.registers) _
-        called.beneath_it (q.thunk f) (address_of (service_of f)) called.rip
-        (called.program_there.thunks f called_here).thunk halves.2 there
-        (λ m. image.callers_outside.thunks m f called_here) (service_found f))
+        (let l = sp_low setting s c b counted in omega arith) b.memory.code plain steps)
+        (turns_keep setting v g (sp - 8) sp next (others_of s.cpu.registers)
+        (called.item ∷ b.body.is) f called_here (called.program_there.built_in f called_here)
+        called.beneath_it)

@@ -4,7 +4,7 @@ use Rattle.std.proofs.Common.{◌≡◌, ℕ, ◌+◌, ◌-◌, ◌*◌, ◌^◌
 use Rattle.std.specs.Prelude.{slice_get, drop}
 use Rattle.std.proofs.lemmas.Option.{slice_get_within}
 use Rattle.std.proofs.lemmas.List.{append-nil, length-drop, length-take}
-use Rattle.match_turns.specs.Words.{weight, weight_of, STACK_START, STACK_END, Memory, may_write, Protection, Rsp, Instr, State, register, distance, arrivals, Temporary, LinearBody, FunctionBody, body_of, Waits, Configuration, instruction_in, waiting, Layout, sizes, put_back, keep, temporary_at, IsNear, call, return_at, passing_code, parameters_code, passing_call_code, context_below, home_end, HoldsPlaces, return_of, ReturnsTo, On, AllKeep, Comes, function_arguments, FindsReturn, IsLayoutIf, turns_left, slots_end, KeepsStackBut, begun, FRAME_BY_WEIGHT, Setting, IsMachineMemory, IsResumed, RepresentsAt, arguments_code, IsWellFormed, LocalRegisters, local_registers, number_placed, owed_of, now_of, arrived_in}
+use Rattle.match_turns.specs.Words.{weight, weight_of, STACK_START, STACK_END, Memory, may_write, Protection, Rsp, Instr, State, register, distance, arrivals, Temporary, LinearBody, FunctionBody, body_of, Waits, Configuration, instruction_in, waiting, Layout, sizes, put_back, keep, temporary_at, IsNear, call, return_at, passing_code, parameters_code, passing_call_code, context_below, home_end, HoldsPlaces, return_of, ReturnsTo, On, AllKeep, Comes, function_arguments, FindsReturn, IsLayoutIf, turns_left, slots_end, KeepsStackBut, begun, FRAME_BY_WEIGHT, Setting, IsMachineMemory, IsResumed, RepresentsAt, arguments_code, IsWellFormed, LocalRegisters, local_registers, number_placed, owed_of, now_of, arrived_in, host_list}
 use Rattle.template_code.specs.Places.{place_of}
 use Rattle.match_turns.specs.CallOutcome.{turns_per_call}
 use Rattle.lowering_invariants.specs.SmallNumbers.{AreSmall}
@@ -304,7 +304,7 @@ module _ {setting : Setting} (at_call : AtCall setting) where
   pub counted_arguments : length arguments ≡ count
   counted_arguments = length-drop first c.frame.temporaries ∙ (let h = held in omega arith)
 
-  well_formed : IsWellFormed after
+  well_formed : IsWellFormed (host_list p c.store) after
   well_formed = stays_well_formed s after keeps rip_small b.well_formed
 
   abbrev registers : LocalRegisters
@@ -328,7 +328,7 @@ module _ {setting : Setting} (at_call : AtCall setting) where
   -- where the callee begins
   abbrev pub callee_begins : Configuration
   callee_begins = begun f (arguments ++ others) (c.frame.held + (fn.surplus + fn.data_surplus))
-      (Waits (waiting c first).frame ∷ c.below) c.store.memory c.store.activations c.events
+      (Waits (waiting c first).frame ∷ c.below) c.store c.store.activations c.events
 
   pub soon : turns + turns_left callee_begins ≤ turns_per_call fn.surplus + turns_left c
   unfolding turns
@@ -450,7 +450,7 @@ module _ {setting : Setting} (at_call : AtCall setting) where
       locals_count b.body.acts in
       let limit = shallow in
       let up : register after.cpu Rsp + layout.frame + 8 ≡ caller = omega arith in
-      let begins = function_begins t fs program p q image after c.store.memory f o there
+      let begins = function_begins t fs program p q image after c.store f o there
       (Waits (waiting c first).frame ∷ c.below) b.body.acts
       (c.frame.held + (fn.surplus + fn.data_surplus)) c.events
       (arguments ++ others) well_formed memory
@@ -464,5 +464,5 @@ module _ {setting : Setting} (at_call : AtCall setting) where
       (sym up) waits.1) in
       subst (λ (xs : List (List ℕ)). RepresentsAt setting after
       (begun f (arguments ++ others) (c.frame.held + (fn.surplus + fn.data_surplus))
-      (Waits (waiting c first).frame ∷ c.below) c.store.memory xs c.events)) (sym b.body.store)
+      (Waits (waiting c first).frame ∷ c.below) c.store xs c.events)) (sym b.body.store)
       begins

@@ -4,7 +4,7 @@ use Rattle.std.proofs.Common.{◌≡◌, ℕ, zero, suc, ◌+◌, ◌^◌, ◌<�
 use Rattle.std.specs.Prelude.{◌⊎◌, slice_get, slice_index}
 use Rattle.std.proofs.lemmas.Bool.{eq-eqb, ne_eqb, false≢true}
 use Rattle.std.proofs.lemmas.Option.{slice_get_within}
-use Rattle.match_turns.specs.Words.{kept_of, Event, Memory, Rax, Rsp, Instr, Context, State, register, Functions, distance, Funclet, arrivals, Temporary, Instruction, BodyState, with_slot, LinearProgram, LinearBody, BodyName, FuncletBody, body_of, Frame, Item, Waits, Configuration, Layout, sizes, keep, template, machine, HasCode, ReachesBody, StackItem, ImagePlan, Activation, locals_of, On, on_top, IsWellFormed, AllKeep, HaveRoom, Sites, links_of, seen_by_templates, counts_of, OwnerHasFrame, with_values, Setting, IsMachineMemory, OtherRegisters, IsWellMade, now_of}
+use Rattle.match_turns.specs.Words.{kept_of, Event, Rax, Rsp, Instr, Context, State, register, Functions, distance, Funclet, arrivals, Temporary, Instruction, BodyState, with_slot, LinearProgram, LinearBody, BodyName, FuncletBody, body_of, Frame, Item, Waits, Configuration, Layout, sizes, keep, template, machine, HasCode, ReachesBody, StackItem, ImagePlan, Activation, locals_of, On, on_top, IsWellFormed, AllKeep, HaveRoom, Sites, links_of, seen_by_templates, counts_of, OwnerHasFrame, with_values, Setting, IsMachineMemory, OtherRegisters, IsWellMade, now_of, Store, host_list}
 use Rattle.x64_templates.specs.Runs.{Reaches}
 use Rattle.match_turns.proofs.Lemmas.{sizes_append, template_sizes, code_split, call_ends, keep_flow, first_in_code, waits_in_body, locals_count, same_activations, Keeps, reaches_keeps, stays_well_formed, IsCounted, is_machine, room_here, holds_here, slots_here, locals_here, leaves_same, Leaves, Ran, represents_next, is_here, is_after, ends_at, RunsKeep, one_piece, code, v, frame, slots, template_here, next_address, sp_is, silent_at, Surroundings, label_near}
 use Rattle.template_code.specs.ColdParts.{falls_through}
@@ -86,18 +86,19 @@ module _ (setting : Setting) (roomy : HaveRoom setting.program) where
         → OwnerHasFrame t fs program p activation items acts
 
   -- linear code where the body that waited has the result
-  abbrev pub answered : Frame → List Item → Memory → List Activation → List Event → ℕ
+  abbrev pub answered : Frame → List Item → Store → List Activation → List Event → ℕ
       → Configuration
   answered w items source acts es v = on_top (again w (w.next + 1) (w.temporaries ++ v ∷ [])
       w.landed) items source acts es
 
   -- where what the body called has returned RSP and the nonvolatile registers are the body's, the
   -- list is there from there on, and RIP is at the code that keeps the result
-  module _ (u : State) (w : Frame) (items : List Item) (acts : List Activation) (source : Memory)
+  module _ (u : State) (w : Frame) (items : List Item) (acts : List Activation) (source : Store)
       (es : List Event) (above : Context) (is : List StackItem)
       (on : On t fs program p u.memory above is (Waits w ∷ items) acts)
-      (registers : kept_of u.cpu.registers ≡ above.kept) (well_formed : IsWellFormed u)
-      (memory : IsMachineMemory setting u.memory source)
+      (registers : kept_of u.cpu.registers ≡ above.kept)
+      (well_formed : IsWellFormed (host_list p source) u)
+      (memory : IsMachineMemory setting u.memory source.memory)
       (o : LinearBody) (there : body_of program w.body ≡ Some o) (i : Instruction) (first : ℕ)
       (done : List Instr) (calls : slice_get o.code w.next ≡ Some i) (goes : IsReturn i → ⊥)
       (falls : falls_through i ≡ true)
@@ -132,7 +133,7 @@ module _ (setting : Setting) (roomy : HaveRoom setting.program) where
             rip_small = small_address;
             count = well_formed.count;
             small = well_formed.small;
-            no_handlers = well_formed.no_handlers;
+            listed = well_formed.listed;
           };
           memory = memory;
           body = waits_in_body t fs program p q image earlier above is w items acts w.next
@@ -141,7 +142,7 @@ module _ (setting : Setting) (roomy : HaveRoom setting.program) where
                 rip_small = small_address;
                 count = well_formed.count;
                 small = well_formed.small;
-                no_handlers = well_formed.no_handlers;
+                listed = well_formed.listed;
               }) (λ at end h. h)
               (framed_hold (now_of true u.cpu) (p.register w.body) (p.leaf w.body) acts w.body
               framed);
@@ -206,7 +207,7 @@ module _ (setting : Setting) (roomy : HaveRoom setting.program) where
           (record {
             slots = with_slot (slots setting roomy earlier caller waits counted).slots (Temporary
                 first) result;
-            memory = source;
+            memory = source.memory;
           })
       kept =
           let r = room_slots in
@@ -255,14 +256,14 @@ module _ (setting : Setting) (roomy : HaveRoom setting.program) where
       leaves : Leaves p w.body body (record {
         slots = with_slot
             (slots setting roomy earlier caller waits counted).slots (Temporary first) result;
-        memory = source;
+        memory = source.memory;
       }) values_here values_here (w.temporaries ++ result ∷ [])
       leaves =
           let r = room_slots in
           subst (λ n. Leaves p w.body body (record {
             slots = with_slot
                 (slots setting roomy earlier caller waits counted).slots (Temporary n) result;
-            memory = source;
+            memory = source.memory;
           }) values_here values_here (w.temporaries ++ result ∷ [])) held
           (longer_leaves p w.body body (slots setting roomy earlier caller waits counted)
           values_here values_here w.temporaries result as_they_were (omega (arith, held)))
@@ -298,7 +299,7 @@ module _ (setting : Setting) (roomy : HaveRoom setting.program) where
           (seen_by_templates u).locals (record {
             slots = with_slot (slots setting roomy earlier caller waits counted).slots (Temporary
                 first) result;
-            memory = source;
+            memory = source.memory;
           })) (sym same_state) kept in
           let rip = u.cpu.rip + sizes (keep layout (Temporary first)) in
           let z : State = machine r.after rip r.flags in
@@ -313,7 +314,7 @@ module _ (setting : Setting) (roomy : HaveRoom setting.program) where
           let d : BodyState = record {
             slots = with_slot
                 (slots setting roomy earlier caller waits counted).slots (Temporary first) result;
-            memory = source;
+            memory = source.memory;
           } in
           let ts = w.temporaries ++ result ∷ [] in
           let ran : Ran setting earlier caller waits counted z d values_here
@@ -344,7 +345,7 @@ module _ (setting : Setting) (roomy : HaveRoom setting.program) where
                 let c : Configuration = record {
                   frame = again w (w.next + 1) ts w.landed;
                   below = items;
-                  store = record { memory = source; activations = xs };
+                  store = record source { activations = xs };
                   events = es;
                 } in
                 RepresentsAt t fs program p q z c) same_locals begins;

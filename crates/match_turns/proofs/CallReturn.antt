@@ -2,7 +2,7 @@
 -- and the next instruction begins.
 use Rattle.std.proofs.Common.{◌≡◌, ℕ, ◌+◌, ◌-◌, ◌<◌, false, Some, None, List, [], ◌∷◌, ◌++◌, length, refl, sym, arith, append_assoc}
 use Rattle.std.specs.Prelude.{slice_get}
-use Rattle.match_turns.specs.Words.{Event, Memory, Rax, Instr, Context, kept_of, State, register, Temporary, HasSlots, LinearBody, body_of, Frame, Item, Waits, Layout, sizes, keep, call, return_at, begin_call, passing_code, template_size, StackItem, Activation, On, on_top, IsWellFormed, HaveRoom, counts_of, Setting, IsMachineMemory, arguments_code}
+use Rattle.match_turns.specs.Words.{Event, Rax, Instr, Context, kept_of, State, register, Temporary, HasSlots, LinearBody, body_of, Frame, Item, Waits, Layout, sizes, keep, call, return_at, begin_call, passing_code, template_size, StackItem, Activation, On, on_top, IsWellFormed, HaveRoom, counts_of, Setting, IsMachineMemory, arguments_code, Store, host_list}
 use Rattle.linear_code.specs.declared.instruction.Instruction.TheVariants as instructions
 use Rattle.match_turns.proofs.Lemmas.{sizes_append, call_size, passing_call_size, IsCounted, each}
 use Rattle.match_turns.proofs.CallResult.{IsSurrounded, answered}
@@ -24,11 +24,12 @@ module _ (setting : Setting) (roomy : HaveRoom setting.program) where
 
   -- after the callee's return RSP and the nonvolatile registers are the caller's, and the list is
   -- there from there on
-  module _ (u : State) (w : Frame) (items : List Item) (acts : List Activation) (source : Memory)
+  module _ (u : State) (w : Frame) (items : List Item) (acts : List Activation) (source : Store)
       (es : List Event) (above : Context) (is : List StackItem)
       (on : On t fs program p u.memory above is (Waits w ∷ items) acts)
-      (registers : kept_of u.cpu.registers ≡ above.kept) (well_formed : IsWellFormed u)
-      (memory : IsMachineMemory setting u.memory source)
+      (registers : kept_of u.cpu.registers ≡ above.kept)
+      (well_formed : IsWellFormed (host_list p source) u)
+      (memory : IsMachineMemory setting u.memory source.memory)
       (o : LinearBody) (there : body_of program w.body ≡ Some o) (f first arguments : ℕ)
       (calls : slice_get o.code w.next ≡ Some (instructions.Call f first arguments))
       (within : w.next + 1 < length o.code)

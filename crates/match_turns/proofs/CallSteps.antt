@@ -1,8 +1,8 @@
 -- Calls and returns, by what is known of the configuration.
-use Rattle.std.proofs.Common.{◌≡◌, ℕ, ◌+◌, ◌-◌, ◌<◌, ◌≤◌, Bool, true, false, Some, List, [], ◌∷◌, length, refl, sym, ap, subst, ◌∙◌, arith, inl, inr}
+use Rattle.std.proofs.Common.{◌≡◌, ℕ, ◌+◌, ◌-◌, ◌<◌, ◌≤◌, Bool, true, false, Some, List, [], ◌∷◌, length, refl, sym, ap, subst, ◌∙◌, arith, inl, inr, zero}
 use Rattle.std.specs.Prelude.{◌⊎◌, nat_lt, slice_get, get_or, drop}
 use Rattle.std.proofs.lemmas.Option.{slice_get_within, slice_get-get_or}
-use Rattle.match_turns.specs.Words.{State, Deep, Slot, Local, Temporary, Instruction, LinearBody, depth_weight, FunctionBody, FuncletBody, body_of, function_body, Item, Waits, Searches, Unwinds, Frame, Configuration, Next, Finished, pick, read, local_of, waiting, begin_function, instruction_at, Activation, IsMatched, Fails, function_of, IsInstructionOf, IsCallee, IsHeld, AreWaiting, MayWait, IsCalledBy, with_own, owners_of, IsFuncletPlan, turns_left, IsWellMade, IsKnown, KnownNext, turns_per_step, OwnerHasFrame, Setting, setting_of, RepresentsAt, PassesWell, FunctionsApart, CallBegins}
+use Rattle.match_turns.specs.Words.{State, Deep, Slot, Local, Temporary, Instruction, LinearBody, depth_weight, FunctionBody, FuncletBody, body_of, function_body, Item, Waits, Searches, Unwinds, Frame, Configuration, Next, Finished, pick, read, local_of, waiting, begin_function, instruction_at, Activation, IsMatched, Fails, function_of, IsInstructionOf, IsCallee, IsHeld, AreWaiting, MayWait, IsCalledBy, with_own, owners_of, IsFuncletPlan, turns_left, IsWellMade, IsKnown, KnownNext, turns_per_step, OwnerHasFrame, Setting, setting_of, RepresentsAt, PassesWell, FunctionsApart, CallBegins, FlagsFit, Continuations, HasRule, act, exec, Exception, FilterOf, IsMatchedOrAsks, Resumption, VectoredAt}
 use Rattle.linear_code.specs.declared.instruction.Instruction.TheVariants as instructions
 use Rattle.match_turns.proofs.Lemmas.{fails_at_once, locals_count, some_is, label_in, body_there, owned_count, leaf_or_funclet, owner_waits, counted_here, code_at, ready_here, each}
 use Rattle.lowering_invariants.specs.Waiting.{IsAbove}
@@ -14,6 +14,12 @@ use Rattle.match_turns.proofs.CallActs.{call_acts}
 use Rattle.match_turns.proofs.CallEntry as called
 use Rattle.match_turns.proofs.DispatchSpace.{shallow_is}
 use Rattle.match_turns.proofs.AtCall.{AtCall}
+use Rattle.match_stack.specs.ItemMatches as linked
+use Rattle.match_stack.specs.ItemMatches.{FunctionIsAbove}
+use Rattle.lowering_invariants.specs.SmallNumbers.{AreSmallItems}
+use Rattle.match_turns.proofs.HandlerReturn.{handler_returns}
+use Rattle.match_turns.proofs.DispatchOutcomeSteps.{matched_there}
+use Rattle.match_turns.proofs.Lemmas.{askable_here}
 
 module _ (setting : Setting) (made : IsWellMade setting.program setting.plan) where
   open setting use {functions as t, funclets as fs, program, plan as p, sites as q, image}
@@ -58,10 +64,16 @@ module _ (setting : Setting) (made : IsWellMade setting.program setting.plan) wh
   module _ (s : State) (c : Configuration) (f : ℕ) (from : Slot) (b : RepresentsAt setting s c)
       (known : IsKnown program c) (function : c.frame.body ≡ FunctionBody f)
       (at : instruction_at program c ≡ Some (instructions.Return from))
+      (fits : FlagsFit program) (continues : Continuations setting)
+      (rule : HasRule (act program (instructions.Return from) (exec program zero) c))
       (after : KnownNext program c (instructions.Return from)) where
     abbrev Goal : Type 0
-    Goal = IsMatched t fs program turns_per_step turns_left (RepresentsAt setting) s c
-        (instructions.Return from)
+    Goal = IsMatchedOrAsks setting s c (instructions.Return from)
+
+    -- matched up to the next instruction
+    abbrev there : IsMatched t fs program turns_per_step turns_left (RepresentsAt setting) s c
+        (instructions.Return from) → Goal
+    there m = inl (matched_there t fs program p q turns_per_step s c (instructions.Return from) m)
 
     abbrev here : slice_get b.body.slots.code.code c.frame.next ≡ Some (instructions.Return from)
     here = code_at setting made s c b known (instructions.Return from) at
@@ -102,17 +114,45 @@ module _ (setting : Setting) (made : IsWellMade setting.program setting.plan) wh
         let acts = returning.outer setting made.room s c b counted f function from
         here value.0 value.1 w items e body.0 body.1 f by.0 by.1 calls within held
         waits.0.landed has_frame in
-        inl (returning.moves setting made.room s c b counted f function from here value.0 value.1 w
+        there (inl (returning.moves setting made.room s c b counted f function from here value.0 value.1 w
         items e body.0 body.1 f by.0 by.1 calls within held waits.0.landed
         has_frame (counted_here setting made next_one known_next)
-        (surrounded next_one known_next body.0 body.1 (length acts) (sym (locals_count acts))))
+        (surrounded next_one known_next body.0 body.1 (length acts) (sym (locals_count acts)))))
+
+    -- to the search that has asked it
+    to_search : (exception : Exception) (resumption : Resumption) (place : ℕ) (w : Frame)
+        (items : List Item)
+        → c.below ≡ Searches exception resumption (VectoredAt place) ∷ Waits w ∷ items → Goal
+    to_search exception resumption place w items e =
+        let waits = subst (AreWaiting program) e known.stacked.below in
+        let small = (subst AreSmallItems e known.small.items.1).1 in
+        handler_returns setting made.room s c b (counted_here setting made c known) f function from
+        here value.0 value.1 rule after fits continues exception resumption place w items e
+        (omega arith) waits.2.0.landed
+        (askable_here program c.store.vectored made.whole known.stacked.handlers)
+
+    is_above : FunctionIsAbove t fs program p c.below
+    is_above = subst (λ name. linked.IsAbove t fs program p c.frame name c.below) function
+        b.body.above
+
+    below_search : (exception : Exception) (resumption : Resumption) (place : ℕ) (items : List Item)
+        → c.below ≡ Searches exception resumption (VectoredAt place) ∷ items
+        → FunctionIsAbove t fs program p
+        (Searches exception resumption (VectoredAt place) ∷ items) → Goal
+    below_search exception resumption place [] e h = absurd h
+    below_search exception resumption place (Waits w ∷ items) e h =
+        to_search exception resumption place w items e
+    below_search exception resumption place (Searches x y z ∷ items) e h = absurd h
+    below_search exception resumption place (Unwinds x y ∷ items) e h = absurd h
 
     returned : (items : List Item) → c.below ≡ items → Goal
-    returned [] e = inr (inl (returning.exits setting made.room s c b
-        (counted_here setting made c known) f function from here value.0 value.1 e))
+    returned [] e = there (inr (inl (returning.exits setting made.room s c b
+        (counted_here setting made c known) f function from here value.0 value.1 e)))
     returned (Waits w ∷ items) e = to_body w items e
-    returned (Searches exception resumption asked rest ∷ items) e = absurd
+    returned (Searches exception resumption (FilterOf h rest) ∷ items) e = absurd
         (subst (IsCalledBy program f) e called_by)
+    returned (Searches exception resumption (VectoredAt place) ∷ items) e = below_search exception
+        resumption place items e (subst (FunctionIsAbove t fs program p) e is_above)
     returned (Unwinds rest target ∷ items) e = absurd (subst (IsCalledBy program f) e called_by)
 
     pub matched : Goal
@@ -230,8 +270,10 @@ module _ (setting : Setting) (made : IsWellMade setting.program setting.plan) wh
         by false e = inl (begins e)
 
 pub returns_are_matched : ReturnsAreMatched
-returns_are_matched t fs program p q image made s c f from b known function at after = matched
-    (setting_of t fs program p q image) made s c f from b known function at after
+returns_are_matched t fs program p q image made fits continues s c f from b known function at rule
+    after =
+    matched (setting_of t fs program p q image) made s c f from b known function at fits continues
+    rule after
 
 pub calls_begin : CallsBegin
 calls_begin t fs program p q image made apart s c f first count b known at = call_begins

@@ -3,7 +3,7 @@
 use Rattle.std.proofs.Common.{◌≡◌, ℕ, zero, suc, ◌+◌, ◌-◌, ◌*◌, ◌^◌, ◌<◌, ◌≤◌, true, false, Option, Some, List, [], ◌∷◌, ◌++◌, refl, sym, subst, ◌∙◌, arith}
 use Rattle.std.specs.Prelude.{slice_get, take}
 use Rattle.std.proofs.lemmas.List.{append_assoc}
-use Rattle.match_turns.specs.Words.{IMAGE_BASE, IMAGE_RANGE_END, Memory, Rsp, Instr, context_of, State, register, Temporary, LinearBody, LinearFunclet, BodyName, FunctionBody, FuncletBody, body_of, Item, Waits, Searches, Unwinds, waiting, regions_of, Layout, sizes, put_back, keep, temporary_at, call, return_at, begin_call, passing_code, template_size, StackItem, context_below, InCode, HoldsWords, IsAbove, FuncletIsAbove, IsData, On, KeepsStackBut, Setting, InBody, IsResumed, IsLinkedStack, arguments_code, frame_of, slots_end, now_of}
+use Rattle.match_turns.specs.Words.{IMAGE_BASE, IMAGE_RANGE_END, Memory, Rsp, Instr, context_of, State, register, Temporary, LinearBody, LinearFunclet, BodyName, FunctionBody, FuncletBody, body_of, Item, Waits, Searches, Unwinds, waiting, regions_of, Layout, sizes, put_back, keep, temporary_at, call, return_at, begin_call, passing_code, template_size, StackItem, context_below, InCode, HoldsWords, IsAbove, FuncletIsAbove, IsData, On, KeepsStackBut, Setting, InBody, IsResumed, IsLinkedStack, arguments_code, frame_of, slots_end, now_of, FilterOf}
 use Rattle.linear_code.specs.declared.instruction.Instruction.TheVariants as instructions
 use Rattle.match_turns.proofs.Lemmas.{sizes_append, call_size, template_some, others_of, frame_with, body_on_top, sp_low, label_near, end_near, code_end}
 use Rattle.match_turns.proofs.CallReturn.{returns_at, call_template}
@@ -131,7 +131,7 @@ module _ {setting : Setting} (at_call : AtCall setting) where
       by_funclet : (o : Option LinearFunclet) (items : List Item)
           → FuncletIsAbove t fs program p k c.frame o items
           → FuncletIsAbove t fs program p k (waiting c first).frame o items
-      by_funclet (Some g) (Searches exception resumption asked rest ∷ Waits w ∷ below) h = h
+      by_funclet (Some g) (Searches exception resumption (FilterOf asked rest) ∷ Waits w ∷ below) h = h
       by_funclet (Some g) (Unwinds rest target ∷ Waits w ∷ below) h = h
       by_funclet (Some g) (Waits w ∷ below) h = h
       by_funclet o items h = absurd h

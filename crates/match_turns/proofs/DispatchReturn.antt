@@ -1,15 +1,18 @@
 -- At the host's return addresses: a filter has answered, a `__finally` block has ended.
 use Rattle.std.proofs.Common.{◌≡◌, ℕ, zero, ◌+◌, ◌*◌, ◌≤◌, Bool, List, [], ◌∷◌, ◌++◌, Option, Some, None, refl, sym, ap, subst, ◌∙◌, arith, inl, inr, append_assoc, length-append}
 use Rattle.std.proofs.lemmas.List.{append-nil}
-use Rattle.match_turns.specs.Words.{W32, Event, signed, Rsp, LiveCallers, context_of, State, register, rsp, distance, DispatchRecord, placed, Turn, Continues, with_event, arrivals, arrived, accepted, searches_on, unwinds_on, finally_returned, eax, anew, restored, if_unwinding, Exception, noncontinuable, raise_event, Region, Handler, Target, Resumption, AfterCall, SameOperation, Waits, Unwinds, Item, Frame, Store, Seen, Next, Configuration, handlers, search, accept, resumed, unwind, end_finally, exec, StackItem, Unwinding, Activation, locals_of, On, RecordHasRoom, store_of, IsWellFormed, Unwound, placed_in, SearchIsAnswered, AnswersAs, filter_turn, linear_answer, with_answer, answered, AsksTheNext, AskedTakesOver, ContinuesException, IsRaisedAnew, HasRule, WalkGives, drop_below, live_from, held_below, turns_left, FlagsFit, NoneLanded, Setting, IsMachineMemory, Continuations, Outcome, Shows, ResumesFrom}
+use Rattle.match_turns.specs.Words.{W32, Event, signed, Rsp, LiveCallers, context_of, State, register, rsp, distance, DispatchRecord, Turn, Continues, with_event, arrivals, arrived, accepted, searches_on, unwinds_on, finally_returned, eax, restored, if_unwinding, Exception, noncontinuable, raise_event, Region, Handler, Target, Resumption, AfterCall, SameOperation, Waits, Unwinds, Item, Frame, Store, Seen, Next, Configuration, search, accept, resumed, unwind, end_finally, exec, StackItem, Unwinding, Activation, locals_of, On, store_of, IsWellFormed, Unwound, SearchIsAnswered, AnswersAs, filter_turn, linear_answer, with_answer, answered, AsksTheNext, AskedTakesOver, ContinuesException, IsRaisedAnew, HasRule, WalkGives, drop_below, live_from, held_below, turns_left, FlagsFit, NoneLanded, Setting, IsMachineMemory, Continuations, Outcome, OutcomeOrAsks, Shows, ShowsOrAsks, AreAskable, host_list, ResumesFrom}
 use Rattle.seh_records.specs.Record.{fetched}
 use Rattle.seh_num.specs.declared.event.Event.TheVariants as events
-use Rattle.match_turns.proofs.Lemmas.{in_stack, answers_continue, finally_returns_unwind, none_below, none_started, on_stack, stack_rises}
+use Rattle.match_turns.proofs.Lemmas.{answers_continue, finally_returns_unwind, none_below, none_started, on_stack, stack_rises}
 use Rattle.match_stack.proofs.FilterAnswers.{filter_returns}
-use Rattle.match_turns.proofs.DispatchMemory.{memory_untouched, placing}
 use Rattle.match_turns.proofs.DispatchOutcomeSteps.{arrived_with, with_one, with_two, with_none, outcome_same, outcome_by}
 use Rattle.match_turns.proofs.UnwindTurn.{unwound}
 use Rattle.match_turns.proofs.SearchTurn.{searched, taken_over}
+use Rattle.match_turns.proofs.AskSteps.{or_asks_by}
+use Rattle.match_turns.proofs.AskTurn as ask
+use Rattle.linear_machine.specs.Searching.{ask_from}
+use Rattle.host_model.specs.Dispatch.{asks_on, again}
 
 module _ (setting : Setting) (fits : FlagsFit setting.program) where
   open setting use {functions as t, funclets as fs, program, plan as p, sites as q, image}
@@ -21,7 +24,8 @@ module _ (setting : Setting) (fits : FlagsFit setting.program) where
       (resumption : Resumption) (asked : Handler) (rest : List Handler) (c : Configuration)
       (answers : SearchIsAnswered t fs program p s r is acts exception resumption asked rest c)
       (memory : IsMachineMemory setting s.memory c.store.memory)
-      (store : c.store.activations ≡ locals_of acts) (free : c.frame.landed ≡ None) where
+      (store : c.store.activations ≡ locals_of acts) (free : c.frame.landed ≡ None)
+      (listed : AreAskable program c.store.vectored) where
     abbrev event : Event
     event = events.Answer (signed W32 (eax s))
 
@@ -38,18 +42,24 @@ module _ (setting : Setting) (fits : FlagsFit setting.program) where
     live = live_from (context_of r.saved) is
 
     abbrev Answers : Type 0
-    Answers = Shows setting (arrived t fs (filter_turn t s)) (event ∷ []) seen c.events
-        (turns_left c + 3) live
+    Answers = ShowsOrAsks setting (arrived t fs (filter_turn t s)) (event ∷ []) seen c.events
+        (turns_left c + 3) (register s.cpu Rsp) live
 
     onward : AnswersAs t fs program p s r is acts exception asked rest c'
     onward = answers_continue t fs program p s r is acts exception resumption asked rest c'
-        (record { gives = answers.gives; well_formed = answers.well_formed; on = answers.on })
+        (record {
+          gives = answers.gives;
+          well_formed = answers.well_formed;
+          handlers = answers.handlers;
+          on = answers.on;
+        })
 
     resumes : ResumesFrom p resumption c.frame acts r.saved
     resumes = answers.on.is_there.linked.0.resumes
 
     shows : (x : Turn) → filter_turn t s ≡ with_answer s x
-        → Outcome setting (arrived t fs x) seen (c.events ++ event ∷ []) (turns_left c + 3) live
+        → OutcomeOrAsks setting (arrived t fs x) seen (c.events ++ event ∷ []) (turns_left c + 3)
+        (register s.cpu Rsp) live
         → Answers
     shows x e outcome = record {
       further = arrived t fs x;
@@ -63,23 +73,23 @@ module _ (setting : Setting) (fits : FlagsFit setting.program) where
     asks_next a rule =
         let x = searches_on t s at r in
         shows x a.turns
-        (outcome_by t fs program p q (arrived t fs x) (arrived t fs x)
+        (inl (outcome_by t fs program p q (arrived t fs x) (arrived t fs x)
         (λ next. search program next rest exception resumption c') seen
         (c.events ++ event ∷ []) (turns_left c) (turns_left c + 3) live refl a.goes (omega arith)
         (searched setting fits s at r is acts exception rest c' onward.next memory store resumption
-        resumes (subst HasRule (a.goes (exec program zero)) rule)))
+        resumes (subst HasRule (a.goes (exec program zero)) rule))))
 
     asked_takes_over : AskedTakesOver t fs program p s r is exception resumption asked rest c
         → HasRule (seen (exec program zero)) → Answers
     asked_takes_over a rule =
         let x = accepted t s at r r.frame a.address in
         shows x a.turns
-        (outcome_by t fs program p q (arrived t fs x) (arrived t fs x)
+        (inl (outcome_by t fs program p q (arrived t fs x) (arrived t fs x)
         (λ next. accept program asked exception next c') seen
         (c.events ++ event ∷ []) (turns_left c) (turns_left c + 3) live refl a.goes (omega arith)
         (taken_over setting fits s at r is acts exception rest c' onward.next memory store asked
         r.frame a.address a.frame_small a.address_small a.aimed
-        (subst HasRule (a.goes (exec program zero)) rule)))
+        (subst HasRule (a.goes (exec program zero)) rule))))
 
     is_continued : ContinuesException t fs program p s r is acts exception resumption asked rest c
         → Answers
@@ -87,7 +97,7 @@ module _ (setting : Setting) (fits : FlagsFit setting.program) where
         let x : Turn = Continues (restored s r) [] in
         let l = continues s r.saved is acts resumption c' a.on a.well_formed a.resumes memory store
         in
-        shows x a.turns (inl (record {
+        shows x a.turns (inl (inl (record {
           state = restored s r;
           events = [];
           turns = ap (λ (es : List Event). Continues (restored s r) es) (continued_silently a);
@@ -104,7 +114,7 @@ module _ (setting : Setting) (fits : FlagsFit setting.program) where
               (stack_rises t s.memory (context_of r.saved) is stack)))
               (on_stack t s.memory (context_of r.saved) 0 is stack));
           leads = λ known. l.1 known free;
-        }))
+        })))
       where
         continued_silently : ContinuesException t fs program p s r is acts exception resumption
             asked
@@ -124,8 +134,9 @@ module _ (setting : Setting) (fits : FlagsFit setting.program) where
     -- the exception in its place shows its own event too
     raised_anew : IsRaisedAnew t program s r exception resumption asked rest c
         → HasRule (seen (exec program zero))
-        → Shows setting (arrived t fs (filter_turn t s)) (event ∷ raise_event noncontinuable ∷ [])
-        seen c.events (turns_left c + 3) live
+        → ShowsOrAsks setting (arrived t fs (filter_turn t s))
+        (event ∷ raise_event noncontinuable ∷ []) seen c.events (turns_left c + 3)
+        (register s.cpu Rsp) live
     raised_anew a rule =
         let e = raise_event noncontinuable in
         let c2 : Configuration = record {
@@ -135,44 +146,35 @@ module _ (setting : Setting) (fits : FlagsFit setting.program) where
           events = (c.events ++ event ∷ []) ++ e ∷ [];
         } in
         let g = answers_continue t fs program p s r is acts exception resumption asked rest c2
-        (record { gives = answers.gives; well_formed = answers.well_formed; on = answers.on }) in
-        let r' = anew r in
-        let x = searches_on t (placed_in s at r') at r' in
+        (record {
+          gives = answers.gives;
+          well_formed = answers.well_formed;
+          handlers = answers.handlers;
+          on = answers.on;
+        }) in
+        let x = asks_on t s at (again r) in
         let y = arrived t fs x in
-        let above = rsp (context_of r.saved) in
-        let top = in_stack t fs program p s.memory (context_of r.saved) is (Waits c.frame ∷ c.below)
-        acts g.next.on.is_there.stack g.next.on.is_there.linked in
-        let room : RecordHasRoom s.memory at r'
-        above = record {
-          fits = g.searches_anew.room.fits;
-          below = g.next.room.below;
-          small = g.next.room.small;
-          room = g.next.room.room;
-        } in
-        let untouched = placing s.memory at r' above answers.on.data_alone room top in
-        let memory' = memory_untouched t fs program p q s.memory (placed s.memory at r')
-        c.store.memory untouched memory g.searches_anew.on.data_alone in
-        let assoc = append_assoc c.events (event ∷ []) (e ∷ []) in
         record {
           further = y;
           turns = ap (arrived t fs) (a.turns ∙ ap (with_answer s) g.raises)
               ∙ arrived_with t fs event (with_event e x)
               ∙ ap (with_event event) (arrived_with t fs e x) ∙ with_two event e y;
-          outcome = subst (λ (es : List Event). Outcome setting y seen es (turns_left c + 3) live)
-              assoc (outcome_by t fs program p q y y
-              (λ next. search program next (handlers program (Waits c.frame ∷ c.below) None)
-              noncontinuable resumption c2) seen ((c.events ++ event ∷ []) ++ e ∷ [])
-              (turns_left c) (turns_left c + 3) live refl a.goes (omega arith)
-              (searched setting fits (placed_in s at r') at r' is acts noncontinuable
-              (handlers program (Waits c.frame ∷ c.below) None) c2 g.searches_anew memory' store
-              resumption resumes (subst HasRule (a.goes (exec program zero)) rule)));
+          outcome = subst (λ (es : List Event). OutcomeOrAsks setting y seen es (turns_left c + 3)
+              (register s.cpu Rsp) live) (append_assoc c.events (event ∷ []) (e ∷ []))
+              (or_asks_by t fs program p q y
+              (λ next. ask_from program next 0 noncontinuable resumption c2) seen
+              ((c.events ++ event ∷ []) ++ e ∷ []) (turns_left c) (turns_left c + 3)
+              (register s.cpu Rsp) live a.goes (omega arith)
+              (ask.asked setting fits s at (again r) is acts noncontinuable 0 c2 g.asks_anew memory
+              store (register s.cpu Rsp) (let z : at ≤ at = omega arith in z) listed resumption
+              resumes (subst HasRule (a.goes (exec program zero)) rule)));
         }
 
     -- whatever it answers
     pub record AnswerShows : Type 0 where
       pub before : List Event
-      pub shown : Shows setting (arrived t fs (filter_turn t s)) before seen c.events
-          (turns_left c + 3) live
+      pub shown : ShowsOrAsks setting (arrived t fs (filter_turn t s)) before seen c.events
+          (turns_left c + 3) (register s.cpu Rsp) live
 
     pub filter_answered : HasRule (seen (exec program zero)) → AnswerShows
     filter_answered rule = elim (filter_returns t fs program p s r is acts exception resumption
@@ -195,7 +197,7 @@ module _ (setting : Setting) (fits : FlagsFit setting.program) where
   pub finally_ended : (s : State) (r : DispatchRecord) (is : List StackItem)
       (acts : List Activation) (rest : List Region) (target : Target) (f : Frame)
       (below : List Item) (c : Configuration)
-      → IsWellFormed s → On t fs program p s.memory (context_of s.cpu) (Unwinding r ∷ is)
+      → IsWellFormed (host_list p c.store) s → On t fs program p s.memory (context_of s.cpu) (Unwinding r ∷ is)
       (Unwinds rest target ∷ Waits f ∷ below) acts
       → IsMachineMemory setting s.memory c.store.memory
       → c.store.activations ≡ locals_of acts → c.below ≡ Unwinds rest target ∷ Waits f ∷ below
@@ -212,19 +214,19 @@ module _ (setting : Setting) (fits : FlagsFit setting.program) where
         items = Waits f ∷ below;
         left = Some rest;
         acts = acts;
-        source = c.store.memory;
+        source = c.store;
         shown = c.events;
       } in
       let u = finally_returns_unwind t fs program p s r is acts rest target (Waits f ∷ below)
-      c.store.memory c.events image.gives well_formed on in
+      c.store c.events image.gives well_formed on in
       let x = arrived t fs (unwinds_on t s at r) in
       let y = arrived t fs (finally_returned t s at (fetched s.memory at)) in
       let turns : y ≡ x = ap (λ (o : Option DispatchRecord). arrived t fs
       (finally_returned t s at o)) on.is_there.stack.0.fetches
       ∙ ap (λ (b : Bool). arrived t fs (if_unwinding t s at r b)) on.is_there.stack.0.kind in
-      let same_store : c.store ≡ store_of c.store.memory acts = ap
+      let same_store : c.store ≡ store_of c.store acts = ap
       (λ (xs : List (List ℕ)). let z : Store =
-      record { memory = c.store.memory; activations = xs } in z) store in
+      record c.store { activations = xs } in z) store in
       let same = λ (next : Next). ap (λ (items : List Item). end_finally program next items c.events
       c.store) under ∙ ap (λ (z : Store). unwind program next target (Waits f ∷ below) (Some rest)
       c.events z) same_store in

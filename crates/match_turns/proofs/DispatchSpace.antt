@@ -2,7 +2,7 @@
 use Rattle.std.proofs.Common.{◌≡◌, ℕ, ◌+◌, ◌*◌, ◌≤◌, true, false, List, ◌∷◌, length, sym, ◌∙◌, arith, inl, inr}
 use Rattle.std.specs.Prelude.{nat_lt}
 use Rattle.std.proofs.lemmas.Bool.{cases_lt, lt-ltb}
-use Rattle.match_turns.specs.Words.{STACK_END, Memory, Context, rsp, Functions, Funclet, Exception, Region, LinearProgram, Frame, Handler, Target, Resumption, Item, Waits, Searches, Unwinds, StackItem, Framed, Leaf, Searching, Unwinding, ImagePlan, Activation, HasSpace, below_end, record_room, Linked, FRAME_BY_WEIGHT}
+use Rattle.match_turns.specs.Words.{STACK_END, Memory, Context, rsp, Functions, Funclet, Exception, Region, LinearProgram, Frame, Target, Resumption, Item, Waits, Searches, Unwinds, StackItem, Framed, Leaf, Searching, Unwinding, ImagePlan, Activation, HasSpace, below_end, record_room, Linked, FRAME_BY_WEIGHT, Asked}
 
 pub shallow_is : (n : ℕ) → nat_lt 1000 n ≡ false → n ≤ 1000
 shallow_is n e = elim (cases_lt 1000 n) [
@@ -23,15 +23,15 @@ module _ (t : Functions) (fs : List Funclet) (program : LinearProgram) (p : Imag
   body_space m c is f below acts h = absurd h
 
   pub search_space : (m : Memory) (c : Context) (is : List StackItem) (exception : Exception)
-      (resumption : Resumption) (asked : Handler) (rest : List Handler) (f : Frame)
+      (resumption : Resumption) (asked : Asked) (f : Frame)
       (below : List Item) (acts : List Activation)
-      → Linked t fs program p m c is (Searches exception resumption asked rest ∷ Waits f ∷ below)
+      → Linked t fs program p m c is (Searches exception resumption asked ∷ Waits f ∷ below)
       acts → HasRecordSpace (rsp c) (length acts + f.held)
-  search_space m c (Searching r ∷ is) exception resumption asked rest f below acts h =
+  search_space m c (Searching r ∷ is) exception resumption asked f below acts h =
       let near = h.0.near in
       let s = (body_space m _ is f below acts h.1).space in
       record { space = omega arith }
-  search_space m c is exception resumption asked rest f below acts h = absurd h
+  search_space m c is exception resumption asked f below acts h = absurd h
 
   pub unwind_space : (m : Memory) (c : Context) (is : List StackItem) (rest : List Region)
       (target : Target) (items : List Item) (acts : List Activation)

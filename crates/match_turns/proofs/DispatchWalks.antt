@@ -42,10 +42,10 @@ module _ (setting : Setting) where
           (λ leaf. absurd (let no : true ≡ false = sym leaf ∙ framed in cc))
 
   funclet_gives : (u : State) (k activation first : ℕ) (items : List Item) (acts : List Activation)
-      (a : Arrives t fs program p u k activation first items acts) (cs : List Context)
+      (handlers : List ℕ) (a : Arrives t fs program p u k activation first items acts handlers) (cs : List Context)
       → ((others : List ℕ) → callers (context_below a.back a.at others) a.is ≡ cs)
       → WalkGives t u (caller_at u ∷ cs)
-  funclet_gives u k activation first items acts a cs same =
+  funclet_gives u k activation first items acts handlers a cs same =
       let sp = register u.cpu Rsp in
       let others = others_of u.cpu in
       let at = a.stack in
@@ -85,7 +85,7 @@ module _ (setting : Setting) where
       ∙ ap (λ (x : Cpu). callers (context_of x) is) f.same_saved in
       subst (WalkGives t f.state) (sym (none_below (register f.state.cpu Rsp)
       (caller_at f.state ∷ cs) (omega arith)))
-      (funclet_gives f.state f.filter _ _ _ acts a cs same)
+      (funclet_gives f.state f.filter _ _ _ acts _ a cs same)
 
   module _ (s : State) (at : ℕ) (r : DispatchRecord) (is : List StackItem) (turn : Turn)
       (w : Unwound) (u : IsUnwinding t fs program p s at r is w) where
@@ -111,12 +111,12 @@ module _ (setting : Setting) where
         (sym (ap (λ (xs : List Context). drop_below (register b.state.cpu Rsp)
         (caller_at b.state ∷ xs)) left ∙ none_below (register b.state.cpu Rsp)
         (caller_at b.state ∷ cs) (omega arith)))
-        (funclet_gives b.state b.block _ _ _ b.outer a cs same)
+        (funclet_gives b.state b.block _ _ _ b.outer _ a cs same)
 
     -- ---- where an unwinding lands
 
     pub landing_walk : (l : LandsThere t fs program p s r turn w) (rax : ℕ)
-        → IsMachineMemory setting s.memory w.source
+        → IsMachineMemory setting s.memory w.source.memory
         → WalkContinues setting (live_from r.walk is) (at_landing s l.to rax r.target) []
     landing_walk l rax memory = λ v le.
         let f = l.framed in

@@ -1,7 +1,7 @@
 -- Where a fault is continued, the saved state is within the same operation.
 use Rattle.std.proofs.Common.{◌≡◌, ℕ, List, [], ◌∷◌, Some, refl, sym, subst, arith}
 use Rattle.std.specs.Prelude.{slice_get}
-use Rattle.match_turns.specs.Words.{Cpu, context_of, State, distance, arrivals, Temporary, Instruction, LinearBody, body_of, SameOperation, Waits, Configuration, StackItem, InCode, Activation, locals_of, On, IsWellFormed, WorksAgain, IsWellMade, Setting, InBody, IsMachineMemory, WorksOn, ResumesFrom, leaf_values, slots_end, rsp}
+use Rattle.match_turns.specs.Words.{Cpu, context_of, State, distance, arrivals, Temporary, Instruction, LinearBody, body_of, SameOperation, Waits, Configuration, StackItem, InCode, Activation, locals_of, On, IsWellFormed, WorksAgain, IsWellMade, Setting, InBody, IsMachineMemory, WorksOn, ResumesFrom, leaf_values, slots_end, rsp, host_list}
 use Rattle.linear_code.specs.declared.instruction.Instruction.TheVariants as instructions
 use Rattle.match_turns.proofs.Lemmas.{code_ends, waits_in_body, all_front, label_in, body_there}
 use Rattle.match_bodies.proofs.LeafRegisters.{running_hold}
@@ -11,7 +11,7 @@ module _ (setting : Setting) (made : IsWellMade setting.program setting.plan)
     (s : State) (saved : Cpu) (is : List StackItem) (acts : List Activation) (c : Configuration)
     (on : On setting.functions setting.funclets setting.program setting.plan s.memory
     (context_of saved) is (Waits c.frame ∷ c.below) acts)
-    (well_formed : IsWellFormed (record s { cpu = saved }))
+    (well_formed : IsWellFormed (host_list setting.plan c.store) (record s { cpu = saved }))
     (resumes : ResumesFrom setting.plan SameOperation c.frame acts saved)
     (memory : IsMachineMemory setting s.memory c.store.memory)
     (store : c.store.activations ≡ locals_of acts) where
@@ -55,9 +55,9 @@ module _ (setting : Setting) (made : IsWellMade setting.program setting.plan)
   in_body : InBody setting u c
   in_body =
       subst (λ (xs : List (List ℕ)). InBody setting u
-      (record c { store = record { memory = c.store.memory; activations = xs } })) (sym store)
+      (record c { store = record c.store { memory = c.store.memory; activations = xs } })) (sym store)
       (waits_in_body t fs program p q image u (context_of saved) is c.frame c.below acts
-      c.frame.next c.frame.temporaries c.frame.landed c.store.memory c.events on refl inside
+      c.frame.next c.frame.temporaries c.frame.landed c.store c.events on refl inside
       well_formed (all_front s.memory c.frame.temporaries) again.locals)
 
   pub works_on : WorksOn setting u c

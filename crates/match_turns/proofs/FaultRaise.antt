@@ -3,15 +3,17 @@
 use Rattle.std.proofs.Common.{◌≡◌, ℕ, zero, suc, ◌^◌, ◌<◌, Bool, true, false, List, [], ◌∷◌, ◌++◌, Option, Some, None, Err, refl, ap, subst, ◌∙◌, arith}
 use Rattle.std.specs.Prelude.{slice_index, replicate}
 use Rattle.std.proofs.lemmas.Bool.{ne_eqb}
-use Rattle.match_turns.specs.Words.{Code, Instr, context_of, State, step, rsp, arrived, write_number, parameters, raised, Raises, Exception, raise_event, is_hidden, Operation, Slot, Temporary, Instruction, Layout, SameOperation, Configuration, Next, raise, act, exec, operands_code, finish_code, KeepsAbove, IsException, IsLive, HasRule, IsMatched, live_from, turns_left, IsWellMade, IsKnown, KnownNext, seen_by_templates, FlagsFit, ComesTo, Setting, IsResumed, Represents, Shows, WorksOn, AllSmall, IsSmallAccess, leaf_values}
+use Rattle.match_turns.specs.Words.{Code, Instr, context_of, State, step, rsp, arrived, write_number, parameters, raised, Raises, Exception, raise_event, is_hidden, Operation, Slot, Temporary, Instruction, Layout, SameOperation, Configuration, Next, raise, act, exec, operands_code, finish_code, KeepsAbove, IsException, IsLive, HasRule, live_from, turns_left, IsWellMade, IsKnown, KnownNext, seen_by_templates, FlagsFit, ComesTo, Setting, IsResumed, WorksOn, AllSmall, IsSmallAccess, leaf_values, IsTakenWithin, ShowsOrAsks, register, Rsp}
 use Rattle.x64_machine.specs.declared.outcome.Stop.TheVariants as stops
 use Rattle.linear_code.specs.declared.instruction.Instruction.TheVariants as instructions
 use Rattle.x64_templates.specs.Runs.{Finished}
 use Rattle.lowering_invariants.proofs.Results.{IsSmallOutcome, outcome_small}
-use Rattle.match_turns.proofs.Lemmas.{comes_nowhere, on_stack, is_machine}
+use Rattle.match_turns.proofs.Lemmas.{comes_nowhere, on_stack, is_machine, askable_here}
 use Rattle.match_turns.proofs.DispatchStart.{raised_as}
 use Rattle.match_turns.proofs.HostRequest.{Asks, asks_host}
-use Rattle.match_turns.proofs.HostTurns.{fault_turns, raised_keeps, matched_when_shown}
+use Rattle.match_turns.proofs.HostTurns.{fault_turns, raised_keeps}
+use Rattle.match_turns.proofs.AskSteps.{taken_when_shown}
+use Rattle.match_stack.proofs.DispatchSteps.{place_low}
 use Rattle.match_turns.proofs.OperationMeaning.{acts_as}
 use Rattle.match_turns.proofs.OperationCode.{some_finish, is_some}
 use Rattle.match_turns.proofs.OperationInProgress.{there, frame_here, slots_now, first_small, second_small, code_here, outcome, made_here, same_outcome}
@@ -128,10 +130,10 @@ module _ (setting : Setting) (made : IsWellMade setting.program setting.plan)
       acts = acts_as program c to o first second (Raises code access) raises
 
       shows : HasRule (act program i (exec program zero) c)
-          → Shows setting (arrived t fs (raised t s code 0 access s.cpu))
+          → ShowsOrAsks setting (arrived t fs (raised t s code 0 access s.cpu))
           (raise_event (exception_of code access) ∷ [])
           (λ next. raise program next (exception_of code access) SameOperation c) c.events
-          (turns_left c) (live_from (context_of s.cpu) asks.is)
+          (turns_left c) (register s.cpu Rsp) (live_from (context_of s.cpu) asks.is)
       shows rule =
           raised_as setting fits s s.cpu asks.is w.body.acts c asks.asks w.memory w.body.store code
           0 access (exception_of code access) SameOperation (is_exception code access small)
@@ -139,17 +141,20 @@ module _ (setting : Setting) (made : IsWellMade setting.program setting.plan)
           (leaf_values (p.leaf c.frame.body) c.frame.body w.body.acts) s.cpu).says w.again)
           (subst HasRule
           (acts (exec program zero)) rule)
+          (askable_here program c.store.vectored made.whole known.stacked.handlers) (register s.cpu Rsp)
+          (let n = w.well_formed.count in
+          let low = place_low (register s.cpu Rsp) asks.asks.low
+          (w.well_formed.small 4 (omega arith)) in omega arith)
 
       pub raised_at_once : HasRule (act program i (exec program zero) c) → KnownNext program c i
-          → IsMatched t fs program 7 turns_left (Represents setting) s c i
+          → IsTakenWithin setting 7 s c i
       raised_at_once rule next =
-          matched_when_shown t fs program p q 7 0 (turns_left c) s s c i
+          taken_when_shown t fs program p q 7 0 (turns_left c) s s c i
           (arrived t fs (raised t s code 0 access s.cpu))
           (raise_event (exception_of code access) ∷ [])
           (λ next. raise program next (exception_of code access) SameOperation c)
           (live_from (context_of s.cpu) asks.is) (comes_nowhere t fs s) live
-          (fault_turns t fs s code access faults)
+          (fault_turns t fs s code access faults) (omega arith)
           (raised_keeps t fs program p q s code access (live_from (context_of s.cpu) asks.is) faults
-          (omega arith)
           (on_stack t s.memory (context_of s.cpu) 0 asks.is asks.asks.on.is_there.stack))
           (shows rule) acts (omega arith) next

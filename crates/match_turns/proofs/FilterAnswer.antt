@@ -1,7 +1,7 @@
 -- A filter's answer is its low 32 bits.
 use Rattle.std.proofs.Common.{◌≡◌, ℕ, ◌^◌, List, [], ◌∷◌, ◌++◌, sym, ap, arith}
 use Rattle.std.specs.Prelude.{nat_eq, nat_lt, if◌then◌else◌, ℤ, pos, ◌-ℤ◌}
-use Rattle.match_turns.specs.Words.{Event, W32, low, half, limit, Exception, noncontinuable, LinearProgram, Frame, Handler, Resumption, Item, Waits, Searches, Store, Configuration, Seen, Next, pick, search, accept, raise, resumed, answer}
+use Rattle.match_turns.specs.Words.{Event, W32, low, half, limit, Exception, noncontinuable, LinearProgram, Frame, Handler, Resumption, Item, Waits, Searches, Store, Configuration, Seen, Next, pick, search, accept, raise, resumed, answer, FilterOf}
 use Rattle.seh_num.specs.declared.event.Event.TheVariants as events
 
 low_twice : (v : ℕ) → low W32 (low W32 v) ≡ low W32 v
@@ -32,8 +32,8 @@ by_low program next exception resumption h rest f below es store l =
 pub answer_low : (program : LinearProgram) (next : Next) (v : ℕ) (exception : Exception)
     (resumption : Resumption) (h : Handler) (rest : List Handler) (f : Frame) (below : List Item)
     (es : List Event) (store : Store)
-    → answer program next v (Searches exception resumption h rest ∷ Waits f ∷ below) es store
-    ≡ answer program next (low W32 v) (Searches exception resumption h rest ∷ Waits f ∷ below) es
+    → answer program next v (Searches exception resumption (FilterOf h rest) ∷ Waits f ∷ below) es store
+    ≡ answer program next (low W32 v) (Searches exception resumption (FilterOf h rest) ∷ Waits f ∷ below) es
     store
 answer_low program next v exception resumption h rest f below es store = ap
     (by_low program next exception resumption h rest f below es store) (sym (low_twice v))

@@ -4,7 +4,7 @@ use Rattle.std.proofs.Common.{◌≡◌, ℕ, ◌+◌, ◌%◌, ◌^◌, ◌<◌
 use Rattle.std.proofs.lemmas.List.{append-nil}
 use Rattle.std.specs.Prelude.{nat_lt, slice_get}
 use Rattle.std.proofs.lemmas.Option.{slice_get_within}
-use Rattle.match_turns.specs.Words.{STACK_START, STACK_END, number_at, Rcx, Rdx, Rsp, Instr, State, register, Functions, Funclet, Exception, Instruction, LinearProgram, LinearBody, LinearFunclet, BodyName, FuncletBody, body_of, funclet_body, Handler, Resumption, Item, Waits, Searches, Configuration, begin_filter, instruction_in, Layout, sizes, keep_register, MachineView, machine, HasCode, Enters, parent_of, owner_of, ImagePlan, by_parent, parent_body, Activation, locals_of, IsActivation, HasSpace, below_end, KeepsPointers, context_below, IsWellFormed, Arrives, LeadsTo, Sites, parent_base, keep_argument, IsProgramImage, IsKnown, entry_turns, FiltersBegin, Setting, setting_of, IsMachineMemory, RepresentsAt}
+use Rattle.match_turns.specs.Words.{STACK_START, STACK_END, number_at, Rcx, Rdx, Rsp, Instr, State, register, Functions, Funclet, Exception, Instruction, LinearProgram, LinearBody, LinearFunclet, BodyName, FuncletBody, body_of, funclet_body, Handler, Resumption, Item, Waits, Searches, Configuration, begin_filter, instruction_in, Layout, sizes, keep_register, MachineView, machine, HasCode, Enters, parent_of, owner_of, ImagePlan, by_parent, parent_body, Activation, locals_of, IsActivation, HasSpace, below_end, KeepsPointers, context_below, IsWellFormed, Arrives, LeadsTo, Sites, parent_base, keep_argument, IsProgramImage, IsKnown, entry_turns, FiltersBegin, Setting, setting_of, IsMachineMemory, RepresentsAt, FilterOf, host_list}
 use Rattle.virtual_unwind.specs.Undone.{word}
 use Rattle.x64_templates.specs.Prologues.{prologue_turns}
 use Rattle.match_turns.proofs.Lemmas.{others_of, EntryRan, frame_from, stored_is_loaded, enters_then, same_number, Reached, kept_at, HasCell, pointers_kept, Within, within_then, within_cell, enters_silently, none_inside, enters_steps, plain_both, kept_plain, locals_count, enters_keeps, stays_well_formed}
@@ -46,17 +46,19 @@ module _ (setting : Setting) where
   module _ (s : State) (k argument : ℕ) (handler : Handler) (rest : List Handler)
       (exception : Exception) (resumption : Resumption) (c : Configuration) (acts : List Activation)
       (a : Arrives t fs program p s k handler.activation argument
-      (Searches exception resumption handler rest ∷ Waits c.frame ∷ c.below) acts)
+      (Searches exception resumption (FilterOf handler rest) ∷ Waits c.frame ∷ c.below) acts
+      (host_list p c.store))
       (points : register s.cpu Rcx ≡ register s.cpu Rsp + 88) (asked : handler.filter ≡ Some k)
       (memory : IsMachineMemory setting s.memory c.store.memory)
       (stored : c.store.activations ≡ locals_of acts)
       (shallow : nat_lt 1000 (length c.store.activations + c.frame.held + 2) ≡ false)
       (typed : IsKnown program (begin_filter k handler rest exception resumption c)) where
     abbrev items : List Item
-    items = Searches exception resumption handler rest ∷ Waits c.frame ∷ c.below
+    items = Searches exception resumption (FilterOf handler rest) ∷ Waits c.frame ∷ c.below
 
     abbrev w : ArrivesBelow t fs program p s k handler.activation argument items acts
-    w = arrives_below t fs program p s k handler.activation argument items acts a tt
+    w = arrives_below t fs program p s k handler.activation argument items acts (host_list p c.store)
+        a tt
 
     abbrev known : IsFilterOfSome program k
     known = filter_of_some program handler k (Waits c.frame ∷ c.below) asked typed.stacked.below.0.0
@@ -97,7 +99,7 @@ module _ (setting : Setting) where
 
     record_space : HasRecordSpace t fs program p a.at (length acts + c.frame.held)
     record_space = search_space t fs program p s.memory (context_below a.back a.at []) a.is
-        exception resumption handler rest c.frame c.below acts (a.on []).is_there.linked
+        exception resumption (FilterOf handler rest) c.frame c.below acts (a.on []).is_there.linked
 
     abbrev e : HasEntered setting s k l a.reaches.base
     e = entered setting s k argument handler.activation items acts l w c.store.memory memory
@@ -159,7 +161,7 @@ module _ (setting : Setting) where
     rip_here = subst (λ z. e.rip + sizes (keep_argument y z) ≡ p.address (FuncletBody k) 0) kind_is
         e.place
 
-    well_formed_here : IsWellFormed u
+    well_formed_here : IsWellFormed (host_list p c.store) u
     well_formed_here = stays_well_formed s u (enters_keeps from to (e.turns + 1) s u run)
         (let z = rip_here in let r = first_small setting k l in omega arith) a.well_formed
 
@@ -264,7 +266,7 @@ module _ (setting : Setting) where
         let n = a.stack in
         begins setting s u k argument handler.activation items acts l w frame_here exception
         (c.frame.held + 2) c.store (begin_filter k handler rest exception resumption c).events
-        memory stored (omega arith) some
+        memory stored refl (omega arith) some
         (subst (λ r. HasSpace r below_end (length acts + (c.frame.held + 2))) (sym stack_here)
         space_here)
         (kind_is, (asked, refl))

@@ -1,6 +1,6 @@
 -- A filter's frame leads to the record of its search, which carries its exception.
 use Rattle.std.proofs.Common.{◌≡◌, ℕ, ◌+◌, ◌^◌, ◌<◌, ◌≤◌, List, ◌∷◌, Some, Ok, refl, sym, subst, ◌∙◌, arith}
-use Rattle.match_turns.specs.Words.{STACK_START, STACK_END, bytes_of, Memory, number_at, Rsp, Context, context_of, State, register, rsp, Functions, DispatchRecord, RecordFits, Funclet, Field, ExceptionCode, Exception, field_of, LinearProgram, LinearFunclet, Frame, Handler, Resumption, Item, Waits, Searches, Unwinds, Configuration, field_at, field_width, IsField, MayRead, StackItem, Searching, IsStack, context_below, ImagePlan, Activation, activations_below, HasPointers, FuncletIsAbove, IsAbove, Linked, Sites, IsFilterBody}
+use Rattle.match_turns.specs.Words.{STACK_START, STACK_END, bytes_of, Memory, number_at, Rsp, Context, context_of, State, register, rsp, Functions, DispatchRecord, RecordFits, Funclet, Field, ExceptionCode, Exception, field_of, LinearProgram, LinearFunclet, Frame, Handler, Resumption, Item, Waits, Searches, Unwinds, Configuration, field_at, field_width, IsField, MayRead, StackItem, Searching, IsStack, context_below, ImagePlan, Activation, activations_below, HasPointers, FuncletIsAbove, IsAbove, Linked, Sites, IsFilterBody, Asked, FilterOf}
 use Rattle.virtual_unwind.specs.Undone.{word}
 use Rattle.seh_records.specs.Record.{fetched}
 use Rattle.linear_code.specs.declared.program.FuncletKind.TheVariants as funclets
@@ -17,7 +17,7 @@ pub record IsAsked (exception : Exception) (items : List Item) : Type 0 where
   pub asked : Handler
   pub rest : List Handler
   pub below : List Item
-  pub items_are : items ≡ Searches searched resumption asked rest ∷ below
+  pub items_are : items ≡ Searches searched resumption (FilterOf asked rest) ∷ below
   pub same : exception ≡ searched
 
 module _ (t : Functions) (fs : List Funclet) (program : LinearProgram) (p : ImagePlan) where
@@ -27,7 +27,7 @@ module _ (t : Functions) (fs : List Funclet) (program : LinearProgram) (p : Imag
   filter_is_asked : (k : ℕ) (b : Frame) (f : LinearFunclet) (items : List Item)
       → f.kind ≡ funclets.Filter → FuncletIsAbove t fs program p k b (Some f) items
       → IsAsked b.exception items
-  filter_is_asked k b f (Searches exception resumption asked rest ∷ Waits w ∷ below) e h =
+  filter_is_asked k b f (Searches exception resumption (FilterOf asked rest) ∷ Waits w ∷ below) e h =
       let alike = h.1 in record {
         searched = exception;
         resumption = resumption;
@@ -59,11 +59,10 @@ module _ (t : Functions) (fs : List Funclet) (program : LinearProgram) (p : Imag
     pub high : rsp c + 1568 ≤ STACK_END
 
   record_on_top : (m : Memory) (c : Context) (is : List StackItem) (acts : List Activation)
-      (exception : Exception) (resumption : Resumption) (asked : Handler) (rest : List Handler)
-      (below : List Item)
+      (exception : Exception) (resumption : Resumption) (asked : Asked) (below : List Item)
       → IsStack t m c is → Linked t fs program p m c is
-      (Searches exception resumption asked rest ∷ below) acts → HasRecord m c exception
-  record_on_top m c (Searching r ∷ is) acts exception resumption asked rest below s l =
+      (Searches exception resumption asked ∷ below) acts → HasRecord m c exception
+  record_on_top m c (Searching r ∷ is) acts exception resumption asked below s l =
       let top = in_stack t fs program p m (context_of r.saved) is below acts s.1 l.1 in
       let a = s.0.above in
       record {
@@ -74,7 +73,7 @@ module _ (t : Functions) (fs : List Funclet) (program : LinearProgram) (p : Imag
         fits = l.0.own.fits;
         high = omega arith;
       }
-  record_on_top m c is acts exception resumption asked rest below s l = absurd l
+  record_on_top m c is acts exception resumption asked below s l = absurd l
 
   module _ (q : Sites) (s : State) (c : Configuration) (b : RepresentsAt t fs program p q s c) where
     abbrev sp : ℕ
@@ -96,7 +95,7 @@ module _ (t : Functions) (fs : List Funclet) (program : LinearProgram) (p : Imag
         let on = b.body.below in
         subst (HasRecord s.memory above) (sym a.same)
         (record_on_top s.memory above b.body.is (activations_below c.frame.body b.body.acts)
-        a.searched a.resumption a.asked a.rest a.below on.is_there.stack
+        a.searched a.resumption (FilterOf a.asked a.rest) a.below on.is_there.stack
         (subst (λ items. Linked t fs program p s.memory above b.body.is items
         (activations_below c.frame.body b.body.acts)) a.items_are on.is_there.linked))
 

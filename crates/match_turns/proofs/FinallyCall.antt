@@ -3,7 +3,7 @@
 use Rattle.std.proofs.Common.{◌≡◌, ℕ, ◌+◌, ◌-◌, ◌^◌, ◌<◌, ◌≤◌, true, false, Option, Some, None, Ok, List, [], ◌∷◌, length, refl, sym, ap, subst, ◌∙◌, arith, inl}
 use Rattle.std.specs.Prelude.{slice_get}
 use Rattle.seh_num.specs.declared.event.Event.TheVariants as events
-use Rattle.match_turns.specs.Words.{STACK_START, STACK_END, Rdx, Rsp, context_of, State, register, distance, arrivals, by_kind, of_test, LinearBody, BodyName, FuncletBody, body_of, funclet_body, Waits, Configuration, instruction_in, Layout, sizes, IsNear, finally_arguments, MachineView, machine, pushed, HasBelow, context_below, InCode, by_parent, parent_body, IsFunclet, HasActivation, return_of, ReturnsTo, KeepsAbove, On, IsWellFormed, AllKeep, Comes, AllReturnsStayInRegions, IsFinallyKind, parent_of, IsFuncletOf, HaveRoom, slots_end, Setting, InBody, IsMachineMemory, IsResumed, RepresentsAt, is_finally, frame_of, get, now_of}
+use Rattle.match_turns.specs.Words.{STACK_START, STACK_END, Rdx, Rsp, context_of, State, register, distance, arrivals, by_kind, of_test, LinearBody, BodyName, FuncletBody, body_of, funclet_body, Waits, Configuration, instruction_in, Layout, sizes, IsNear, finally_arguments, MachineView, machine, pushed, HasBelow, context_below, InCode, by_parent, parent_body, IsFunclet, HasActivation, return_of, ReturnsTo, KeepsAbove, On, IsWellFormed, AllKeep, Comes, AllReturnsStayInRegions, IsFinallyKind, parent_of, IsFuncletOf, HaveRoom, slots_end, Setting, InBody, IsMachineMemory, IsResumed, RepresentsAt, is_finally, frame_of, get, now_of, host_list}
 use Rattle.virtual_unwind.specs.Undone.{word}
 use Rattle.x64_templates.specs.Runs.{Reaches}
 use Rattle.x64_instr.specs.declared.instruction.Instr.TheVariants as instrs
@@ -299,7 +299,7 @@ module _ (setting : Setting) (roomy : HaveRoom setting.program)
       small = target_small;
     }
 
-    well_formed : IsWellFormed called
+    well_formed : IsWellFormed (host_list p c.store) called
     well_formed = stays_well_formed s called (reaches_keeps 3 s called reaches) target_small
         b.well_formed
 
@@ -322,6 +322,7 @@ module _ (setting : Setting) (roomy : HaveRoom setting.program)
           returns_to = returns_to;
           is = on_top.is;
           on = list;
+          handlers = host_list p c.store;
           well_formed = well_formed;
         }
 
@@ -329,3 +330,8 @@ module _ (setting : Setting) (roomy : HaveRoom setting.program)
     pub arrives_at : arrives.at ≡ sp
     unfolding arrives
     arrives_at = refl
+
+    -- with the handlers that are listed there
+    pub listed_there : arrives.handlers ≡ host_list p c.store
+    unfolding arrives
+    listed_there = refl

@@ -2,7 +2,7 @@
 use Rattle.std.proofs.Common.{◌≡◌, ℕ, ◌+◌, ◌<◌, Option, Some, None, List, [], ◌∷◌, length, refl, sym, ap, subst, ◌∙◌, arith, true, false}
 use Rattle.std.specs.Prelude.{slice_get}
 use Rattle.std.proofs.lemmas.List.{append-nil}
-use Rattle.match_turns.specs.Words.{kept_of, Rsp, Context, State, register, distance, arrivals, Slot, LinearBody, LinearFunclet, BodyName, FuncletBody, body_of, Frame, Item, Waits, Configuration, Next, with_some, read, forth, instruction_in, end_finally, end_funclet, end_body, act, Layout, sizes, call, finally_arguments, return_code, HasBack, context_below, AllReturnsStayInRegions, HaveRoom, InCode, Activation, locals_of, activations_below, return_of, ReturnsTo, On, IsWellFormed, Moves, links_of, held_below, turns_left, Setting, InBody, RepresentsAt, now_of}
+use Rattle.match_turns.specs.Words.{kept_of, Rsp, Context, State, register, distance, arrivals, Slot, LinearBody, LinearFunclet, BodyName, FuncletBody, body_of, Frame, Item, Waits, Configuration, Next, with_some, read, forth, instruction_in, end_finally, end_funclet, end_body, act, Layout, sizes, call, finally_arguments, return_code, HasBack, context_below, AllReturnsStayInRegions, HaveRoom, InCode, Activation, locals_of, activations_below, return_of, ReturnsTo, On, IsWellFormed, Moves, links_of, held_below, turns_left, Setting, InBody, RepresentsAt, now_of, host_list}
 use Rattle.x64_templates.specs.Runs.{Reaches}
 use Rattle.linear_code.specs.declared.instruction.Instruction.TheVariants as instructions
 use Rattle.linear_code.specs.declared.program.FuncletKind.TheVariants as funclets
@@ -75,7 +75,7 @@ module _ (setting : Setting) (roomy : HaveRoom setting.program)
     registers_after : kept_of after.cpu.registers ≡ (sp + layout.frame + 8) ∷ b.body.others
     registers_after = leaving.registers_after setting roomy s c b counted from at
 
-    well_formed_after : IsWellFormed after
+    well_formed_after : IsWellFormed (host_list p c.store) after
     well_formed_after = leaving.well_formed_after setting roomy s c b counted from at
 
     -- ---- the body that waits
@@ -129,12 +129,12 @@ module _ (setting : Setting) (roomy : HaveRoom setting.program)
         record {
           frame = again w (w.next + 1) w.temporaries w.landed;
           below = items;
-          store = record { memory = c.store.memory; activations = xs };
+          store = record c.store { memory = c.store.memory; activations = xs };
           events = c.events;
         } in
         InBody setting after d) (ap locals_of outer_is ∙ sym b.body.store)
         (waits_in_body t fs program p q image after above b.body.is w items outer (w.next + 1)
-        w.temporaries w.landed c.store.memory c.events on registers_after back_code
+        w.temporaries w.landed c.store c.events on registers_after back_code
         well_formed_after
         (all_front s.memory w.temporaries)
         (framed_hold (now_of true after.cpu) (p.register w.body) (p.leaf w.body) outer w.body

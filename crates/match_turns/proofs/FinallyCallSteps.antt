@@ -96,7 +96,9 @@ module _ (setting : Setting) (made : IsWellMade setting.program setting.plan)
         (calling.arrives setting made.room made.apart s c b counted k flagged.0 here separator
         framed block flagged.1) c.frame.body block flag_is fits
         (calling.memory setting made.room made.apart s c b counted k flagged.0 here separator framed
-        block flagged.1) b.body.store (omega arith) (omega arith) (λ m sp size. tt)
+        block flagged.1) b.body.store
+        (calling.listed_there setting made.room made.apart s c b counted k flagged.0 here separator
+        framed block flagged.1) (omega arith) (omega arith) (λ m sp size. tt)
         (λ g kind. (flagged.0, kind)) (after next_one goes) in
         let most = leads.few in
         inl (record {

@@ -3,7 +3,7 @@ use Rattle.std.proofs.Common.{◌≡◌, ℕ, ◌+◌, ◌*◌, ◌^◌, ◌<◌
 use Rattle.std.specs.Prelude.{slice_get, slice_index, slice_set}
 use Rattle.std.proofs.lemmas.Option.{slice_get_within, slice_get_cases}
 use Rattle.std.proofs.lemmas.List.{append-nil}
-use Rattle.match_turns.specs.Words.{STACK_START, STACK_END, W32, low, Event, Memory, number_at, Rax, Rcx, Rdx, Rsp, Instr, State, register, of_test, no_exception, Local, BodyState, with_slot, LinearFunclet, BodyName, FuncletBody, funclet_body, Item, Store, Configuration, flag_of, Layout, sizes, move, put_back, keep, local_at, keep_local, fetched, machine, HasCode, Enters, FramePlace, ReachesBody, Steps, StackItem, is_encodable, IsFinallyKind, parent_of, owner_of, IsFuncletOf, by_parent, Activation, locals_of, IsActivation, HasSpace, below_end, record_room, HasPointers, FuncletIsAbove, IsWellFormed, KeepsShadow, AllKeep, is_call, LeadsTo, parent_base, keep_argument, begin_of, making_size, context_of, FindsOwed, Owed, owed_of, with_values, OwnerHasFrame, IsKnown, entry_turns, FlagsFit, FRAME_BY_WEIGHT, Setting, HasProgram, IsMachineMemory, RepresentsAt, frame_at, state_of, OtherRegisters, keep_placed, IsReached, arrived_in}
+use Rattle.match_turns.specs.Words.{STACK_START, STACK_END, W32, low, Event, Memory, number_at, Rax, Rcx, Rdx, Rsp, Instr, State, register, of_test, no_exception, Local, BodyState, with_slot, LinearFunclet, BodyName, FuncletBody, funclet_body, Item, Store, Configuration, flag_of, Layout, sizes, move, put_back, keep, local_at, keep_local, fetched, machine, HasCode, Enters, FramePlace, ReachesBody, Steps, StackItem, is_encodable, IsFinallyKind, parent_of, owner_of, IsFuncletOf, by_parent, Activation, locals_of, IsActivation, HasSpace, below_end, record_room, HasPointers, FuncletIsAbove, IsWellFormed, KeepsShadow, AllKeep, is_call, LeadsTo, parent_base, keep_argument, begin_of, making_size, context_of, FindsOwed, Owed, owed_of, with_values, OwnerHasFrame, IsKnown, entry_turns, FlagsFit, FRAME_BY_WEIGHT, Setting, HasProgram, IsMachineMemory, RepresentsAt, frame_at, state_of, OtherRegisters, keep_placed, IsReached, arrived_in, host_list}
 use Rattle.match_bodies.specs.CodeSites.{arguments_code}
 use Rattle.linear_code.specs.declared.program.FuncletKind.TheVariants as funclets
 use Rattle.lowering_invariants.specs.Registers.{FlagHas}
@@ -32,7 +32,7 @@ module _ (setting : Setting) where
       (name : BodyName) (known : IsFuncletOf program name IsFinallyKind k)
       (flagged : flag_of (slice_get program.funclets k) ≡ Some flag) (fits : FlagsFit program)
       (memory : IsMachineMemory setting s.memory store.memory) (stored : store.activations ≡
-      locals_of acts)
+      locals_of acts) (listed : a.handlers ≡ host_list p store)
       (space : STACK_END ≤ a.at + (below_end + record_room) + FRAME_BY_WEIGHT * (length acts + held))
       (few : length acts + held + 2 ≤ 1000)
       (pointers : (m : Memory) (sp size : ℕ) → HasPointers t fs program p m
@@ -123,7 +123,7 @@ module _ (setting : Setting) where
     stack_1 : register s1.cpu Rsp ≡ e.sp
     stack_1 = e.at
 
-    well_formed_1 : IsWellFormed s1
+    well_formed_1 : IsWellFormed a.handlers s1
     well_formed_1 =
         let z = enters_keeps from to e.turns s (machine e.after e.rip e.flags) e.comes in
         stays_well_formed s s1
@@ -167,7 +167,7 @@ module _ (setting : Setting) where
 
     abbrev b1 : RepresentsAt setting s1 c1
     b1 = begins setting s s1 k (of_test abnormal) activation items acts l a frame_1 no_exception
-        (held + 2) store events memory stored (let h = e.top in let z = e.sp_is in let w = a.stack
+        (held + 2) store events memory stored listed (let h = e.top in let z = e.sp_is in let w = a.stack
         in omega arith) some
         (subst (λ r. HasSpace r below_end (length acts + (held + 2))) (sym stack_1) space_1)
         (above f kind_is)
@@ -277,9 +277,10 @@ module _ (setting : Setting) where
     rip_here = subst (λ z. e.rip + sizes (keep_argument y z) ≡ p.address (FuncletBody k) 0) kind_is
         e.place
 
-    well_formed_here : IsWellFormed u
+    well_formed_here : IsWellFormed (host_list p store) u
     well_formed_here = stays_well_formed s u (enters_keeps from to (e.turns + length last) s u run)
-        (let z = rip_here in let w = first_small setting k l in omega arith) a.well_formed
+        (let z = rip_here in let w = first_small setting k l in omega arith)
+        (subst (λ hs. IsWellFormed hs s) listed a.well_formed)
 
     store_is : locals_of (with_values acts activation values) ≡ slice_set store.activations
         activation (slice_set (linear.locals_of store activation) flag (of_test abnormal))
@@ -306,7 +307,7 @@ module _ (setting : Setting) where
             landed = None;
           };
           below = items;
-          store = record { memory = store.memory; activations = xs };
+          store = record store { activations = xs };
           events = events;
         } in RepresentsAt setting u o) store_is
         (represents_next setting s1 c1 b1 counted u d values [] ran_here 0 None events rip_here some

@@ -1,7 +1,7 @@
 -- A `__finally` block begins that an unwinding runs.
-use Rattle.std.proofs.Common.{◌+◌, ◌≤◌, true, List, [], ◌∷◌, ◌++◌, length, ap, arith}
+use Rattle.std.proofs.Common.{◌+◌, ◌≤◌, true, List, [], ◌∷◌, ◌++◌, length, ap, arith, refl}
 use Rattle.seh_num.specs.declared.event.Event.TheVariants as events
-use Rattle.match_turns.specs.Words.{Functions, Funclet, LinearProgram, Waits, Unwinds, context_below, ImagePlan, Sites, IsProgramImage, FlagsFit, BlocksBegin, setting_of}
+use Rattle.match_turns.specs.Words.{Functions, Funclet, LinearProgram, Waits, Unwinds, context_below, ImagePlan, Sites, IsProgramImage, FlagsFit, BlocksBegin, setting_of, host_list}
 use Rattle.match_turns.proofs.Lemmas.{locals_count}
 use Rattle.match_turns.proofs.DispatchSpace.{shallow_is, unwind_space}
 use Rattle.match_turns.proofs.FuncletFrame.{arrives_below}
@@ -18,8 +18,8 @@ blocks_begin t fs program p q image fits s k flag rest target c acts a flagged m
     block_leads (setting_of t fs program p q image) s k flag c.frame.activation target.held true
     items c.store
     (c.events ++ events.Finally (k + 1) true ∷ []) acts
-    (arrives_below t fs program p s k c.frame.activation 1 items acts a tt) c.frame.body
-    typed.stacked.above.funclet flagged fits memory stored
+    (arrives_below t fs program p s k c.frame.activation 1 items acts (host_list p c.store) a tt)
+    c.frame.body typed.stacked.above.funclet flagged fits memory stored refl
     (unwind_space t fs program p s.memory (context_below a.back a.at []) a.is rest target
     (Waits c.frame ∷ c.below) acts (a.on []).is_there.linked).space n
     (λ m sp size. tt) (λ g kind. (flag, kind)) typed

@@ -43,7 +43,7 @@ module _ (program : LinearProgram) where
   filter_of_some h k (Waits f ∷ below) e (inl x) = by_kind f.body x.region.end x.region.kind
       h.filter h.target k x.is_there.kind x.handles e
   filter_of_some h k (Waits f ∷ below) e (inr x) = filter_of_some h k below e x
-  filter_of_some h k (Searches exception resumption asked rest ∷ below) e i = filter_of_some h k
+  filter_of_some h k (Searches exception resumption asked ∷ below) e i = filter_of_some h k
       below e i
   filter_of_some h k (Unwinds rest target ∷ below) e i = filter_of_some h k below e i
 
@@ -220,7 +220,7 @@ module _ (setting : Setting) where
       → length acts ≡ length (owners_of items) → AreWorking program items
       → OwnerIsFramed n (owners_of items) → OwnerHasFrame t fs program p n items acts
   owner_framed n [] acts e w h = tt
-  owner_framed n (Searches exception resumption asked rest ∷ below) acts e w h = owner_framed n
+  owner_framed n (Searches exception resumption asked ∷ below) acts e w h = owner_framed n
       below acts e w h
   owner_framed n (Unwinds rest target ∷ below) acts e w h = owner_framed n below acts e w h
   owner_framed n (Waits b ∷ below) acts e w h = body_framed n b below acts b.body w.0 e h

@@ -174,7 +174,7 @@ module _ (setting : Setting) where
         let f = top in
         let g = low in
         let x = l.plan.layout.small in
-        let well = subst IsWellFormed begin_is a.well_formed in
+        let well = subst (IsWellFormed a.handlers) begin_is a.well_formed in
         let sp_here : register s.cpu Rsp ≡ register begin.cpu Rsp = ap
         (λ (u : State). register u.cpu Rsp) begin_is in
         record {

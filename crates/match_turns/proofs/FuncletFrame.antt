@@ -4,7 +4,7 @@ use Rattle.std.proofs.Common.{◌≡◌, ℕ, ◌+◌, ◌^◌, ◌<◌, ◌≤�
 use Rattle.std.specs.Prelude.{◌⊎◌, slice_get}
 use Rattle.std.specs.List.{AllByRecursion}
 use Rattle.std.proofs.lemmas.Bool.{cases_lt}
-use Rattle.match_turns.specs.Words.{STACK_START, STACK_END, Event, Protection, is_writable, Memory, may_write, number_at, Rcx, Rdx, Rsp, context_of, get, State, register, Functions, Funclet, Exception, is_hidden, Region, LinearProgram, LinearFunclet, BodyName, FuncletBody, body_of, funclet_body, Frame, Item, Store, Configuration, holds, regions_of, Layout, StackItem, context_below, ImagePlan, InCode, IsFunclet, Activation, locals_of, IsActivation, HasActivation, HoldsWords, HasSpace, below_end, HasPointers, FuncletIsAbove, BodyWaits, ReturnsTo, Reaches, KeepsStack, On, IsWellFormed, Arrives, IsFuncletPlan, slots_end, last_temporary, Setting, InBody, IsMachineMemory, RepresentsAt, now_of}
+use Rattle.match_turns.specs.Words.{STACK_START, STACK_END, Event, Protection, is_writable, Memory, may_write, number_at, Rcx, Rdx, Rsp, context_of, get, State, register, Functions, Funclet, Exception, is_hidden, Region, LinearProgram, LinearFunclet, BodyName, FuncletBody, body_of, funclet_body, Frame, Item, Store, Configuration, holds, regions_of, Layout, StackItem, context_below, ImagePlan, InCode, IsFunclet, Activation, locals_of, IsActivation, HasActivation, HoldsWords, HasSpace, below_end, HasPointers, FuncletIsAbove, BodyWaits, ReturnsTo, Reaches, KeepsStack, On, IsWellFormed, Arrives, IsFuncletPlan, slots_end, last_temporary, Setting, InBody, IsMachineMemory, RepresentsAt, now_of, host_list}
 use Rattle.virtual_unwind.specs.Undone.{word}
 use Rattle.match_bodies.specs.Bodies as bodies
 use Rattle.match_bodies.specs.ProgramImages.{frame_of}
@@ -111,14 +111,16 @@ pub record ArrivesBelow (t : Functions) (fs : List Funclet) (program : LinearPro
   pub is : List StackItem
   pub on : On t fs program p s.memory (context_below back at (others_of s.cpu.registers)) is items
       acts
-  pub well_formed : IsWellFormed s
+  pub handlers : List ℕ
+  pub well_formed : IsWellFormed handlers s
 
 abbrev pub arrives_below : (t : Functions) (fs : List Funclet) (program : LinearProgram)
     (p : ImagePlan) (s : State) (k activation first : ℕ) (items : List Item)
-    (acts : List Activation) → (a : Arrives t fs program p s k activation first items acts)
+    (acts : List Activation) (handlers : List ℕ)
+    → (a : Arrives t fs program p s k activation first items acts handlers)
     → ReturnsTo t fs program p items a.back → ArrivesBelow t fs program p s k activation first items
     acts
-arrives_below t fs program p s k activation first items acts a to = record {
+arrives_below t fs program p s k activation first items acts handlers a to = record {
   rip = a.rip;
   name = a.name;
   funclet = a.funclet;
@@ -132,6 +134,7 @@ arrives_below t fs program p s k activation first items acts a to = record {
   returns_to = to;
   is = a.is;
   on = a.on (others_of s.cpu.registers);
+  handlers = handlers;
   well_formed = a.well_formed;
 }
 
@@ -168,7 +171,7 @@ module _ (setting : Setting) where
     pub frame : bodies.HasFrame u (p.leaf (FuncletBody k))
         (frame_of p (FuncletBody k) a.back (others_of s.cpu.registers))
     pub rip : u.cpu.rip ≡ p.address (FuncletBody k) 0
-    pub well_formed : IsWellFormed u
+    pub well_formed : IsWellFormed a.handlers u
 
   abbrev pub first_frame : ℕ → ℕ → Exception → ℕ → Frame
   first_frame k activation exception held = record {
@@ -194,7 +197,8 @@ module _ (setting : Setting) where
       (h : HasFrame s u k first activation items acts l a)
       (exception : Exception) (held : ℕ) (store : Store) (events : List Event)
       (memory : IsMachineMemory setting s.memory store.memory)
-      (stored : store.activations ≡ locals_of acts) (top : a.at ≤ STACK_END)
+      (stored : store.activations ≡ locals_of acts) (listed : a.handlers ≡ host_list p store)
+      (top : a.at ≤ STACK_END)
       (some : 0 < length l.funclet.body.code)
       (space : HasSpace (register u.cpu Rsp) below_end (length acts + held))
       (above : FuncletIsAbove t fs program p k (first_frame k activation exception held)
@@ -312,7 +316,7 @@ module _ (setting : Setting) where
         (beginning (first_frame k activation exception held) items store events)
     begins = record {
       rip = h.rip;
-      well_formed = h.well_formed;
+      well_formed = subst (λ hs. IsWellFormed hs u) listed h.well_formed;
       memory = (let e = high in memory_stays setting s.memory u.memory store.memory sp
           (sp + y.frame) h.within h.low (omega arith) memory);
       body = in_body;

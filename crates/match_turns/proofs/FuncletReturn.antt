@@ -2,7 +2,7 @@
 -- RSP at the record.
 use Rattle.std.proofs.Common.{◌≡◌, ℕ, zero, ◌+◌, ◌<◌, ◌≤◌, Some, List, [], ◌∷◌, length, sym, ap, subst, ◌∙◌, arith}
 use Rattle.std.specs.Prelude.{slice_get}
-use Rattle.match_turns.specs.Words.{W32, low, Rsp, context_of, State, register, Exception, Slot, Region, LinearFunclet, FuncletBody, Frame, Handler, Target, Resumption, Item, Waits, Searches, Unwinds, Configuration, Next, with_some, read, answer, end_funclet, end_body, act, exec, return_code, StackItem, Searching, Unwinding, context_below, activations_below, On, SearchIsAnswered, linear_answer, Comes, HasRule, IsMatched, HaveRoom, AreWaiting, turns_left, KnownNext, FlagsFit, waiting_below, Setting, IsMachineMemory, RepresentsAt, Continuations, Represents, Context}
+use Rattle.match_turns.specs.Words.{W32, low, Rsp, context_of, State, register, Exception, Slot, Region, LinearFunclet, FuncletBody, Frame, Handler, Target, Resumption, Item, Waits, Searches, Unwinds, Configuration, Next, with_some, read, answer, end_funclet, end_body, act, exec, return_code, StackItem, Searching, Unwinding, context_below, activations_below, On, SearchIsAnswered, linear_answer, Comes, HasRule, IsMatched, HaveRoom, AreWaiting, turns_left, KnownNext, FlagsFit, waiting_below, Setting, IsMachineMemory, RepresentsAt, Continuations, Represents, Context, FilterOf, AreAskable, filter_return, IsMatchedOrAsks}
 use Rattle.linear_code.specs.declared.instruction.Instruction.TheVariants as instructions
 use Rattle.linear_code.specs.declared.program.FuncletKind.TheVariants as funclets
 use Rattle.match_turns.proofs.Lemmas.{reaches_silently, IsCounted}
@@ -89,18 +89,18 @@ module _ (setting : Setting) (roomy : HaveRoom setting.program) where
         (kind : g.kind ≡ funclets.Filter)
         (exception : Exception) (resumption : Resumption) (asked : Handler) (rest : List Handler)
         (w : Frame) (below : List Item) (under : c.below
-        ≡ Searches exception resumption asked rest ∷ Waits w ∷ below)
-        (waits : AreWaiting program c.below) where
+        ≡ Searches exception resumption (FilterOf asked rest) ∷ Waits w ∷ below)
+        (waits : AreWaiting program c.below) (listed : AreAskable program c.store.vectored) where
       abbrev waiting : List Item
-      waiting = Searches exception resumption asked rest ∷ Waits w ∷ below
+      waiting = Searches exception resumption (FilterOf asked rest) ∷ Waits w ∷ below
 
-      on_top : IsSearchOnTop (context_below back top b.body.others) b.body.is
+      on_top : IsSearchOnTop (context_below back top b.body.others) b.body.is filter_return
       on_top =
           let is_there = (subst (λ ys. On t fs program p s.memory
           (context_below back top b.body.others) b.body.is ys b.body.acts) under
           rest_of_list).is_there in
           search_on_top t fs program p s.memory (context_below back top b.body.others) b.body.is
-          exception resumption asked rest (Waits w ∷ below) b.body.acts is_there.stack
+          exception resumption (FilterOf asked rest) (Waits w ∷ below) b.body.acts is_there.stack
           is_there.linked
 
       is_answered : SearchIsAnswered t fs program p after on_top.dispatch on_top.others b.body.acts
@@ -108,6 +108,7 @@ module _ (setting : Setting) (roomy : HaveRoom setting.program) where
       is_answered = record {
         gives = image.gives;
         well_formed = leaving.well_formed_after setting roomy s c b counted from at;
+        handlers = image.handlers_small;
         on = here (Searching on_top.dispatch ∷ on_top.others) waiting on_top.items under;
       }
 
@@ -123,14 +124,13 @@ module _ (setting : Setting) (roomy : HaveRoom setting.program) where
           (sym (leaving.rax_after setting roomy s c b counted from at
           ∙ leaving.result_is setting roomy s c b counted from at x reads))
 
-      pub filter_returns : IsMatched t fs program 16 turns_left (Represents setting) s c
-          (instructions.Return from)
+      pub filter_returns : IsMatchedOrAsks setting s c (instructions.Return from)
       filter_returns =
           let at_host = on_top.at_host in
           filter_step setting fits continues n s after c (instructions.Return from) on_top.dispatch
           on_top.others b.body.acts exception resumption asked rest w below (silent (omega arith))
           few at_host under (none_landed program c.below waits) is_answered memory_after
-          b.body.store answers rule known
+          b.body.store answers rule known listed
 
     -- ---- a `__finally` block that an unwinding runs
 

@@ -1,9 +1,9 @@
 -- A funclet returns, by what waits below it.
 use Rattle.std.proofs.Common.{◌≡◌, ℕ, zero, Option, Some, None, List, ◌∷◌, refl, subst, inl, []}
 use Rattle.std.specs.Prelude.{slice_get}
-use Rattle.match_turns.specs.Words.{State, Slot, LinearFunclet, FuncletBody, Item, Waits, Searches, Unwinds, Configuration, read, act, instruction_at, exec, FuncletIsAbove, IsAbove, HasRule, IsMatched, turns_left, IsWellMade, IsKnown, KnownNext, turns_per_step, FlagsFit, Setting, setting_of, RepresentsAt, Continuations, Represents}
+use Rattle.match_turns.specs.Words.{State, Slot, LinearFunclet, FuncletBody, Item, Waits, Searches, Unwinds, Configuration, read, act, instruction_at, exec, FuncletIsAbove, IsAbove, HasRule, IsWellMade, IsKnown, KnownNext, turns_per_step, FlagsFit, Setting, setting_of, RepresentsAt, Continuations, VectoredAt, IsMatchedOrAsks, FilterOf}
 use Rattle.linear_code.specs.declared.instruction.Instruction.TheVariants as instructions
-use Rattle.match_turns.proofs.Lemmas.{counted_here, code_at, ready_here}
+use Rattle.match_turns.proofs.Lemmas.{counted_here, code_at, ready_here, askable_here}
 use Rattle.match_turns.proofs.FuncletSteps.{reads_some, returns_of_blocks_are_matched}
 use Rattle.match_turns.proofs.DispatchOutcomeSteps.{matched_there}
 use Rattle.match_turns.specs.EndLaws.{FuncletReturnsAreMatched}
@@ -19,8 +19,7 @@ module _ (setting : Setting) (made : IsWellMade setting.program setting.plan)
       (rule : HasRule (act program (instructions.Return from) (exec program zero) c))
       (after : KnownNext program c (instructions.Return from)) where
     abbrev Goal : Type 0
-    Goal = IsMatched t fs program turns_per_step turns_left (Represents setting) s c
-        (instructions.Return from)
+    Goal = IsMatchedOrAsks setting s c (instructions.Return from)
 
     value : (x : ℕ) × (read c from ≡ Some x)
     value = reads_some c from (ready_here setting made s c b known (instructions.Return from) at)
@@ -29,23 +28,26 @@ module _ (setting : Setting) (made : IsWellMade setting.program setting.plan)
       by_list : (items : List Item) → c.below ≡ items
           → FuncletIsAbove t fs program p k c.frame (Some g) items → Goal
       by_list [] e h = absurd h
-      by_list (Searches exception resumption asked rest ∷ []) e h = absurd h
-      by_list (Searches exception resumption asked rest ∷ Searches x y z w ∷ below) e h = absurd h
-      by_list (Searches exception resumption asked rest ∷ Unwinds x y ∷ below) e h = absurd h
-      by_list (Searches exception resumption asked rest ∷ Waits w ∷ below) e h =
+      by_list (Searches exception resumption (VectoredAt place) ∷ below) e h = absurd h
+      by_list (Searches exception resumption (FilterOf asked rest) ∷ []) e h = absurd h
+      by_list (Searches exception resumption (FilterOf asked rest) ∷ Searches x y z ∷ below) e h =
+          absurd h
+      by_list (Searches exception resumption (FilterOf asked rest) ∷ Unwinds x y ∷ below) e h =
+          absurd h
+      by_list (Searches exception resumption (FilterOf asked rest) ∷ Waits w ∷ below) e h =
           filter_returns setting made.room s c b (counted_here setting made c known) k name from
           (code_at setting made s c b known (instructions.Return from) at) value.0 value.1 g there
           rule after fits continues h.0 exception resumption asked rest w below e
-          known.stacked.below
+          known.stacked.below (askable_here program c.store.vectored made.whole known.stacked.handlers)
       by_list (Unwinds rest target ∷ []) e h = absurd h
-      by_list (Unwinds rest target ∷ Searches x y z w ∷ below) e h = absurd h
+      by_list (Unwinds rest target ∷ Searches x y z ∷ below) e h = absurd h
       by_list (Unwinds rest target ∷ Unwinds x y ∷ below) e h = absurd h
       by_list (Unwinds rest target ∷ Waits f ∷ below) e h =
-          block_returns setting made.room s c b (counted_here setting made c known) k name from
+          inl (block_returns setting made.room s c b (counted_here setting made c known) k name from
           (code_at setting made s c b known (instructions.Return from) at) value.0 value.1 g there
-          rule after fits h.0 h.1 rest target f below e known.stacked.below
+          rule after fits h.0 h.1 rest target f below e known.stacked.below)
       by_list (Waits w ∷ below) e h =
-          matched_there t fs program p q turns_per_step s c (instructions.Return from)
+          inl (matched_there t fs program p q turns_per_step s c (instructions.Return from)
           (inl (returns_of_blocks_are_matched t fs program p q image made s c from b known at
           (record {
             number = k;
@@ -57,7 +59,7 @@ module _ (setting : Setting) (made : IsWellMade setting.program setting.plan)
             body = w;
             items = below;
             below = e;
-          })))
+          }))))
 
     by_funclet : (o : Option LinearFunclet) → slice_get program.funclets k ≡ o
         → FuncletIsAbove t fs program p k c.frame o c.below → Goal

@@ -2,7 +2,7 @@
 use Rattle.std.proofs.Common.{◌≡◌, ℕ, suc, ◌+◌, ◌<◌, ◌≤◌, Bool, true, false, Some, None, List, [], ◌∷◌, length, refl, arith}
 use Rattle.std.specs.Prelude.{slice_get}
 use Rattle.std.specs.List.{AllByRecursion}
-use Rattle.match_turns.specs.Words.{weight_of, Event, STACK_END, Memory, Rsp, context_of, State, register, Functions, Funclet, no_exception, Region, LinearProgram, LinearBody, FunctionBody, body_of, Item, Waits, Searches, Unwinds, holds, regions_of, Layout, StackItem, context_below, ImagePlan, Activation, locals_of, HasSpace, below_end, HoldsPlaces, home_end, BodyWaits, HasPointers, ReturnsTo, FunctionIsAbove, On, IsWellFormed, Sites, IsLayoutIf, IsProgramImage, slots_end, last_temporary, begun, now_of}
+use Rattle.match_turns.specs.Words.{weight_of, Event, STACK_END, Memory, Rsp, context_of, State, register, Functions, Funclet, no_exception, Region, LinearProgram, LinearBody, FunctionBody, body_of, Item, Waits, Searches, Unwinds, holds, regions_of, Layout, StackItem, context_below, ImagePlan, Activation, locals_of, HasSpace, below_end, HoldsPlaces, home_end, BodyWaits, HasPointers, ReturnsTo, FunctionIsAbove, On, IsWellFormed, Sites, IsLayoutIf, IsProgramImage, slots_end, last_temporary, begun, now_of, Store, VectoredAt, FilterOf, host_list}
 use Rattle.seh_records.specs.Laws.{AllSmall}
 use Rattle.match_bodies.specs.ProgramImages.{frame_of, IsMachineMemory}
 use Rattle.match_bodies.specs.Bodies.{HasFrame, RepresentsAt}
@@ -23,13 +23,15 @@ module _ (t : Functions) (fs : List Funclet) (program : LinearProgram) (p : Imag
       → FunctionIsAbove t fs program p items → HasPointers t fs program p m y sp size items
   no_pointers m y sp size [] h = tt
   no_pointers m y sp size (Waits w ∷ below) h = tt
-  no_pointers m y sp size (Searches exception resumption asked rest ∷ below) h = absurd h
+  no_pointers m y sp size (Searches exception resumption (VectoredAt place) ∷ below) h = tt
+  no_pointers m y sp size (Searches exception resumption (FilterOf asked rest) ∷ below) h = absurd h
   no_pointers m y sp size (Unwinds rest target ∷ below) h = absurd h
 
-  module _ (z : State) (source : Memory) (f : ℕ) (o : LinearBody)
+  module _ (z : State) (source : Store) (f : ℕ) (o : LinearBody)
       (there : body_of program (FunctionBody f) ≡ Some o) (items : List Item)
       (acts : List Activation) (held : ℕ) (es : List Event) (values : List ℕ)
-      (well_formed : IsWellFormed z) (memory : IsMachineMemory t fs program p q z.memory source)
+      (well_formed : IsWellFormed (host_list p source) z)
+      (memory : IsMachineMemory t fs program p q z.memory source.memory)
       (rip : z.cpu.rip ≡ p.address (FunctionBody f) 0) (some : 0 < length o.code)
       (space : HasSpace (register z.cpu Rsp) below_end (suc (length acts) + held))
       (function : FunctionIsAbove t fs program p items)

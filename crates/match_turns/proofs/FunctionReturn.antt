@@ -3,7 +3,7 @@ use Rattle.std.proofs.Common.{◌≡◌, ◌≢◌, ℕ, ◌+◌, ◌<◌, Some,
 use Rattle.std.specs.Prelude.{get_or, slice_get}
 use Rattle.std.proofs.lemmas.List.{append-nil}
 use Rattle.std.proofs.lemmas.Option.{slice_get-get_or}
-use Rattle.match_turns.specs.Words.{kept_of, W32, signed, Rax, Rsp, Context, State, register, distance, arrivals, Slot, LinearBody, LinearFunclet, FunctionBody, FuncletBody, body_of, funclet_body, Frame, Item, Waits, Store, Configuration, Finished, Next, with_some, read, instruction_in, left_store, end_body, act, return, Layout, return_code, HasBack, context_below, Activation, activations_below, return_of, ReturnsTo, On, store_of, on_top, IsWellFormed, AllKeep, Moves, Exits, HaveRoom, held_below, turns_left, slots_end, Setting, RepresentsAt, now_of}
+use Rattle.match_turns.specs.Words.{kept_of, W32, signed, Rax, Rsp, Context, State, register, distance, arrivals, Slot, LinearBody, LinearFunclet, FunctionBody, FuncletBody, body_of, funclet_body, Frame, Item, Waits, Store, Configuration, Finished, Next, with_some, read, instruction_in, left_store, end_body, act, return, Layout, return_code, HasBack, context_below, Activation, activations_below, return_of, ReturnsTo, On, store_of, on_top, IsWellFormed, AllKeep, Moves, Exits, HaveRoom, held_below, turns_left, slots_end, Setting, RepresentsAt, now_of, host_list}
 use Rattle.x64_templates.specs.Runs.{Reaches}
 use Rattle.linear_code.specs.declared.instruction.Instruction.TheVariants as instructions
 use Rattle.linear_code.specs.declared.program.FuncletKind.TheVariants as kinds
@@ -51,7 +51,7 @@ module _ (setting : Setting) (roomy : HaveRoom setting.program) where
     registers_after : kept_of after.cpu.registers ≡ (sp + layout.frame + 8) ∷ b.body.others
     registers_after = leaving.registers_after setting roomy s c b counted from at
 
-    well_formed_after : IsWellFormed after
+    well_formed_after : IsWellFormed (host_list p c.store) after
     well_formed_after = stays_well_formed s after (reaches_keeps n s after reaches) has_back.small
         b.well_formed
 
@@ -61,23 +61,23 @@ module _ (setting : Setting) (roomy : HaveRoom setting.program) where
 
     -- linear code leaves the function's locals
     left : left_store c.frame.body c.frame.activation c.store
-        ≡ store_of c.store.memory (activations_below c.frame.body b.body.acts)
+        ≡ store_of c.store (activations_below c.frame.body b.body.acts)
     left =
         ap (λ (xs : List (List ℕ)). let o : Store =
-        record { memory = c.store.memory; activations = xs } in
+        record c.store { activations = xs } in
         left_store c.frame.body c.frame.activation o) b.body.store
-        ∙ left_activations s.memory c.store.memory layout sp
+        ∙ left_activations s.memory c.store layout sp
         (slots_end layout (p.leaf c.frame.body)) c.frame.activation b.body.acts c.frame.body
         (now_of (p.leaf c.frame.body) s.cpu) (p.register c.frame.body) b.body.slots.activation
 
-    acts_as : (next : Next) → act program (instructions.Return from) next c
-        ≡ return next x c.below c.events (store_of c.store.memory
+    pub acts_as : (next : Next) → act program (instructions.Return from) next c
+        ≡ return program next x c.below c.events (store_of c.store
         (activations_below c.frame.body b.body.acts))
     unfolding with_some
     acts_as next =
         ap (λ o. with_some c.events o (λ v. end_body program next c.frame.body v c)) reads
         ∙ ap (λ name. end_body program next name x c) function
-        ∙ ap (return next x c.below c.events) left
+        ∙ ap (return program next x c.below c.events) left
 
     -- ---- out of `main`
 
@@ -120,8 +120,8 @@ module _ (setting : Setting) (roomy : HaveRoom setting.program) where
           over = over;
           value = signed W32 x;
           answer = ap (signed W32) rax_after;
-          acts = λ next. acts_as next ∙ ap (λ items. return next x items c.events
-              (store_of c.store.memory (activations_below c.frame.body b.body.acts))) none
+          acts = λ next. acts_as next ∙ ap (λ items. return program next x items c.events
+              (store_of c.store (activations_below c.frame.body b.body.acts))) none
               ∙ ap (λ es. Finished (ends.Exit (signed W32 x)) es) (sym (append-nil c.events));
         }
 
@@ -158,15 +158,15 @@ module _ (setting : Setting) (roomy : HaveRoom setting.program) where
           b.body.below
 
       abbrev pub waiting_for_it : Configuration
-      waiting_for_it = on_top w items c.store.memory outer c.events
+      waiting_for_it = on_top w items c.store outer c.events
 
       -- the next configuration
       abbrev pub next_one : Configuration
-      next_one = answered setting roomy w items c.store.memory outer c.events x
+      next_one = answered setting roomy w items c.store outer c.events x
 
       pub goes : (next : Next) → act program (instructions.Return from) next c ≡ next next_one
-      goes next = acts_as next ∙ ap (λ ws. return next x ws c.events
-          (store_of c.store.memory outer)) below
+      goes next = acts_as next ∙ ap (λ ws. return program next x ws c.events
+          (store_of c.store outer)) below
 
       pub moves : IsCounted setting waiting_for_it
           → IsSurrounded setting roomy w.body w.activation items (length outer)
@@ -176,8 +176,8 @@ module _ (setting : Setting) (roomy : HaveRoom setting.program) where
           let some = (leaving.returns_soon setting roomy s c b counted from at).0 in
           let more = length-append w.temporaries (x ∷ []) in
           let z = subst (λ r. Resumes t fs program p q after
-          (answered setting roomy w items c.store.memory outer c.events r)) rax_after
-          (resumes setting roomy after w items outer c.store.memory c.events
+          (answered setting roomy w items c.store outer c.events r)) rax_after
+          (resumes setting roomy after w items outer c.store c.events
           above b.body.is on registers_after well_formed_after
           (record {
             data_alone = b.memory.data_alone;

@@ -2,7 +2,7 @@
 use Rattle.std.proofs.Common.{◌≡◌, ℕ, ◌+◌, ◌^◌, ◌<◌, ◌≤◌, Bool, true, false, cond, List, ◌∷◌, Some, None, ap, ◌∙◌, arith}
 use Rattle.std.specs.Prelude.{nat_lt}
 use Rattle.std.proofs.lemmas.Bool.{le-ltb}
-use Rattle.match_turns.specs.Words.{STACK_START, STACK_END, Memory, first_refused, may_write, with_bytes, context_of, State, rsp, Waits, Configuration, StackItem, Activation, KeepsAbove, IsWellFormed, AsksHost, Setting, HasProgram, InBody, IsMachineMemory, IsResumed, return_address_at, misplaced, place_below}
+use Rattle.match_turns.specs.Words.{STACK_START, STACK_END, Memory, first_refused, may_write, with_bytes, context_of, State, rsp, Waits, Configuration, StackItem, Activation, KeepsAbove, IsWellFormed, AsksHost, Setting, HasProgram, InBody, IsMachineMemory, IsResumed, return_address_at, misplaced, place_below, host_list}
 use Rattle.match_turns.proofs.Lemmas.{all_may, in_stack, kept_by_stores_below, body_on_top}
 
 -- in the stack, far enough above its start, a record can be placed
@@ -36,7 +36,7 @@ module _ (setting : Setting) where
       (acts : List Activation) : Type 0 where
     pub is : List StackItem
     pub asks : AsksHost t fs program p (record s { memory = with_bytes saved.memory byte })
-        saved.cpu is (Waits c.frame ∷ c.below) acts
+        saved.cpu is (Waits c.frame ∷ c.below) acts (host_list p c.store)
 
   -- where the saved state is at a machine instruction of an instruction of the body
   pub asks_host : (s saved : State) (byte : ℕ → ℕ) (c : Configuration) (label : ℕ)
@@ -44,8 +44,9 @@ module _ (setting : Setting) where
       → IsResumed setting c.frame.body at.slots.code label saved.cpu.rip
       → HasProgram setting saved.memory → KeepsAbove saved.memory byte (rsp (context_of saved.cpu))
       → IsMachineMemory setting (with_bytes saved.memory byte) source
-      → IsWellFormed (record s { memory = with_bytes saved.memory byte })
-      → IsWellFormed (record s { cpu = saved.cpu; memory = with_bytes saved.memory byte })
+      → IsWellFormed (host_list p c.store) (record s { memory = with_bytes saved.memory byte })
+      → IsWellFormed (host_list p c.store)
+      (record s { cpu = saved.cpu; memory = with_bytes saved.memory byte })
       → Asks s saved byte c at.acts
   asks_host s saved byte c label source at resumed has keeps memory well_formed
       well_formed_saved =

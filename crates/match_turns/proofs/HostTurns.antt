@@ -1,12 +1,13 @@
 -- The host's turns at its services, and steps of linear code that one of them matches.
 use Rattle.std.proofs.Common.{◌≡◌, ℕ, ◌+◌, ◌%◌, ◌≤◌, Bool, cond, List, [], ◌∷◌, ◌++◌, Option, None, Ok, Err, refl, ap, ◌∙◌}
 use Rattle.std.specs.Prelude.{Result}
-use Rattle.match_turns.specs.Words.{W32, W64, Code, Event, low, address_of, service_at, in_host_page, RefusedAccess, executable, loaded, Rcx, Rdx, Rsp, leading, Context, State, Answer, register, hosted, execute, step, Functions, distance, filter_return, finally_return, Funclet, Turn, arrivals, arrived, raised, unwound_locally, finally_returned, back, returned, turned, turn, Instruction, LinearProgram, Configuration, Seen, Next, act, ImagePlan, filter_turn, drop_below, started, served, WalkGives, KeepsShadow, IsLive, Comes, IsMatched, Sites, turns_left, KnownNext, entry_turns, LiveCallers, KeepsWith}
+use Rattle.match_turns.specs.Words.{W32, W64, Code, Event, low, address_of, service_at, in_host_page, RefusedAccess, executable, loaded, Rcx, Rdx, Rsp, leading, Context, State, Answer, register, hosted, execute, step, Functions, distance, filter_return, finally_return, Funclet, Turn, arrivals, arrived, raised, unwound_locally, finally_returned, back, returned, turned, turn, Instruction, LinearProgram, Configuration, Seen, Next, act, ImagePlan, filter_turn, drop_below, started, served, WalkGives, KeepsShadow, IsLive, Comes, IsMatched, Sites, turns_left, KnownNext, entry_turns, LiveCallers, KeepsWith, vectored_return, vectored_turn}
 use Rattle.seh_records.specs.Record.{fetched}
 use Rattle.host_layout.specs.declared.service.Service.TheVariants as services
 use Rattle.x64_machine.specs.declared.outcome.Stop.TheVariants as stops
 use Rattle.match_turns.proofs.Lemmas.{host_keeps, fault_keeps}
 use Rattle.match_turns.specs.DispatchOutcome.{Represents, Shows}
+use Rattle.match_turns.specs.AskOutcome.{KeepsHere}
 use Rattle.match_turns.proofs.DispatchOutcomeSteps.{outcome_same, matched_by_turn}
 
 module _ (t : Functions) (fs : List Funclet) where
@@ -15,7 +16,7 @@ module _ (t : Functions) (fs : List Funclet) where
   hosted_turn s a = arrived t fs (turned t s (cond (in_host_page a) (Err (hosted a (service_at a)))
       (execute s (leading (executable s.memory 15 s.cpu.rip)))))
 
-  at_service : (s : State) (a : ℕ) → s.cpu.rip ≡ a → turn t fs s ≡ hosted_turn s a
+  pub at_service : (s : State) (a : ℕ) → s.cpu.rip ≡ a → turn t fs s ≡ hosted_turn s a
   unfolding turn step
   at_service s a e = ap (hosted_turn s) e
 
@@ -23,6 +24,11 @@ module _ (t : Functions) (fs : List Funclet) where
   pub filter_turns : (s : State) → s.cpu.rip ≡ filter_return
       → turn t fs s ≡ arrived t fs (filter_turn t s)
   filter_turns s e = at_service s filter_return e
+
+  -- and of a vectored handler
+  pub vectored_turns : (s : State) → s.cpu.rip ≡ vectored_return
+      → turn t fs s ≡ arrived t fs (vectored_turn t s)
+  vectored_turns s e = at_service s vectored_return e
 
   pub finally_turns : (s : State) → s.cpu.rip ≡ finally_return
       → turn t fs s ≡ arrived t fs (finally_returned t s (register s.cpu Rsp)
@@ -76,11 +82,16 @@ module _ (t : Functions) (fs : List Funclet) where
   -- ---- steps of linear code
 
   module _ (program : LinearProgram) (p : ImagePlan) (q : Sites) where
-    pub filter_return_keeps : (s : State) (live : LiveCallers) → s.cpu.rip ≡ filter_return
-        → register s.cpu Rsp ≤ live.low → WalkGives t s live.callers
-        → KeepsWith t fs program p q s live
-    filter_return_keeps s live e le before = λ u es arrives after. keeps_at s filter_return
-        live.callers (service_step s filter_return e) before u es arrives (after s le)
+    pub filter_return_keeps_here : (s : State) (live : LiveCallers) → s.cpu.rip ≡ filter_return
+        → WalkGives t s live.callers → KeepsHere t fs program p q s live
+    filter_return_keeps_here s live e before = λ u es arrives after. keeps_at s filter_return
+        live.callers (service_step s filter_return e) before u es arrives after
+
+    pub vectored_return_keeps_here : (s : State) (live : LiveCallers)
+        → s.cpu.rip ≡ vectored_return → WalkGives t s live.callers
+        → KeepsHere t fs program p q s live
+    vectored_return_keeps_here s live e before = λ u es arrives after. keeps_at s vectored_return
+        live.callers (service_step s vectored_return e) before u es arrives after
 
     pub finally_return_keeps : (s : State) (live : LiveCallers) → s.cpu.rip ≡ finally_return
         → register s.cpu Rsp ≤ live.low → WalkGives t s live.callers
@@ -90,11 +101,11 @@ module _ (t : Functions) (fs : List Funclet) where
 
     -- the call of a service that dispatches is over
     pub raise_keeps : (s : State) (c : Context) (live : LiveCallers)
-        → s.cpu.rip ≡ address_of services.RaiseException → register s.cpu Rsp ≤ live.low
-        → WalkGives t s (c ∷ live.callers) → KeepsWith t fs program p q s live
-    raise_keeps s c live e le before = λ u es arrives after. keeps_at s
+        → s.cpu.rip ≡ address_of services.RaiseException
+        → WalkGives t s (c ∷ live.callers) → KeepsHere t fs program p q s live
+    raise_keeps s c live e before = λ u es arrives after. keeps_at s
         (address_of services.RaiseException) (c ∷ live.callers)
-        (service_step s (address_of services.RaiseException) e) before u es arrives (after s le)
+        (service_step s (address_of services.RaiseException) e) before u es arrives after
 
     pub local_unwind_keeps : (s : State) (c : Context) (live : LiveCallers)
         → s.cpu.rip ≡ address_of services.LocalUnwind → register s.cpu Rsp ≤ live.low
@@ -104,11 +115,11 @@ module _ (t : Functions) (fs : List Funclet) where
         (service_step s (address_of services.LocalUnwind) e) before u es arrives (after s le)
 
     pub raised_keeps : (s : State) (code : Code) (access : Option (Bool × ℕ)) (live : LiveCallers)
-        → step s ≡ Err (stops.Fault code access) → register s.cpu Rsp ≤ live.low
-        → WalkGives t s live.callers → KeepsWith t fs program p q s live
-    raised_keeps s code access live e le before = λ u es arrives after. fault_keeps t fs s u code
+        → step s ≡ Err (stops.Fault code access)
+        → WalkGives t s live.callers → KeepsHere t fs program p q s live
+    raised_keeps s code access live e before = λ u es arrives after. fault_keeps t fs s u code
         access es live.callers (drop_below (register u.cpu Rsp) (started s u es live.callers)) e
-        arrives before (after s le) refl
+        arrives before after refl
 
     -- silent turns lead to a turn of the host, which shows what the step shows
     pub matched_when_shown : (turns_per_step k left : ℕ) (s u : State) (c : Configuration)

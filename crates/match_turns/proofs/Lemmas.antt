@@ -22,10 +22,10 @@ pub use Rattle.x64_templates.proofs.Services.{thunk_reaches, pushed_thunk}
 pub use Rattle.x64_templates.proofs.Straight.{executes_then, executes_nothing, executes_one}
 pub use Rattle.x64_templates.proofs.Unwinds.{with_two, FinallyCalled, finally_begins, local_unwind_begins}
 pub use Rattle.match_runs.proofs.Matches.{fails_at_once, silently_before, silently_after, matched_as, matched_after, matched_slower}
-pub use Rattle.match_runs.proofs.Shadows.{none_below, none_started, straight, keep_first, host_keeps, fault_keeps, one_below}
+pub use Rattle.match_runs.proofs.Shadows.{none_below, none_started, handler_started, straight, keep_first, host_keeps, fault_keeps, one_below}
 pub use Rattle.match_runs.proofs.Turns.{comes_then, comes_one, comes_nowhere}
 pub use Rattle.match_stack.proofs.ControlAddresses.{controls_are_of_the_list, control_addresses_are_of_functions}
-pub use Rattle.match_stack.proofs.DispatchSteps.{answers_continue, finally_returns_unwind, raise_searches, local_unwind_unwinds, acceptance_unwinds}
+pub use Rattle.match_stack.proofs.DispatchSteps.{answers_continue, finally_returns_unwind, raise_asks, local_unwind_unwinds, acceptance_unwinds}
 pub use Rattle.match_stack.proofs.FuncletEntry.{set_small, few_items}
 pub use Rattle.match_stack.proofs.HostRegisters.{nine_numbers}
 pub use Rattle.match_stack.proofs.ListEnds.{end_within, in_stack}
@@ -59,7 +59,7 @@ pub use Rattle.match_bodies.proofs.SlotWrites.{locals_after, temporaries_after, 
 pub use Rattle.match_bodies.proofs.StackTop.{body_on_top, OnTop}
 pub use Rattle.match_bodies.proofs.StackWalks.{on_stack, stack_rises, keep_then}
 pub use Rattle.match_bodies.proofs.StackWords.{may_read_written, word_is, word_of}
-pub use Rattle.match_bodies.proofs.StepNeeds.{some_is, counted_here, code_at, label_in, body_there, owned_count, leaf_or_funclet, owner_waits, ready_here, held_here, goes_inside, around_here}
+pub use Rattle.match_bodies.proofs.StepNeeds.{askable_here, some_is, counted_here, code_at, label_in, body_there, owned_count, leaf_or_funclet, owner_waits, ready_here, held_here, goes_inside, around_here}
 pub use Rattle.match_bodies.proofs.TemplateKeeping.{information_keeps, finish_keeps, operands_keep}
 pub use Rattle.match_bodies.proofs.ArrivedParameters.{each}
 pub use Rattle.match_bodies.proofs.TemplateRuns.{v, frame, slots, same_state, template_here, has_slots, sp_is, next_address, code_end, base, code, y, silent_at, Surroundings, get_or_is}

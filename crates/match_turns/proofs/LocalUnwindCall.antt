@@ -3,7 +3,7 @@
 use Rattle.std.proofs.Common.{◌≡◌, ℕ, zero, ◌+◌, ◌-◌, ◌%◌, ◌^◌, ◌<◌, ◌≤◌, Bool, true, false, List, [], ◌∷◌, length, Option, Some, None, Ok, refl, sym, ap, subst, ◌∙◌, arith, inl, length-set}
 use Rattle.std.specs.Prelude.{slice_get}
 use Rattle.std.proofs.lemmas.Option.{slice_get_within}
-use Rattle.match_turns.specs.Words.{kept_of, W64, IMAGE_BASE, IMAGE_RANGE_END, STACK_START, STACK_END, address_of, Memory, loaded, Rcx, Rsp, Instr, Context, Cpu, context_of, State, register, Functions, Funclet, arrived, unwound_locally, Local, Instruction, LinearProgram, LinearBody, Frame, Item, Waits, Configuration, body_of, local_unwind, act, instruction_at, exec, Layout, size, sizes, move, IsNear, MachineView, machine, pushed, HasCode, StackItem, Framed, Leaf, ImagePlan, InCode, Activation, SameRegions, Aimed, Linked, AimedHere, KeepsAbove, IsWellFormed, AllKeep, Comes, HasRule, IsMatched, LandsWell, live_from, links_of, turns_left, IsWellMade, IsKnown, KnownNext, turns_per_step, FlagsFit, NoneLanded, Setting, setting_of, InBody, IsMachineMemory, IsResumed, RepresentsAt, Represents, modrm, address_to, local_unwind_code, LocalUnwindsAreMatched}
+use Rattle.match_turns.specs.Words.{kept_of, W64, IMAGE_BASE, IMAGE_RANGE_END, STACK_START, STACK_END, address_of, Memory, loaded, Rcx, Rsp, Instr, Context, Cpu, context_of, State, register, Functions, Funclet, arrived, unwound_locally, Local, Instruction, LinearProgram, LinearBody, Frame, Item, Waits, Configuration, body_of, local_unwind, act, instruction_at, exec, Layout, size, sizes, move, IsNear, MachineView, machine, pushed, HasCode, StackItem, Framed, Leaf, ImagePlan, InCode, Activation, SameRegions, Aimed, Linked, AimedHere, KeepsAbove, IsWellFormed, AllKeep, Comes, HasRule, IsMatched, LandsWell, live_from, links_of, turns_left, IsWellMade, IsKnown, KnownNext, turns_per_step, FlagsFit, NoneLanded, Setting, setting_of, InBody, IsMachineMemory, IsResumed, RepresentsAt, Represents, modrm, address_to, local_unwind_code, LocalUnwindsAreMatched, host_list}
 use Rattle.x64_templates.specs.Runs.{Reaches}
 use Rattle.host_layout.specs.declared.service.Service.TheVariants as services
 use Rattle.x64_instr.specs.declared.instruction.Instr.TheVariants as instrs
@@ -269,7 +269,7 @@ module _ (setting : Setting) (made : IsWellMade setting.program setting.plan)
     comes = reaches_silently t fs program p q image 4 s state reaches keeps_shadow b.memory.code
         (host_silent setting s.memory service state.cpu b.memory.code (omega arith))
 
-    well_formed : IsWellFormed state
+    well_formed : IsWellFormed (host_list p c.store) state
     well_formed = stays_well_formed s state (reaches_keeps 4 s state reaches) (omega arith)
         b.well_formed
 
@@ -294,14 +294,14 @@ module _ (setting : Setting) (made : IsWellMade setting.program setting.plan)
     registers_saved : kept_of saved.registers ≡ kept_of s.cpu.registers
     registers_saved = ap (λ x. x ∷ others_of s.cpu.registers) sp_saved
 
-    well_formed_saved : IsWellFormed (record state { cpu = saved })
+    well_formed_saved : IsWellFormed (host_list p c.store) (record state { cpu = saved })
     well_formed_saved =
         let raised = (register state.cpu Rsp + 8) % 2 ^ 64 % 2 ^ 64 in
         record {
           rip_small = back_small;
           count = length-set state.cpu.registers 4 raised ∙ well_formed.count;
           small = set_small state.cpu.registers 4 raised well_formed.small (omega arith);
-          no_handlers = well_formed.no_handlers;
+          listed = well_formed.listed;
         }
 
     memory : IsMachineMemory setting state.memory c.store.memory

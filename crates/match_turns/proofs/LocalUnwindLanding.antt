@@ -80,7 +80,7 @@ module _ (program : LinearProgram) where
       (record { frame = f; below = below; store = store; events = es }) e unlanded.0
       (λ store. unwind_bare (target_past f.body target) below None es store
       (past_code f.body target e) unlanded.1)
-  unwind_bare target (Searches exception resumption asked rest ∷ below) left es store e unlanded =
+  unwind_bare target (Searches exception resumption asked ∷ below) left es store e unlanded =
       unwind_bare target below None es store e unlanded
   unwind_bare target (Unwinds rest older ∷ below) left es store e unlanded = unwind_bare target
       below

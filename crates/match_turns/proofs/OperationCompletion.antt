@@ -146,7 +146,7 @@ module _ (setting : Setting) (made : IsWellMade setting.program setting.plan)
             is_there = subst (λ (xs : List (List ℕ)). let o : Configuration = record {
               frame = record c.frame { next = label; temporaries = ts; landed = landed };
               below = c.below;
-              store = record { memory = d.memory; activations = xs };
+              store = record c.store { memory = d.memory; activations = xs };
               events = c.events;
             } in RepresentsAt setting u o) store continues;
           }

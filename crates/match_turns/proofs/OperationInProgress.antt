@@ -93,7 +93,7 @@ module _ (setting : Setting) (made : IsWellMade setting.program setting.plan)
         rip_small = begin_small;
         count = w.well_formed.count;
         small = w.well_formed.small;
-        no_handlers = w.well_formed.no_handlers;
+        listed = w.well_formed.listed;
       };
       memory = w.memory;
       body = in_body_at t fs program p q s c before.cpu w.body refl w.again.locals

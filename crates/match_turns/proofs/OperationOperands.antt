@@ -1,7 +1,7 @@
 -- From where an operation begins to where its operands are in their registers.
 use Rattle.std.proofs.Common.{◌≡◌, ℕ, ◌+◌, ◌^◌, ◌<◌, ◌≤◌, true, false, Bool, List, [], ◌++◌, length, Some, refl, sym, ap, subst, ◌∙◌, arith, length-append}
 use Rattle.std.specs.Prelude.{slice_get}
-use Rattle.match_turns.specs.Words.{Memory, Rax, Rcx, Instr, kept_of, State, distance, arrivals, Operation, Slot, Temporary, Instruction, HasSlots, LinearBody, Configuration, is_constant, instruction_at, Layout, sizes, operands_code, finish_code, machine, InCode, IsWellFormed, AllKeep, Comes, LeadsTo, view_of, WorksAgain, IsWellMade, IsKnown, counts_of, Setting, setting_of, InBody, RepresentsAt, WorksOn, before, fetch_turns, OperandsAreFetched, leaf_values, slots_end, rsp, context_of, arrived_in, parameter_register, IsSpare, register, Rsp}
+use Rattle.match_turns.specs.Words.{Memory, Rax, Rcx, Instr, kept_of, State, distance, arrivals, Operation, Slot, Temporary, Instruction, HasSlots, LinearBody, Configuration, is_constant, instruction_at, Layout, sizes, operands_code, finish_code, machine, InCode, IsWellFormed, AllKeep, Comes, LeadsTo, view_of, WorksAgain, IsWellMade, IsKnown, counts_of, Setting, setting_of, InBody, RepresentsAt, WorksOn, before, fetch_turns, OperandsAreFetched, leaf_values, slots_end, rsp, context_of, arrived_in, parameter_register, IsSpare, register, Rsp, host_list}
 use Rattle.x64_instr.specs.declared.register.Reg.{Reg}
 use Rattle.template_code.specs.Operands as operands
 use Rattle.template_code.specs.Slots.{fetch_if}
@@ -131,7 +131,7 @@ module _ (setting : Setting) (made : IsWellMade setting.program setting.plan)
       let a = at_end in
       omega arith
 
-  well_formed : IsWellFormed u
+  well_formed : IsWellFormed (host_list p c.store) u
   well_formed = stays_well_formed s u (reaches_keeps n s u comes) small b.well_formed
 
   registers : kept_of u.cpu.registers ≡ kept_of s.cpu.registers

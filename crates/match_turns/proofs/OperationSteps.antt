@@ -1,11 +1,11 @@
 -- Each operation is matched, wherever the machine is.
 use Rattle.std.proofs.Common.{◌≡◌, ℕ, zero, ◌+◌, Bool, Option, Some, sym, subst, ◌∙◌, arith, inl, inr}
-use Rattle.match_turns.specs.Words.{Code, State, Operation, OperationResult, Gives, Raises, Undefined, is_reserved, Slot, Local, Temporary, Instruction, LinearProgram, Configuration, body_of, act, instruction_at, exec, IsTemporary, ReadsWell, IsInstructionOf, IsReady, HasRule, IsMatched, turns_left, IsWellMade, IsKnown, KnownNext, turns_per_step, FlagsFit, ComesTo, Setting, setting_of, WorksOn, RetriesAreMatched, ContinuationsAtOperations, OperationsAreMatched}
+use Rattle.match_turns.proofs.AskSteps.{taken_slower, taken_after}
+use Rattle.match_turns.specs.Words.{Code, State, Operation, OperationResult, Gives, Raises, Undefined, is_reserved, Slot, Local, Temporary, Instruction, LinearProgram, Configuration, body_of, act, instruction_at, exec, IsTemporary, ReadsWell, IsInstructionOf, IsReady, HasRule, IsWellMade, IsKnown, KnownNext, turns_per_step, FlagsFit, ComesTo, Setting, setting_of, WorksOn, RetriesAreMatched, ContinuationsAtOperations, OperationsAreMatched, IsTakenWithin, IsMatchedOrAsks}
 use Rattle.linear_code.specs.declared.instruction.Instruction.TheVariants as instructions
-use Rattle.match_turns.proofs.Lemmas.{matched_after, matched_slower, comes_nowhere, each, some_is, label_in, body_there}
+use Rattle.match_turns.proofs.Lemmas.{comes_nowhere, each, some_is, label_in, body_there}
 use Rattle.match_bodies.specs.Bodies.{RepresentsAt}
 use Rattle.match_bodies.proofs.BodySteps.{within_body}
-use Rattle.match_turns.specs.DispatchOutcome.{Represents}
 use Rattle.match_turns.proofs.OperationMeaning.{comes_to_something, undefined, not_constant, fault_reads}
 use Rattle.match_turns.proofs.OperationOperands.{fetched}
 use Rattle.match_turns.proofs.FaultRaise.{raised_at_once}
@@ -40,27 +40,22 @@ module _ (setting : Setting) (made : IsWellMade setting.program setting.plan)
       (Temporary w.again.second) x
       → HasRule (act program (again s c w) (exec program zero) c)
       → KnownNext program c (again s c w)
-      → IsMatched t fs program turns_per_step turns_left (Represents t fs program p q) s c
-      (again s c w)
-  within_operation s c w known (Gives value m) h rule next = matched_there t fs program p q
-      turns_per_step s c (again s c w) (inl (completed setting made s c w known value m h rule))
+      → IsMatchedOrAsks setting s c (again s c w)
+  within_operation s c w known (Gives value m) h rule next = inl (matched_there t fs program p q
+      turns_per_step s c (again s c w) (inl (completed setting made s c w known value m h rule)))
   within_operation s c w known (Raises code access) h rule next =
-      matched_slower t fs program turns_left 7 turns_per_step (Represents t fs program p q) s c
-      (again s c w)
-      (omega arith)
+      taken_slower t fs program p q 7 turns_per_step s c (again s c w) (omega arith)
       (raised_at_once setting made fits s c w known code access h rule next)
   within_operation s c w known (Undefined at) h rule next =
-      inr (inr (inr (undefined t fs program s c w.again.to w.again.operation
-      (Temporary w.again.first) (Temporary w.again.second) at h)))
+      inl (inr (inr (inr (undefined t fs program s c w.again.to w.again.operation
+      (Temporary w.again.first) (Temporary w.again.second) at h))))
 
   pub retried : (s : State) (c : Configuration) (i : Instruction) → WorksOn setting s c
       → IsKnown program c → instruction_at program c ≡ Some i
       → HasRule (act program i (exec program zero) c) → KnownNext program c i
-      → IsMatched t fs program turns_per_step turns_left (Represents t fs program p q) s c i
+      → IsMatchedOrAsks setting s c i
   retried s c i w known e = subst (λ j. HasRule (act program j (exec program zero) c)
-      → KnownNext program c j → IsMatched t fs program turns_per_step turns_left
-      (Represents t fs program p q)
-      s c j) same
+      → KnownNext program c j → IsMatchedOrAsks setting s c j) same
       (λ rule next. let x = comes_to_something program c w.again.to w.again.operation
       (Temporary w.again.first) (Temporary w.again.second)
       (ready_at program c (again s c w) known w.again.works) in
@@ -74,12 +69,11 @@ module _ (setting : Setting) (made : IsWellMade setting.program setting.plan)
       (access : Option (Bool × ℕ)) → WorksOn setting s c → IsKnown program c
       → instruction_at program c ≡ Some i
       → Meets program c (Raises code access) i → HasRule (act program i (exec program zero) c)
-      → KnownNext program c i → IsMatched t fs program 7 turns_left (Represents t fs program p q) s
-      c i
+      → KnownNext program c i → IsTakenWithin setting 7 s c i
   faults_within s c i code access w known e =
       subst (λ j. Meets program c (Raises code access) j
       → HasRule (act program j (exec program zero) c) → KnownNext program c j
-      → IsMatched t fs program 7 turns_left (Represents t fs program p q) s c j)
+      → IsTakenWithin setting 7 s c j)
       (some_is (again s c w) i (sym w.again.works ∙ e))
       (λ h rule next. raised_at_once setting made fits s c w known code access h rule next)
 
@@ -94,8 +88,7 @@ module _ (setting : Setting) (made : IsWellMade setting.program setting.plan)
         → instruction_at program c ≡ Some (instructions.Compute to o first second)
         → HasRule (act program (instructions.Compute to o first second) (exec program zero) c)
         → KnownNext program c (instructions.Compute to o first second)
-        → IsMatched t fs program turns_per_step turns_left (Represents t fs program p q) s c
-        (instructions.Compute to o first second)
+        → IsMatchedOrAsks setting s c (instructions.Compute to o first second)
     faults (Local x) second code access temporaries h e rule next = absurd temporaries.0
     faults (Temporary x) (Local y) code access temporaries h e rule next = absurd temporaries.1
     faults (Temporary x) (Temporary y) code access temporaries h e rule next =
@@ -104,21 +97,17 @@ module _ (setting : Setting) (made : IsWellMade setting.program setting.plan)
         (not_constant (is_reserved program.globals) o h.a h.b c.store.memory code access h.comes)
         e in
         let few = l.few in
-        matched_slower t fs program turns_left (l.turns + 7) turns_per_step
-        (Represents t fs program p q) s c
-        i (omega arith)
-        (matched_after t fs program turns_left l.turns 7 (Represents t fs program p q) s l.state c i
-        l.comes (faults_within l.state c i code access l.is_there known e h rule next))
+        taken_slower t fs program p q (l.turns + 7) turns_per_step s c i (omega arith)
+        (taken_after t fs program p q l.turns 7 s l.state c i l.comes (faults_within l.state c i code access l.is_there known e h rule next))
 
     from_beginning : (first second : Slot) (x : OperationResult)
         → ComesTo program c o first second x → instruction_at program c
         ≡ Some (instructions.Compute to o first second)
         → HasRule (act program (instructions.Compute to o first second) (exec program zero) c)
         → KnownNext program c (instructions.Compute to o first second)
-        → IsMatched t fs program turns_per_step turns_left (Represents t fs program p q) s c
-        (instructions.Compute to o first second)
+        → IsMatchedOrAsks setting s c (instructions.Compute to o first second)
     from_beginning first second (Gives value m) h e rule next =
-        matched_there t fs program p q turns_per_step s c
+        inl (matched_there t fs program p q turns_per_step s c
         (instructions.Compute to o first second)
         (inl (within_body t fs program p q image made s c (instructions.Compute to o first second) b
         known e (record {
@@ -129,7 +118,7 @@ module _ (setting : Setting) (made : IsWellMade setting.program setting.plan)
           value = value;
           memory = m;
           gives = h.comes;
-        }) rule))
+        }) rule)))
     from_beginning first second (Raises code access) h e rule next =
         let i = instructions.Compute to o first second in
         let there = body_there (body_of program c.frame.body) c.frame.next i e in
@@ -139,8 +128,8 @@ module _ (setting : Setting) (made : IsWellMade setting.program setting.plan)
         (label_in (body_of program c.frame.body) there.0 c.frame.next i there.1 e) in
         faults first second code access (fault_reads (is_reserved program.globals) o first second
         h.a h.b c.store.memory code access h.comes well) h e rule next
-    from_beginning first second (Undefined at) h e rule next = inr
-        (inr (inr (undefined t fs program s c to o first second at h)))
+    from_beginning first second (Undefined at) h e rule next = inl (inr
+        (inr (inr (undefined t fs program s c to o first second at h))))
 
 pub operations : OperationsAreMatched
 operations t fs program p q image made fits s c to o first second (inl b) known e rule next =

@@ -4,14 +4,16 @@ use Rattle.std.specs.Prelude.{nat_eq, replicate, slice_get, slice_index, if◌th
 use Rattle.std.proofs.lemmas.Bool.{eq-eqb}
 use Rattle.std.proofs.lemmas.List.{get_or-drop}
 use Rattle.std.proofs.lemmas.Option.{slice_get-get_or}
-use Rattle.match_turns.specs.Words.{W32, Code, low, Rcx, Rdx, address_of, context_of, State, register, arrived, raised, RaiseException, Exception, raise_event, Temporary, Instruction, LinearProgram, AfterCall, Configuration, Next, with_some, last_temporaries, raise, count_of, waiting, built_in, act, instruction_at, exec, IsException, HasRule, IsMatched, live_from, turns_left, IsWellMade, IsKnown, KnownNext, turns_per_step, FlagsFit, Setting, setting_of, RepresentsAt, Represents, RaisesAreMatched, leaf_values, ResumesFrom}
+use Rattle.match_turns.specs.Words.{W32, Code, low, Rcx, Rdx, address_of, context_of, State, register, arrived, raised, RaiseException, Exception, raise_event, Temporary, Instruction, LinearProgram, AfterCall, Configuration, Next, with_some, last_temporaries, raise, count_of, waiting, built_in, act, instruction_at, exec, IsException, HasRule, live_from, turns_left, IsWellMade, IsKnown, KnownNext, FlagsFit, Setting, setting_of, RepresentsAt, RaisesAreMatched, leaf_values, ResumesFrom, IsMatchedOrAsks, Rsp}
 use Rattle.host_layout.specs.declared.service.Service.TheVariants as services
 use Rattle.source_meaning.specs.Expressions as expressions
 use Rattle.linear_code.specs.declared.instruction.Instruction.TheVariants as instructions
-use Rattle.match_turns.proofs.Lemmas.{counted_here, ready_here, slots_here}
+use Rattle.match_turns.proofs.Lemmas.{counted_here, ready_here, slots_here, askable_here}
 use Rattle.match_turns.proofs.DispatchStart.{raised_as}
 use Rattle.match_turns.proofs.DispatchWalks.{service_walk}
-use Rattle.match_turns.proofs.HostTurns.{raise_turns, raise_keeps, matched_when_shown}
+use Rattle.match_turns.proofs.HostTurns.{raise_turns, raise_keeps}
+use Rattle.match_turns.proofs.AskSteps.{taken_when_shown}
+use Rattle.match_stack.proofs.DispatchSteps.{place_low}
 use Rattle.match_turns.proofs.BuiltInRequest as asking
 
 -- an argument, among the last temporaries
@@ -108,14 +110,22 @@ module _ (setting : Setting) (made : IsWellMade setting.program setting.plan)
     goes = raise_acts program c first held
 
     pub raise_step : HasRule (act program i (exec program zero) c) → KnownNext program c i
-        → IsMatched t fs program turns_per_step turns_left (Represents setting) s c i
+        → IsMatchedOrAsks setting s c i
     raise_step rule after =
         let asks = asking.asks setting made s c b known RaiseException first at in
         let shown = raised_as setting fits state
         (asking.saved setting made s c b known RaiseException first at) asks.is b.body.acts
         (waiting c first) asks.asks (asking.memory setting made s c b known RaiseException first at)
         b.body.store code (register state.cpu Rdx % 2) None exception AfterCall is_exception resumes
-        (subst HasRule (goes (exec program zero)) rule) in
+        (subst HasRule (goes (exec program zero)) rule)
+        (askable_here program c.store.vectored made.whole known.stacked.handlers)
+        (register state.cpu Rsp)
+        (let up = asking.sp_saved setting made s c b known RaiseException first at in
+        let there = asking.sp_there setting made s c b known RaiseException first at in
+        let small = asks.asks.well_formed_saved.small 4 (let n = asks.asks.well_formed_saved.count
+        in omega arith) in
+        let low = place_low (register (asking.saved setting made s c b known RaiseException first
+        at) Rsp) asks.asks.low small in omega arith) in
         let less : turns_left (waiting c first)
         ≤ turns_left c = (let n = length-take first c.frame.temporaries in omega arith) in
         let saved = asking.saved setting made s c b known RaiseException first at in
@@ -134,7 +144,7 @@ module _ (setting : Setting) (made : IsWellMade setting.program setting.plan)
         (λ e. absurd (omega arith))
         (asking.returns setting made s c b known RaiseException first at) well_formed.count
         (omega arith) asks.asks.on.is_there.stack in
-        matched_when_shown t fs program p q 16 7 (turns_left (waiting c first)) s state c i
+        taken_when_shown t fs program p q 16 7 (turns_left (waiting c first)) s state c i
         (arrived t fs (raised t state code (register state.cpu Rdx % 2) None
         (asking.saved setting made s c b known RaiseException first at)))
         (raise_event exception ∷ [])
@@ -142,7 +152,7 @@ module _ (setting : Setting) (made : IsWellMade setting.program setting.plan)
         (asking.comes setting made s c b known RaiseException first at)
         (asking.live setting made s c b known RaiseException first at)
         (raise_turns t fs state back refl (asking.returns setting made s c b known RaiseException
-        first at)) (raise_keeps t fs program p q state walk.0 live refl (omega arith) walk.1)
+        first at)) (omega arith) (raise_keeps t fs program p q state walk.0 live refl walk.1)
         shown goes (omega arith) after
 
 pub raises_are_matched : RaisesAreMatched

@@ -2,7 +2,7 @@
 -- begins, with the result 0.
 use Rattle.std.proofs.Common.{◌≡◌, ℕ, suc, ◌+◌, ◌*◌, ◌≤◌, Bool, true, false, List, [], ◌∷◌, ◌++◌, length, Some, None, refl, sym, ap, subst, ◌∙◌, arith, length-append}
 use Rattle.std.specs.Prelude.{slice_get}
-use Rattle.match_turns.specs.Words.{Rsp, Instr, Cpu, context_of, State, distance, arrivals, RaiseException, Temporary, Instruction, HasSlots, LinearProgram, LinearBody, BodyName, FunctionBody, FuncletBody, body_of, AfterCall, Waits, Configuration, resumed, Layout, sizes, put_back, keep, temporary_at, call, return_at, begin_call, clear_result, HasCode, StackItem, ImagePlan, Activation, locals_of, On, on_top, IsWellFormed, LeadsTo, IsLayoutIf, IsLaidOut, IsWellMade, IsKnown, counts_of, entry_turns, FRAME_BY_WEIGHT, MOST_WEIGHT, weight_of, Setting, setting_of, IsMachineMemory, RepresentsAt, ReturnsThere, ContinuationsAfterCalls, arguments_code, leaf_values, ResumesFrom}
+use Rattle.match_turns.specs.Words.{Rsp, Instr, Cpu, context_of, State, distance, arrivals, RaiseException, Temporary, Instruction, HasSlots, LinearProgram, LinearBody, BodyName, FunctionBody, FuncletBody, body_of, AfterCall, Waits, Configuration, resumed, Layout, sizes, put_back, keep, temporary_at, call, return_at, begin_call, clear_result, HasCode, StackItem, ImagePlan, Activation, locals_of, On, on_top, IsWellFormed, LeadsTo, IsLayoutIf, IsLaidOut, IsWellMade, IsKnown, counts_of, entry_turns, FRAME_BY_WEIGHT, MOST_WEIGHT, weight_of, Setting, setting_of, IsMachineMemory, RepresentsAt, ReturnsThere, ContinuationsAfterCalls, arguments_code, leaf_values, ResumesFrom, host_list}
 use Rattle.linear_code.specs.declared.instruction.Instruction.TheVariants as instructions
 use Rattle.match_turns.proofs.Lemmas.{sizes_append, call_size, code_split, near, template_there, reaches_silently, locals_count, label_in, body_there, counted_here, each, IsCounted}
 use Rattle.lowering_invariants.specs.Depths.{depth_at, depth_in}
@@ -39,7 +39,7 @@ module _ (setting : Setting) where
   module _ (made : IsWellMade program p) (s : State) (saved : Cpu) (is : List StackItem)
       (acts : List Activation) (c : Configuration)
       (on : On t fs program p s.memory (context_of saved) is (Waits c.frame ∷ c.below) acts)
-      (well_formed : IsWellFormed (record s { cpu = saved }))
+      (well_formed : IsWellFormed (host_list p c.store) (record s { cpu = saved }))
       (says : ResumesFrom p AfterCall c.frame acts saved)
       (memory : IsMachineMemory setting s.memory c.store.memory)
       (store : c.store.activations ≡ locals_of acts) where
@@ -111,7 +111,7 @@ module _ (setting : Setting) where
           omega (arith, d, n, more)
 
       abbrev caller : Configuration
-      caller = on_top c.frame c.below c.store.memory acts c.events
+      caller = on_top c.frame c.below c.store acts c.events
 
       counted : IsCounted setting caller
       counted b there = ap (λ (xs : List (List ℕ)). length (locals_in xs c.frame.activation))
@@ -125,7 +125,7 @@ module _ (setting : Setting) where
           let u : State = record s { cpu = saved } in
           let f = fits in
           let z = kept.resumes setting made.room u c.frame c.below acts
-          c.store.memory c.events (context_of saved) is on refl well_formed memory code.0 code.1 i
+          c.store c.events (context_of saved) is on refl well_formed memory code.0 code.1 i
           first
           done here (λ h. h) refl refl (omega arith)
           ((made.apart name code.0 code.1).within c.frame.next i here refl) held free back_is
@@ -144,10 +144,10 @@ module _ (setting : Setting) where
                 temporaries = c.frame.temporaries ++ 0 ∷ [];
               };
               below = c.below;
-              store = record { memory = c.store.memory; activations = xs };
+              store = record c.store { memory = c.store.memory; activations = xs };
               events = c.events;
             })) (sym store) (subst (λ x. RepresentsAt setting z.state
-                (kept.answered setting made.room c.frame c.below c.store.memory acts c.events x))
+                (kept.answered setting made.room c.frame c.below c.store acts c.events x))
                 returns.no_result z.begins);
           }
 

@@ -19,9 +19,9 @@ module _ (setting : Setting) (fits : FlagsFit setting.program) where
       (h : IsSearching t fs program p s at r is acts exception found c)
       (memory : IsMachineMemory setting s.memory c.store.memory)
       (store : c.store.activations ≡ locals_of acts) where
-    same_store : store_of c.store.memory acts ≡ c.store
+    same_store : store_of c.store acts ≡ c.store
     same_store = ap (λ (xs : List (List ℕ)). let x : Store =
-        record { memory = c.store.memory; activations = xs } in x) (sym store)
+        record c.store { activations = xs } in x) (sym store)
 
     -- ---- a handler takes over, in a frame of the list
 
@@ -34,9 +34,9 @@ module _ (setting : Setting) (fits : FlagsFit setting.program) where
         (live_from (context_of r.saved) is)
     taken_over f frame address frame_small address_small aimed rule =
         let a = acceptance_unwinds t fs program p s at r frame address is acts exception found f c
-        c.store.memory h frame_small address_small aimed in
+        h frame_small address_small aimed in
         let w = from_body (target_of f exception.code c.frame.held) c.frame c.below acts
-        c.store.memory c.events in
+        c.store c.events in
         let record' = accepting r frame address in
         let room : RecordHasRoom s.memory at record'
         (rsp (context_of r.saved)) = record {

@@ -2,11 +2,12 @@
 use Rattle.std.proofs.Common.{◌≡◌, ℕ, ◌+◌, ◌^◌, ◌<◌, ◌≤◌, [], ◌∷◌, Some, Ok, refl, sym, subst, arith}
 use Rattle.std.specs.Prelude.{slice_get}
 use Rattle.std.proofs.lemmas.Bool.{ne_eqb}
-use Rattle.match_turns.specs.Words.{opcode_register, IMAGE_BASE, IMAGE_RANGE_END, STACK_START, STACK_END, address_of, W64, loaded, Rsp, Flags, State, register, BuiltIn, Put, Protect, RaiseException, Walk, Temporary, BodyState, Configuration, Layout, size, sizes, keep, IsNear, call, return_at, begin_call, call_code, clear_result, template_size, MachineView, machine, pushed, HasCode, IsLive, Comes, HaveRoom, service_of, CallsBuiltIn, Setting, RepresentsAt, arguments_code}
+use Rattle.match_turns.specs.Words.{opcode_register, IMAGE_BASE, IMAGE_RANGE_END, STACK_START, STACK_END, address_of, W64, loaded, Rsp, Flags, State, register, BuiltIn, Put, Protect, RaiseException, Walk, AddVectored, RemoveVectored, Temporary, BodyState, Configuration, Layout, size, sizes, keep, IsNear, call, return_at, begin_call, call_code, clear_result, template_size, MachineView, machine, pushed, HasCode, IsLive, Comes, HaveRoom, service_of, CallsBuiltIn, Setting, RepresentsAt, arguments_code}
 use Rattle.x64_templates.specs.Runs.{Reaches}
 use Rattle.linear_code.specs.declared.instruction.Instruction.TheVariants as instructions
-use Rattle.match_turns.proofs.Lemmas.{sizes_append, call_size, call_code_size, code_split, reaches_silently, IsCounted, room_here, holds_here, sp_low, frame_top, frame, slots, v, sp_is, same_state, has_slots, template_here, next_address, label_near, end_near}
-use Rattle.match_turns.proofs.BuiltInCall.{ServiceReached, with_arguments_of, service_reached}
+use Rattle.match_turns.proofs.BuiltInRun.{thunk_turns, named, service_reaches}
+use Rattle.match_turns.proofs.Lemmas.{sizes_append, call_size, call_code_size, code_split, reaches_then, reaches_silently, program_reaches, IsCounted, room_here, holds_here, sp_low, frame_top, frame, slots, v, sp_is, same_state, has_slots, template_here, next_address, label_near, end_near}
+use Rattle.match_turns.proofs.BuiltInCall.{ThunkReached, with_arguments_of, thunk_reached}
 use Rattle.match_turns.proofs.BuiltInShadow.{calls_it, built_in_keeps}
 use Rattle.match_turns.proofs.HostPage.{host_silent}
 use Rattle.match_turns.proofs.ReturnAddressPush.{below, returns_there}
@@ -21,6 +22,8 @@ service_low Put = (omega arith, omega arith)
 service_low Protect = (omega arith, omega arith)
 service_low RaiseException = (omega arith, omega arith)
 service_low Walk = (omega arith, omega arith)
+service_low (AddVectored f) = (omega arith, omega arith)
+service_low (RemoveVectored f) = (omega arith, omega arith)
 
 built_in_size : (y : Layout) (f : BuiltIn) (first : ℕ)
     → template_size y (instructions.CallBuiltIn f first)
@@ -64,9 +67,12 @@ module _ (setting : Setting) (roomy : HaveRoom setting.program) where
       pub top : sp ≤ STACK_END
       top = let h = frame_top setting s c b counted in omega arith
 
-      -- with the arguments in their registers
+      -- with the arguments in their registers, and with what a stub puts there
+      abbrev passed : MachineView
+      passed = with_arguments_of view numbers first
+
       abbrev pub given : MachineView
-      given = with_arguments_of view numbers first
+      given = named p f passed
 
       -- the next instruction begins after the result is kept
       pub next_is : p.address c.frame.body (c.frame.next + 1)
@@ -92,38 +98,48 @@ module _ (setting : Setting) (roomy : HaveRoom setting.program) where
           let n = back_near in
           let l = n.0 in
           let h = n.1 in
-          let inside = (b.memory.code.thunks f called_here).inside in
-          let k = inside.low in
-          let z = inside.high in
+          let has = b.memory.code.built_in f called_here in
+          let k = has.inside.low in
+          let z = has.inside.high in
           (omega arith, omega arith, omega arith, omega arith)
 
-      reached : ServiceReached (frame setting roomy s c b counted) first view s.cpu.rip service
+      begun : ThunkReached (frame setting roomy s c b counted) first view s.cpu.rip (q.thunk f)
           s.cpu.flags numbers
-      reached =
-          service_reached (frame setting roomy s c b counted) first view s.cpu.rip (q.thunk f)
-          service s.cpu.flags numbers (room_here setting s c b counted)
+      begun =
+          thunk_reached (frame setting roomy s c b counted) first view s.cpu.rip (q.thunk f)
+          s.cpu.flags numbers (room_here setting s c b counted)
           (has_slots setting roomy s c b counted (instructions.CallBuiltIn f first) at)
           (sp_is setting roomy s c b counted) (holds_here setting s c b counted)
           (below view sp back (let l = low in omega arith) top b.memory.data_alone b.memory.stack)
           near
           (template_here setting roomy s c b counted (instructions.CallBuiltIn f first) at)
-          (b.memory.code.thunks f called_here).thunk
 
       pub flags_there : Flags
-      flags_there = reached.flags
+      flags_there = begun.flags
+
+      -- at the stub or the thunk
+      abbrev at_thunk : State
+      at_thunk = machine (pushed passed sp back) (q.thunk f) flags_there
+
+      reaches_thunk : Reaches 6 s at_thunk
+      unfolding flags_there
+      reaches_thunk = subst (λ x. Reaches 6 x at_thunk)
+          (sym (same_state setting roomy s c b counted)) begun.comes
 
       -- at the service
       abbrev pub at_service : State
       at_service = machine (pushed given sp back) service flags_there
 
-      pub reaches : Reaches 7 s at_service
-      unfolding flags_there
-      reaches = subst (λ x. Reaches 7 x (machine (pushed given sp back) service reached.flags))
-          (sym (same_state setting roomy s c b counted)) reached.comes
+      pub reaches : Reaches (6 + thunk_turns f) s at_service
+      reaches = reaches_then 6 (thunk_turns f) s at_thunk at_service reaches_thunk
+          (service_reaches setting f (pushed passed sp back) flags_there
+          ((program_reaches t fs program p q 6 s at_thunk reaches_thunk b.memory.code).built_in f
+          called_here))
 
-      pub comes_there : Comes t fs 7 s [] at_service
-      comes_there = reaches_silently t fs program p q image 7 s at_service reaches
-          (built_in_keeps setting roomy s c b counted f first at at_service reaches refl
+      pub comes_there : Comes t fs (6 + thunk_turns f) s [] at_service
+      comes_there = reaches_silently t fs program p q image (6 + thunk_turns f) s at_service reaches
+          (built_in_keeps setting roomy s c b counted f first at (pushed passed sp back) flags_there
+          reaches_thunk
           (subst (λ r. IsNear (return_at layout first (r + 5)) (q.thunk f)) b.rip near))
           b.memory.code
           (host_silent setting s.memory service at_service.cpu b.memory.code (service_low f).1)

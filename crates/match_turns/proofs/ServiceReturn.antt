@@ -1,12 +1,13 @@
 -- A service returns: its result goes to the temporary of the first argument, and the next
 -- instruction begins.
-use Rattle.std.proofs.Common.{◌≡◌, ℕ, zero, suc, ◌+◌, ◌-◌, ◌%◌, ◌^◌, ◌<◌, ◌≤◌, false, List, [], ◌∷◌, ◌++◌, length, take, set, Option, Some, None, refl, sym, ap, subst, ◌∙◌, arith, true}
+use Rattle.std.proofs.Common.{◌≡◌, ℕ, zero, suc, ◌+◌, ◌-◌, ◌%◌, ◌^◌, ◌<◌, ◌≤◌, false, List, [], ◌∷◌, ◌++◌, length, map, take, set, Option, Some, None, refl, sym, ap, subst, ◌∙◌, arith, true}
 use Rattle.std.specs.Prelude.{slice_get}
 use Rattle.std.proofs.lemmas.List.{append-nil}
 use Rattle.std.proofs.lemmas.Option.{slice_get_within}
 use Rattle.match_turns.specs.Words.{Event, Memory, Rsp, Instr, Context, kept_of, State, register, distance, arrivals, Continues, turn, BuiltIn, Temporary, BodyState, with_slot, LinearBody, Configuration, Next, act, sizes, keep, call, return_at, begin_call, clear_result, MachineView, machine, AreSmall, sp_of, with_sp, ReachesBody, locals_of, KeepsAbove, KeepsStack, WalkGives, KeepsShadow, AllKeep, Comes, Moves, HaveRoom, turns_left, counts_of, with_values, OwnerHasFrame, Setting, HasProgram, IsMachineMemory, RepresentsAt, arguments_code, InCode, OtherRegisters, now_of, RegistersHold, leaf_values}
 use Rattle.linear_code.specs.declared.instruction.Instruction.TheVariants as instructions
 use Rattle.linear_machine.specs.Frames as linear
+use Rattle.match_turns.proofs.BuiltInRun.{thunk_turns, few_turns}
 use Rattle.match_turns.proofs.Lemmas.{sizes_append, call_size, call_ends, keep_flow, comes_then, silent_here, first_in_code, reaches_silently, program_reaches, locals_count, same_activations, IsCounted, some_is, room_here, holds_here, locals_here, Keeps, reaches_keeps, stays_well_formed, Ran, represents_next, others_of, caller_here, beyond_here, is_here, is_after, ends_at, ends_gives, IsPast, one_piece, past_ends, frame, slots, has_slots, silent_at, Surroundings, one_more, label_small, leaves_stored}
 use Rattle.match_bodies.proofs.BodyViews.{placed}
 use Rattle.match_turns.proofs.BuiltInRequest.{clear_size}
@@ -58,28 +59,30 @@ module _ (setting : Setting) (roomy : HaveRoom setting.program) where
     abbrev pub sp_after : ℕ
     sp_after = (register there.cpu Rsp + 8) % 2 ^ 64 % 2 ^ 64
 
-    -- the state after the service, by its result and the memory that it leaves
-    abbrev pub view_after : ℕ → Memory → MachineView
-    view_after x m = record with_given {
+    -- the state after the service, by its result, the memory that it leaves, and the list of
+    -- vectored handlers
+    abbrev pub view_after : ℕ → Memory → List ℕ → MachineView
+    view_after x m list = record with_given {
       rax = x;
       rest = with_sp with_given.rest sp_after;
       memory = m;
+      vectored = list;
     }
 
-    abbrev pub returned_to : ℕ → Memory → State
-    returned_to x m = machine (view_after x m) to (flags_there setting roomy s c b counted f first
-        at)
+    abbrev pub returned_to : ℕ → Memory → List ℕ → State
+    returned_to x m list = machine (view_after x m list) to
+        (flags_there setting roomy s c b counted f first at)
 
     -- linear code with the result
-    abbrev pub answered : ℕ → Memory → List Event → Configuration
-    answered x source events = record {
+    abbrev pub answered : ℕ → Memory → List ℕ → List Event → Configuration
+    answered x source handlers events = record {
       frame = record c.frame {
         next = c.frame.next + 1;
         temporaries = take first c.frame.temporaries
             ++ x ∷ [];
       };
       below = c.below;
-      store = record { memory = source; activations = c.store.activations };
+      store = record c.store { memory = source; vectored = handlers };
       events = events;
     }
 
@@ -88,16 +91,17 @@ module _ (setting : Setting) (roomy : HaveRoom setting.program) where
         (let l = low setting roomy s c b counted f first at in omega arith)
         (top setting roomy s c b counted f first at) b.memory.data_alone b.memory.stack
 
-    sp_is : (x : ℕ) (m : Memory) → sp_of (view_after x m) ≡ called_from
-    sp_is x m = sp_saved with_given called_from to
+    sp_is : (x : ℕ) (m : Memory) (list : List ℕ) → sp_of (view_after x m list) ≡ called_from
+    sp_is x m list = sp_saved with_given called_from to
         (let l = low setting roomy s c b counted f first at in omega arith)
         (top setting roomy s c b counted f first at) b.memory.data_alone b.memory.stack
         there.cpu.rip there.cpu.flags
         (back_small setting roomy s c b counted f first at)
 
-    module _ (x : ℕ) (x_small : x < 2 ^ 64) (m source : Memory) (events : List Event)
+    module _ (x : ℕ) (x_small : x < 2 ^ 64) (m source : Memory) (list handlers : List ℕ)
+        (events : List Event)
         (keeps : KeepsStack memory_there m called_from)
-        (memory : IsMachineMemory setting m source) where
+        (memory : IsMachineMemory setting m source) (listed : list ≡ map p.handler handlers) where
       pub keeps_all : KeepsStack s.memory m called_from
       keeps_all = record {
         bytes = λ a l u. keeps.bytes a l u ∙ above.above a l;
@@ -107,33 +111,36 @@ module _ (setting : Setting) (roomy : HaveRoom setting.program) where
       }
 
       abbrev u : State
-      u = returned_to x m
+      u = returned_to x m list
 
       -- RSP and the nonvolatile registers are those of the body before the call
       kept_back : kept_of u.cpu.registers ≡ kept_of s.cpu.registers
-      kept_back = ap (λ r. r ∷ others_of s.cpu.registers) (sp_is x m)
+      kept_back = ap (λ r. r ∷ others_of s.cpu.registers) (sp_is x m list)
 
       -- the body before the call, in this memory
       abbrev moved : State
-      moved = elsewhere setting s c b counted framed m source keeps_all memory
+      moved = elsewhere setting s c b counted framed m source keeps_all memory list handlers listed
 
       abbrev pub calling : Configuration
-      calling = source_elsewhere setting s c b counted framed m source keeps_all memory
+      calling = source_elsewhere setting s c b counted framed m source keeps_all memory list
+          handlers listed
 
       abbrev moved_there : RepresentsAt setting moved calling
-      moved_there = represents_elsewhere setting s c b counted framed m source keeps_all memory
+      moved_there = represents_elsewhere setting s c b counted framed m source keeps_all memory list
+          handlers listed
 
       -- and with the registers after it
       abbrev pub earlier : State
       earlier = record s {
         cpu = record { registers = u.cpu.registers; rip = s.cpu.rip; flags = s.cpu.flags };
         memory = m;
+        vectored = list;
       }
 
       given_small : AreSmall s.cpu.registers → AreSmall u.cpu.registers
       given_small h =
-          let k = (reaches_keeps 7 s there (reaches setting roomy s c b counted f first at)).small h
-          in
+          let k = (reaches_keeps (6 + thunk_turns f) s there
+          (reaches setting roomy s c b counted f first at)).small h in
           small_set (set there.cpu.registers 0 x) 4 sp_after
           (small_set there.cpu.registers 0 x k x_small) (omega arith)
 
@@ -171,7 +178,7 @@ module _ (setting : Setting) (roomy : HaveRoom setting.program) where
       unfolding begins
       acts_are = acts_at t fs program p q moved calling earlier.cpu moved_there.body kept_back hold
           in_code b.well_formed.rip_small
-          ∙ same_acts setting s c b counted framed m source keeps_all memory
+          ∙ same_acts setting s c b counted framed m source keeps_all memory list handlers listed
 
       around_earlier : Surroundings setting roomy earlier calling begins counted
       around_earlier = record {
@@ -214,12 +221,12 @@ module _ (setting : Setting) (roomy : HaveRoom setting.program) where
       d = record { slots = with_slot now.slots (Temporary first) x; memory = source }
 
       -- the result is kept
-      pub run : ReachesBody (frame setting roomy earlier calling begins counted) 1 (returned_to x m)
-          rip (view_after x m).rest (view_after x m).locals d
+      pub run : ReachesBody (frame setting roomy earlier calling begins counted) 1
+          (returned_to x m list) rip (view_after x m list).rest (view_after x m list).locals d
       run =
           let r = room_slots in
           call_ends (frame setting roomy earlier calling begins counted) (Temporary first)
-          (view_after x m) to (flags_there setting roomy s c b counted f first at) now
+          (view_after x m list) to (flags_there setting roomy s c b counted f first at) now
           (room_here setting earlier calling begins counted) (omega arith) tt x_small refl
           (holds_here setting earlier calling begins counted)
           (code_after setting roomy earlier calling begins counted f first at_earlier)
@@ -235,9 +242,7 @@ module _ (setting : Setting) (roomy : HaveRoom setting.program) where
             fixed = k.fixed;
             count = k.count;
             small = k.small;
-            handlers = k.handlers
-                ∙ (reaches_keeps 7 s there
-                (reaches setting roomy s c b counted f first at)).handlers;
+            handlers = k.handlers;
           }
 
       abbrev values : List ℕ
@@ -274,12 +279,12 @@ module _ (setting : Setting) (roomy : HaveRoom setting.program) where
           ∙ same_activations begins.body.acts c.frame.activation own.values (omega arith) own.number
           ∙ sym begins.body.store
 
-      pub represents_after : RepresentsAt setting after (answered x source events)
+      pub represents_after : RepresentsAt setting after (answered x source handlers events)
       represents_after =
           subst (λ (xs : List (List ℕ)). let o : Configuration = record {
             frame = record c.frame { next = c.frame.next + 1; temporaries = ts };
             below = c.below;
-            store = record { memory = source; activations = xs };
+            store = record c.store { memory = source; vectored = handlers; activations = xs };
             events = events;
           } in RepresentsAt setting after o) same_locals
           (represents_next setting earlier calling begins counted after d values ts ran
@@ -338,7 +343,7 @@ module _ (setting : Setting) (roomy : HaveRoom setting.program) where
 
       -- and so does the service's own turn
       program_there : HasProgram setting memory_there
-      program_there = program_reaches t fs program p q 7 s there
+      program_there = program_reaches t fs program p q (6 + thunk_turns f) s there
           (reaches setting roomy s c b counted f first at) b.memory.code
 
       keeps_there : KeepsStack s.memory memory_there called_from
@@ -379,7 +384,7 @@ module _ (setting : Setting) (roomy : HaveRoom setting.program) where
           let l = low setting roomy s c b counted f first at in
           let h = top setting roomy s c b counted f first at in
           let z = sp_there in
-          let e : register u.cpu Rsp ≡ called_from = sp_is x m in
+          let e : register u.cpu Rsp ≡ called_from = sp_is x m list in
           let up : called_from ≡ register there.cpu Rsp + 0 + 8 = omega arith in
           let same = ap (λ (ks : List ℕ). let k : Context = record { rip = to; kept = ks } in k)
           (ap (λ r. r ∷ others_of s.cpu.registers) (e ∙ up)) in
@@ -396,7 +401,8 @@ module _ (setting : Setting) (roomy : HaveRoom setting.program) where
       -- a service that shows these events
       pub served : (shown : List Event) → turn t fs there ≡ Continues u shown
           → events ≡ c.events ++ shown → ((next : Next)
-          → act program (instructions.CallBuiltIn f first) next c ≡ next (answered x source events))
+          → act program (instructions.CallBuiltIn f first) next c
+          ≡ next (answered x source handlers events))
           → Moves t fs program 16 turns_left (RepresentsAt setting) s c (instructions.CallBuiltIn f
           first)
       served shown turns all acts =
@@ -412,14 +418,15 @@ module _ (setting : Setting) (roomy : HaveRoom setting.program) where
             rest = (refl, refl);
           } in
           let more = one_more c.frame.temporaries (Temporary first) x fits in
+          let few = few_turns f in
           record {
-            turns = 7 + (1 + 1);
+            turns = 6 + thunk_turns f + (1 + 1);
             some = omega arith;
-            configuration = answered x source events;
+            configuration = answered x source handlers events;
             few = omega arith;
             state = after;
             events = [] ++ (shown ++ []);
-            comes = comes_then t fs 7 (1 + 1) s there after [] (shown ++ [])
+            comes = comes_then t fs (6 + thunk_turns f) (1 + 1) s there after [] (shown ++ [])
                 (comes_there setting roomy s c b counted f first at)
                 (comes_then t fs 1 1 there u after shown [] one comes_after);
             acts = acts;

@@ -2,7 +2,7 @@
 -- the body again.
 use Rattle.std.proofs.Common.{◌≡◌, ℕ, ◌+◌, ◌^◌, ◌<◌, ◌≤◌, List, [], ◌∷◌, Ok, Err, refl, ap, subst, ◌∙◌, arith}
 use Rattle.std.specs.Prelude.{Result, if◌then◌else◌}
-use Rattle.match_turns.specs.Words.{W64, RefusedAccess, address_of, service_at, in_host_page, Memory, executable, loaded, Rsp, leading, Context, context_of, State, register, hosted, execute, step, rsp, distance, readable, filter_return, finally_return, vectored_return, arrivals, BuiltIn, Put, Protect, RaiseException, Walk, Configuration, state, activations_below, KeepsStack, drop_below, served, GivesCallers, WalkGives, KeepsShadow, caller_above, owed_of, service_of, Setting, HasProgram, RepresentsAt}
+use Rattle.match_turns.specs.Words.{W64, RefusedAccess, address_of, service_at, in_host_page, Memory, executable, loaded, Rsp, leading, Context, context_of, State, register, hosted, execute, step, rsp, distance, readable, filter_return, finally_return, vectored_return, arrivals, BuiltIn, Put, Protect, RaiseException, Walk, AddVectored, RemoveVectored, Configuration, state, activations_below, KeepsStack, drop_below, served, GivesCallers, WalkGives, KeepsShadow, caller_above, owed_of, service_of, Setting, HasProgram, RepresentsAt}
 use Rattle.virtual_unwind.specs.Undone.{word}
 use Rattle.x64_machine.specs.declared.outcome.Stop.TheVariants as stops
 use Rattle.match_turns.proofs.Lemmas.{finds_return, owed_with, frame_owed, frame_stays, kept_here, reads_other, kept_by_other_memories, none_below, one_below, none_started, host_keeps, on_stack, gives_caller, IsCounted, sp_low, frame_top, caller_here, Below}
@@ -20,6 +20,10 @@ host_step RaiseException s e = ap (λ b. if in_host_page b then Err (hosted b (s
     else execute s (leading (executable s.memory 15 s.cpu.rip))) e
 host_step Walk s e = ap (λ b. if in_host_page b then Err (hosted b (service_at b)) else execute s
     (leading (executable s.memory 15 s.cpu.rip))) e
+host_step (AddVectored f) s e = ap (λ b. if in_host_page b then Err (hosted b (service_at b)) else execute s
+    (leading (executable s.memory 15 s.cpu.rip))) e
+host_step (RemoveVectored f) s e = ap (λ b. if in_host_page b then Err (hosted b (service_at b)) else execute s
+    (leading (executable s.memory 15 s.cpu.rip))) e
 
 -- the service's own call is dropped
 call_over : (f : BuiltIn) (sp : ℕ) (c d : Context) (cs : List Context) → rsp c < sp + 8
@@ -30,6 +34,10 @@ call_over Protect sp c d cs below above = one_below sp c (d ∷ cs) below
     ∙ none_below sp (d ∷ cs) above
 call_over RaiseException sp c d cs below above = none_below sp (d ∷ cs) above
 call_over Walk sp c d cs below above = one_below sp c (d ∷ cs) below
+    ∙ none_below sp (d ∷ cs) above
+call_over (AddVectored f) sp c d cs below above = one_below sp c (d ∷ cs) below
+    ∙ none_below sp (d ∷ cs) above
+call_over (RemoveVectored f) sp c d cs below above = one_below sp c (d ∷ cs) below
     ∙ none_below sp (d ∷ cs) above
 
 service_found : (f : BuiltIn) → (0 < address_of (service_of f))
@@ -58,6 +66,20 @@ service_found RaiseException = (
   λ e. absurd (omega arith),
 )
 service_found Walk = (
+  omega arith,
+  omega arith,
+  λ e. absurd (omega arith),
+  λ e. absurd (omega arith),
+  λ e. absurd (omega arith),
+)
+service_found (AddVectored f) = (
+  omega arith,
+  omega arith,
+  λ e. absurd (omega arith),
+  λ e. absurd (omega arith),
+  λ e. absurd (omega arith),
+)
+service_found (RemoveVectored f) = (
   omega arith,
   omega arith,
   λ e. absurd (omega arith),

@@ -1,14 +1,15 @@
 -- Each of these steps is matched.
 use Rattle.std.proofs.Common.{◌≡◌, ℕ, ◌+◌, ◌<◌, Bool, true, false, List, ◌∷◌, Option, Some, None, length, refl, sym, ap, subst, ◌∙◌}
 use Rattle.std.specs.Prelude.{slice_get}
-use Rattle.match_turns.specs.Words.{Rsp, address_of, back, register, context_of, waiting, Waits, StackItem, On, return_at, MachineView, machine, pushed, service_of, State, BuiltIn, Put, Protect, Walk, Local, Instruction, LinearProgram, Configuration, instruction_at, LandsWell, IsWellMade, IsKnown, Setting, setting_of, RepresentsAt}
+use Rattle.match_turns.specs.Words.{Rsp, address_of, back, register, context_of, waiting, Waits, StackItem, On, return_at, MachineView, machine, pushed, service_of, State, BuiltIn, Put, Protect, Walk, AddVectored, RemoveVectored, Local, Instruction, LinearProgram, Configuration, instruction_at, LandsWell, IsWellMade, IsKnown, Setting, setting_of, RepresentsAt}
 use Rattle.linear_code.specs.declared.instruction.Instruction.TheVariants as instructions
-use Rattle.match_turns.proofs.Lemmas.{some_is, counted_here, around_here, code_at, held_here, goes_inside, ready_here}
-use Rattle.match_turns.specs.ServiceLaws.{InformationIsMatched, PutsAreMatched, ProtectsAreMatched, WalksAreMatched}
+use Rattle.match_turns.proofs.Lemmas.{some_is, counted_here, askable_here, around_here, code_at, held_here, goes_inside, ready_here}
+use Rattle.match_turns.specs.ServiceLaws.{InformationIsMatched, PutsAreMatched, ProtectsAreMatched, WalksAreMatched, AddsAreMatched, RemovesAreMatched}
 use Rattle.match_turns.proofs.ServiceTurns.{put_step, protect_step}
 use Rattle.match_turns.proofs.BuiltInRequest as asking
 use Rattle.match_turns.proofs.BuiltInShadow.{calls_it}
 use Rattle.match_turns.proofs.WalkTurn.{walk_step}
+use Rattle.match_turns.proofs.VectoredTurns.{adding_step, removing_step}
 use Rattle.match_turns.proofs.FilterInformationStep.{information_step}
 
 -- only a landing follows what has landed
@@ -136,3 +137,33 @@ walks_are_matched t fs program p q image made s c first b known e =
     (image.names (calls_it setting made.room s c b Walk first here))
     (stack setting made s c b known first e) b.body.acts
     (on_top setting made s c b known first e)
+
+pub adds_are_matched : AddsAreMatched
+adds_are_matched t fs program p q image made s c f first b known e =
+    let setting : Setting = setting_of t fs program p q image in
+    let i = instructions.CallBuiltIn (AddVectored f) first in
+    adding_step setting made.room s c b
+    (counted_here setting made c known)
+    (around_here setting made s c b known) f first
+    (call_here setting made s c b known (AddVectored f) first e)
+    (framed setting made s c b known (AddVectored f) first e)
+    (within setting made s c b known (AddVectored f) first e)
+    (held_here setting made s c b known)
+    (ready_here setting made s c b known i e)
+    (nothing_landed program c i c.frame.landed known.stacked.landed e refl)
+    (askable_here program c.store.vectored made.whole known.stacked.handlers)
+
+pub removes_are_matched : RemovesAreMatched
+removes_are_matched t fs program p q image made s c f first b known e =
+    let setting : Setting = setting_of t fs program p q image in
+    let i = instructions.CallBuiltIn (RemoveVectored f) first in
+    removing_step setting made.room s c b
+    (counted_here setting made c known)
+    (around_here setting made s c b known) f first
+    (call_here setting made s c b known (RemoveVectored f) first e)
+    (framed setting made s c b known (RemoveVectored f) first e)
+    (within setting made s c b known (RemoveVectored f) first e)
+    (held_here setting made s c b known)
+    (ready_here setting made s c b known i e)
+    (nothing_landed program c i c.frame.landed known.stacked.landed e refl)
+    (askable_here program c.store.vectored made.whole known.stacked.handlers)

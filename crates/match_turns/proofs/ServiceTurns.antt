@@ -60,7 +60,7 @@ calls_as program c f first held next =
     (eq-eqb (length c.frame.temporaries) (first + count_of f) held) in
     ap (λ o. with_some c.events o (λ vs. built_in program next f vs (waiting c first))) e
 
-numbered : (b : Bool) → answer_number b % 2 ^ 64 ≡ of_test b
+pub numbered : (b : Bool) → answer_number b % 2 ^ 64 ≡ of_test b
 numbered true = refl
 numbered false = refl
 
@@ -76,7 +76,7 @@ module _ (setting : Setting) (roomy : HaveRoom setting.program) where
       (held : length c.frame.temporaries ≤ b.body.slots.code.temporaries)
       (fits : first ≤ length c.frame.temporaries) (free : c.frame.landed ≡ None) where
     -- the number of an argument, for templates and for linear code
-    argument : (k : ℕ) → first + k < length c.frame.temporaries
+    pub argument : (k : ℕ) → first + k < length c.frame.temporaries
         → (numbers setting roomy s c b counted f first at).slots (Temporary (first + k)) ≡ get_or
         (drop first c.frame.temporaries) k 0
     argument k lt = (slots_here setting s c b counted).temporaries (first + k)
@@ -138,24 +138,27 @@ module _ (setting : Setting) (roomy : HaveRoom setting.program) where
 
     abbrev after_put : Configuration
     after_put = answered setting roomy s c b counted around Put first at framed within held fits
-        free 0 c.store.memory (c.events ++ shown)
+        free 0 c.store.memory c.store.vectored (c.events ++ shown)
 
     puts : (next : Next) → act program (instructions.CallBuiltIn Put first) next c ≡ next after_put
     puts next =
         calls_as program c Put first count next
         ∙ ap (λ x. next (answered setting roomy s c b counted around Put first at framed within held
-        fits free 0 c.store.memory (c.events ++ events.Put (signed W64 x) ∷ []))) (sym value_is)
+        fits free 0 c.store.memory c.store.vectored
+        (c.events ++ events.Put (signed W64 x) ∷ []))) (sym value_is)
 
     turns : turn t fs here ≡ Continues (returned_to setting roomy s c b counted around Put first at
-        framed within held fits free 0 here.memory) shown
+        framed within held fits free 0 here.memory here.vectored) shown
     turns =
         let u = returned_to setting roomy s c b counted around Put first at framed
-        within held fits free 0 here.memory in
+        within held fits free 0 here.memory here.vectored in
         let silent = silent_back setting roomy s c b counted around Put first at framed
-        within held fits free 0 (omega arith) here.memory c.store.memory (c.events ++ shown)
+        within held fits free 0 (omega arith) here.memory c.store.memory here.vectored
+        c.store.vectored (c.events ++ shown)
         (same_stack s c b counted around Put first at framed within held fits free here.memory
         (sp setting roomy s c b counted Put first at))
-        (pushed_memory s c b counted around Put first at framed within held fits free) in
+        (pushed_memory s c b counted around Put first at framed within held fits free)
+        b.well_formed.listed in
         put_turns t fs here (to setting roomy s c b counted around Put first at framed within held
         fits free) refl (returns setting roomy s c b counted Put first at)
         ∙ ap (λ es. Continues u (shown ++ es)) silent
@@ -164,11 +167,11 @@ module _ (setting : Setting) (roomy : HaveRoom setting.program) where
         (instructions.CallBuiltIn Put first)
     put_step =
         served setting roomy s c b counted around Put first at framed within held fits free 0
-        (omega arith) here.memory c.store.memory (c.events ++ shown)
+        (omega arith) here.memory c.store.memory here.vectored c.store.vectored (c.events ++ shown)
         (same_stack s c b counted around Put first at framed within held fits free here.memory
         (sp setting roomy s c b counted Put first at))
         (pushed_memory s c b counted around Put first at framed within held fits free)
-        shown turns refl puts
+        b.well_formed.listed shown turns refl puts
 
   -- `protect`
   module _ (s : State) (c : Configuration) (b : RepresentsAt setting s c)
@@ -214,19 +217,19 @@ module _ (setting : Setting) (roomy : HaveRoom setting.program) where
 
     abbrev after_protect : Configuration
     after_protect = answered setting roomy s c b counted around Protect first at framed within held
-        enough free result new_source c.events
+        enough free result new_source c.store.vectored c.events
 
     protects : (next : Next) → act program (instructions.CallBuiltIn Protect first) next c
         ≡ next after_protect
     protects next =
         let arrive = λ (a n : ℕ). next (answered setting roomy s c b counted around Protect first at
         framed within held enough free (of_test (is_some (rights_asked a (signed W32 n))))
-        (protected c.store.memory a (signed W32 n)) c.events) in
+        (protected c.store.memory a (signed W32 n)) c.store.vectored c.events) in
         calls_as program c Protect first count next
         ∙ ap (λ a. arrive a (get_or (drop first c.frame.temporaries) 1 0)) (sym page_is)
         ∙ ap (arrive page) (sym number_is)
         ∙ ap (λ x. next (answered setting roomy s c b counted around Protect first at framed within
-        held enough free x new_source c.events))
+        held enough free x new_source c.store.vectored c.events))
         (sym (numbered (is_some (rights_asked page rights))))
 
     kept_stack : KeepsStack at_protect.memory new_memory
@@ -241,13 +244,13 @@ module _ (setting : Setting) (roomy : HaveRoom setting.program) where
 
     protect_turn : turn t fs at_protect ≡ Continues
         (returned_to setting roomy s c b counted around Protect first at framed within held enough
-        free result new_memory) []
+        free result new_memory at_protect.vectored) []
     protect_turn =
         let u = returned_to setting roomy s c b counted around Protect first at
-        framed within held enough free result new_memory in
+        framed within held enough free result new_memory at_protect.vectored in
         let silent = silent_back setting roomy s c b counted around Protect first at
-        framed within held enough free result (omega arith) new_memory new_source c.events
-        kept_stack kept_memory in
+        framed within held enough free result (omega arith) new_memory new_source
+        at_protect.vectored c.store.vectored c.events kept_stack kept_memory b.well_formed.listed in
         protect_turns t fs at_protect (to setting roomy s c b counted around Protect first at framed
         within held enough free) refl (returns setting roomy s c b counted Protect first at)
         ∙ ap (λ es. Continues u es) silent
@@ -256,5 +259,6 @@ module _ (setting : Setting) (roomy : HaveRoom setting.program) where
         (instructions.CallBuiltIn Protect first)
     protect_step =
         served setting roomy s c b counted around Protect first at framed within held enough free
-        result (omega arith) new_memory new_source c.events kept_stack kept_memory [] protect_turn
+        result (omega arith) new_memory new_source at_protect.vectored c.store.vectored c.events
+        kept_stack kept_memory b.well_formed.listed [] protect_turn
         (sym (append-nil c.events)) protects

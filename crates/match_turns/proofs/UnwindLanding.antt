@@ -1,7 +1,7 @@
 -- An unwinding lands in a body, which continues at the label.
 use Rattle.std.proofs.Common.{◌≡◌, true, ℕ, ◌≤◌, List, [], ◌∷◌, ◌++◌, Option, Some, None, refl, sym, ap, subst, ◌∙◌, arith, inl}
 use Rattle.std.proofs.lemmas.List.{append-nil}
-use Rattle.match_turns.specs.Words.{Event, Memory, Context, State, DispatchRecord, Turn, at_landing, Frame, Target, Item, Waits, Configuration, Next, arrive, StackItem, Framed, StackFrame, InCode, Activation, On, store_of, on_top, IsWellFormed, IsUnwinding, Unwound, LandsThere, landing_value, landing_events, LeadsTo, live_from, turns_left, entry_turns, Setting, IsMachineMemory, RepresentsAt, Represents, ContinuesAs, now_of, RegistersHold, leaf_values}
+use Rattle.match_turns.specs.Words.{Event, Context, State, DispatchRecord, Turn, at_landing, Frame, Target, Item, Waits, Configuration, Next, arrive, StackItem, Framed, StackFrame, InCode, Activation, On, store_of, on_top, IsWellFormed, IsUnwinding, Unwound, LandsThere, landing_value, landing_events, LeadsTo, live_from, turns_left, entry_turns, Setting, IsMachineMemory, RepresentsAt, Represents, ContinuesAs, now_of, RegistersHold, leaf_values, Store, host_list}
 use Rattle.linear_machine.specs.Unwinding as linear
 use Rattle.match_turns.proofs.Lemmas.{nine_numbers, waits_in_body, no_front, all_front, first_in_code}
 use Rattle.match_turns.proofs.DispatchWalks.{landing_walk}
@@ -15,13 +15,13 @@ abbrev pub landed : Frame → ℕ → Option ℕ → Frame
 landed body label None = record body { next = label }
 landed body label (Some code) = record body { next = label; temporaries = []; landed = Some code }
 
-abbrev pub arrival : Frame → List Item → ℕ → Option ℕ → Memory → List Activation → List Event
+abbrev pub arrival : Frame → List Item → ℕ → Option ℕ → Store → List Activation → List Event
     → Configuration
 arrival body below label code source outer shown = on_top (landed body label code) below source
     outer (shown ++ landing_events code)
 
 pub arrives_there : (body : Frame) (below : List Item) (target : Target) (code : Option ℕ)
-    (source : Memory) (outer : List Activation) (shown : List Event) (next : Next)
+    (source : Store) (outer : List Activation) (shown : List Event) (next : Next)
     → arrive target code next (on_top body below source outer shown)
     ≡ next (arrival body below target.label code source outer shown)
 arrives_there body below target None source outer shown next = ap
@@ -35,11 +35,11 @@ module _ (setting : Setting) where
   -- the state of the machine represents it
   lands_in_body : (s : State) (to : Context) (framed : StackFrame) (is : List StackItem)
       (body : Frame) (below : List Item) (outer : List Activation) (rax address label : ℕ)
-      (code : Option ℕ) (source : Memory) (shown : List Event)
+      (code : Option ℕ) (source : Store) (shown : List Event)
       → On t fs program p s.memory to (Framed framed ∷ is) (Waits body ∷ below) outer
       → address ≡ p.address body.body label → p.lands body.body label ≡ true
-      → IsWellFormed (at_landing s to rax address)
-      → IsMachineMemory setting s.memory source → rax ≡ landing_value code
+      → IsWellFormed (host_list p source) (at_landing s to rax address)
+      → IsMachineMemory setting s.memory source.memory → rax ≡ landing_value code
       → (code ≡ None → body.landed ≡ None)
       → RepresentsAt setting (at_landing s to rax address)
       (arrival body below label code source outer shown)
@@ -85,7 +85,7 @@ module _ (setting : Setting) where
   pub lands_as : (s : State) (at : ℕ) (r : DispatchRecord) (is : List StackItem) (turn : Turn)
       (w : Unwound) (left : ℕ) → IsUnwinding t fs program p s at r is w
       → (l : LandsThere t fs program p s r turn w)
-      → IsMachineMemory setting s.memory w.source
+      → IsMachineMemory setting s.memory w.source.memory
       → turns_left (arrival l.body l.below w.target.label w.target.code w.source l.outer w.shown)
       ≤ left → (w.target.code ≡ None → l.body.landed ≡ None)
       → ContinuesAs setting turn (λ next. linear.unwind program next w.target w.items w.left w.shown

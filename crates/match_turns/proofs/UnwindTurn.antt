@@ -30,7 +30,7 @@ module _ (setting : Setting) (fits : FlagsFit setting.program) where
         (flag : ℕ) → IsUnwinding t fs program p s at r is w
         → (b : BlockBegins t fs program p s r turn w)
         → flag_of (slice_get program.funclets b.block) ≡ Some flag
-        → IsMachineMemory setting s.memory w.source
+        → IsMachineMemory setting s.memory w.source.memory
         → EntersFunclet setting turn seen w.shown n (live_from r.walk is)
     unfolding with_some pick
     block_enters s at r is turn flag u b flagged memory =
@@ -38,7 +38,7 @@ module _ (setting : Setting) (fits : FlagsFit setting.program) where
         let c = on_top b.body b.below w.source b.outer w.shown in
         let under = Unwinds b.rest target ∷ Waits b.body ∷ b.below in
         let d = begin_finally b.block flag true b.held under c in
-        let memory' = memory_untouched t fs program p q s.memory b.state.memory w.source b.untouched
+        let memory' = memory_untouched t fs program p q s.memory b.state.memory w.source.memory b.untouched
         memory (b.arrives.on []).data_alone in
         let goes = λ (next : Next). b.goes next
         ∙ ap (λ (o : Option ℕ). with_some w.shown o
@@ -70,7 +70,7 @@ module _ (setting : Setting) (fits : FlagsFit setting.program) where
         not_deep false e x h = h
 
     unwinds_as : (s : State) (at : ℕ) (r : DispatchRecord) (is : List StackItem) (turn : Turn)
-        → IsUnwinding t fs program p s at r is w → IsMachineMemory setting s.memory w.source
+        → IsUnwinding t fs program p s at r is w → IsMachineMemory setting s.memory w.source.memory
         → HasRule (seen (exec program zero))
         → BlockBegins t fs program p s r turn w
         → Outcome setting turn seen w.shown n (live_from r.walk is)
@@ -92,7 +92,7 @@ module _ (setting : Setting) (fits : FlagsFit setting.program) where
         by (Some flag) e = inr (inl (block_enters s at r is turn flag u b e memory))
 
     lands_with : (s : State) (at : ℕ) (r : DispatchRecord) (is : List StackItem) (turn : Turn)
-        → IsUnwinding t fs program p s at r is w → IsMachineMemory setting s.memory w.source
+        → IsUnwinding t fs program p s at r is w → IsMachineMemory setting s.memory w.source.memory
         → LandsThere t fs program p s r turn w
         → Outcome setting turn seen w.shown n (live_from r.walk is)
     lands_with s at r is turn u memory l =
@@ -114,7 +114,7 @@ module _ (setting : Setting) (fits : FlagsFit setting.program) where
         kept_unlanded body below label (Some x) e h = absurd cc
 
     pub unwound : (s : State) (at : ℕ) (r : DispatchRecord) (is : List StackItem)
-        → IsUnwinding t fs program p s at r is w → IsMachineMemory setting s.memory w.source
+        → IsUnwinding t fs program p s at r is w → IsMachineMemory setting s.memory w.source.memory
         → HasRule (seen (exec program zero))
         → Outcome setting (arrived t fs (unwinds_on t s at r)) seen w.shown n (live_from r.walk is)
     unwound s at r is u memory rule = elim (unwind_turns t fs program p s at r is w u) [

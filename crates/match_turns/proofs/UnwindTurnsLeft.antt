@@ -90,7 +90,7 @@ module _ (program : LinearProgram) (n : ℕ) where
       store) (regions_left left (regions_at program f.body f.next))
       (record { frame = f; below = below; store = store; events = es }) (omega arith)
       (λ store. unwind_short (target_past f.body target) below None es store (omega arith))
-  unwind_short target (Searches exception resumption asked rest ∷ below) left es store le =
-      unwind_short target below None es store le
+  unwind_short target (Searches exception resumption asked ∷ below) left es store le =
+      unwind_short target below None es store (omega arith)
   unwind_short target (Unwinds rest older ∷ below) left es store le = unwind_short target below
       (Some rest) es store le

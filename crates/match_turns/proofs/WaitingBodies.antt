@@ -6,7 +6,7 @@ pub none_landed_below : (program : LinearProgram) (items : List Item) → AreWai
     → NoneLanded items
 none_landed_below program [] h = tt
 none_landed_below program (Waits f ∷ below) h = (h.0.landed, none_landed_below program below h.2)
-none_landed_below program (Searches exception resumption asked rest ∷ below) h = none_landed_below
+none_landed_below program (Searches exception resumption asked ∷ below) h = none_landed_below
     program below
     h.2
 none_landed_below program (Unwinds rest target ∷ below) h = none_landed_below program below h.2

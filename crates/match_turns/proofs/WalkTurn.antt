@@ -50,7 +50,7 @@ module _ (setting : Setting) (roomy : HaveRoom setting.program) where
     -- where the service returns to
     abbrev pub after : State
     after = returned_to setting roomy s c b counted around Walk first at framed within held fits
-        free 0 here.memory
+        free 0 here.memory here.vectored
 
     abbrev items : List Item
     items = Waits (waiting c first).frame ∷ c.below
@@ -60,7 +60,7 @@ module _ (setting : Setting) (roomy : HaveRoom setting.program) where
 
     abbrev after_walk : Configuration
     after_walk = answered setting roomy s c b counted around Walk first at framed within held fits
-        free 0 c.store.memory (c.events ++ shown)
+        free 0 c.store.memory c.store.vectored (c.events ++ shown)
 
     walks : (next : Next) → act program (instructions.CallBuiltIn Walk first) next c
         ≡ next after_walk
@@ -88,11 +88,12 @@ module _ (setting : Setting) (roomy : HaveRoom setting.program) where
       turns : turn t fs here ≡ Continues after shown
       turns =
           let silent = silent_back setting roomy s c b counted around Walk first at framed within
-          held fits free 0 (omega arith) here.memory c.store.memory (c.events ++ shown)
+          held fits free 0 (omega arith) here.memory c.store.memory here.vectored c.store.vectored
+          (c.events ++ shown)
           (same_stack setting roomy s c b counted around Walk first at framed within held fits free
           here.memory (sp setting roomy s c b counted Walk first at))
           (pushed_memory setting roomy s c b counted around Walk first at framed within held fits
-          free) in
+          free) b.well_formed.listed in
           walk_turns t fs here (to setting roomy s c b counted around Walk first at framed within
           held fits free) refl (returns setting roomy s c b counted Walk first at)
           ∙ ap (λ x. arrived t fs (walked after x)) printed_there
@@ -103,9 +104,10 @@ module _ (setting : Setting) (roomy : HaveRoom setting.program) where
           (instructions.CallBuiltIn Walk first)
       walk_step =
           served setting roomy s c b counted around Walk first at framed within held fits free 0
-          (omega arith) here.memory c.store.memory (c.events ++ shown)
+          (omega arith) here.memory c.store.memory here.vectored c.store.vectored
+          (c.events ++ shown)
           (same_stack setting roomy s c b counted around Walk first at framed within held fits free
           here.memory (sp setting roomy s c b counted Walk first at))
           (pushed_memory setting roomy s c b counted around Walk first at framed within held fits
-          free)
+          free) b.well_formed.listed
           shown turns refl walks

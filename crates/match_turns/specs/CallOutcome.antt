@@ -1,14 +1,13 @@
 -- Where a function begins.
 use Rattle.std.specs.Prelude.{◌≡◌, ◌≢◌, ℕ, ◌+◌, ◌-◌, ◌*◌, ◌<◌, ◌≤◌, List, [], ◌∷◌, ◌++◌, length, slice_get, Some, None}
 use Rattle.seh_num.specs.declared.event.Event.{Event}
-use Rattle.flat_memory.specs.Memory.{Memory}
 use Rattle.x64_machine.specs.Effect.{State}
 use Rattle.virtual_unwind.specs.CallerOf.{Functions}
 use Rattle.host_model.specs.declared.funclet.Funclet.{Funclet}
 use Rattle.source_meaning.specs.Expressions.{no_exception}
 use Rattle.linear_code.specs.declared.instruction.Instruction.TheVariants as instructions
 use Rattle.linear_code.specs.Program.{LinearProgram, LinearFunction}
-use Rattle.linear_machine.specs.Frames.{FunctionBody, Item, Waits, Configuration, Next}
+use Rattle.linear_machine.specs.Frames.{FunctionBody, Item, Waits, Store, Configuration, Next}
 use Rattle.linear_machine.specs.Instructions.{waiting, begin_function, act}
 use Rattle.match_stack.specs.ImagePlan.{ImagePlan}
 use Rattle.match_runs.specs.Comes.{Comes}
@@ -22,7 +21,7 @@ abbrev pub turns_per_call : (surplus : ℕ) → ℕ
 turns_per_call surplus = 26 + 8 * surplus
 
 -- linear code where a function begins, with these numbers in its locals
-abbrev pub begun : (f : ℕ) (values : List ℕ) (held : ℕ) (below : List Item) (source : Memory)
+abbrev pub begun : (f : ℕ) (values : List ℕ) (held : ℕ) (below : List Item) (source : Store)
     → List (List ℕ) → List Event → Configuration
 begun f values held below source activations es = record {
   frame =
@@ -36,7 +35,7 @@ begun f values held below source activations es = record {
         landed = None;
       };
   below = below;
-  store = record { memory = source; activations = activations ++ values ∷ [] };
+  store = record source { activations = activations ++ values ∷ [] };
   events = es;
 }
 
@@ -62,7 +61,7 @@ module _ (t : Functions) (fs : List Funclet) (program : LinearProgram) (p : Imag
     pub some : 1 ≤ turns
     pub few : turns + turns_left (begun f (arguments ++ others)
         (c.frame.held + (function.surplus + function.data_surplus))
-        (Waits (waiting c first).frame ∷ c.below) c.store.memory c.store.activations c.events)
+        (Waits (waiting c first).frame ∷ c.below) c.store c.store.activations c.events)
         ≤ turns_per_call function.surplus + turns_left c
     pub state : State
     pub comes : Comes t fs turns s [] state
@@ -71,4 +70,4 @@ module _ (t : Functions) (fs : List Funclet) (program : LinearProgram) (p : Imag
         (Waits (waiting c first).frame ∷ c.below) c.store c.events)
     pub begins : RepresentsAt t fs program p q state
         (begun f (arguments ++ others) (c.frame.held + (function.surplus + function.data_surplus))
-        (Waits (waiting c first).frame ∷ c.below) c.store.memory c.store.activations c.events)
+        (Waits (waiting c first).frame ∷ c.below) c.store c.store.activations c.events)

@@ -17,7 +17,7 @@ use Rattle.linear_code.specs.Program.{LinearProgram}
 use Rattle.linear_machine.specs.Frames.{Item, Waits, Searches, Unwinds, Store, Configuration, Seen, Finished, Next, deeper}
 use Rattle.match_stack.specs.Stack.{StackItem}
 use Rattle.match_stack.specs.ImagePlan.{ImagePlan}
-use Rattle.match_stack.specs.DispatchStates.{IsWellFormed}
+use Rattle.match_stack.specs.DispatchStates.{IsWellFormed, host_list}
 use Rattle.match_stack.specs.ItemMatches.{leaf_values}
 use Rattle.match_runs.specs.Shadow.{drop_below, started, WalkGives, KeepsShadow}
 use Rattle.match_runs.specs.Comes.{LeadsTo}
@@ -46,7 +46,7 @@ live_from c is = record { low = rsp c; callers = callers c is }
 abbrev pub NoneLanded : List Item → Type 0
 NoneLanded [] = Unit {0}
 NoneLanded (Waits f ∷ below) = (f.landed ≡ None) × NoneLanded below
-NoneLanded (Searches exception resumption asked rest ∷ below) = NoneLanded below
+NoneLanded (Searches exception resumption asked ∷ below) = NoneLanded below
 NoneLanded (Unwinds rest target ∷ below) = NoneLanded below
 
 module _ (t : Functions) (fs : List Funclet) (program : LinearProgram) (p : ImagePlan)
@@ -54,7 +54,7 @@ module _ (t : Functions) (fs : List Funclet) (program : LinearProgram) (p : Imag
   -- within an operation that is made again: linear code is at its instruction, the machine
   -- at the instruction that had faulted, with the operands in its registers
   pub record WorksOn (s : State) (c : Configuration) : Type 0 where
-    pub well_formed : IsWellFormed s
+    pub well_formed : IsWellFormed (host_list p c.store) s
     pub memory : IsMachineMemory t fs program p q s.memory c.store.memory
     pub body : InBody t fs program p q s c
     pub again : WorksAgain t fs program p q c.frame

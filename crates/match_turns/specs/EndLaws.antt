@@ -11,14 +11,12 @@ use Rattle.linear_machine.specs.Instructions.{act}
 use Rattle.linear_machine.specs.Run.{instruction_at, exec}
 use Rattle.match_stack.specs.ImagePlan.{ImagePlan}
 use Rattle.match_runs.specs.Ends.{HasRule}
-use Rattle.match_runs.specs.Matched.{IsMatched}
 use Rattle.match_bodies.specs.CodeSites.{Sites}
 use Rattle.match_bodies.specs.ProgramImages.{IsProgramImage}
-use Rattle.match_bodies.specs.Bodies.{turns_left, RepresentsAt}
+use Rattle.match_bodies.specs.Bodies.{RepresentsAt}
 use Rattle.match_bodies.specs.ConfigurationFacts.{IsWellMade, IsKnown, KnownNext}
-use Rattle.match_bodies.specs.StepLaws.{turns_per_step}
 use Rattle.match_turns.specs.FuncletEntry.{FlagsFit}
-use Rattle.match_turns.specs.DispatchOutcome.{Represents}
+use Rattle.match_turns.specs.AskOutcome.{IsMatchedOrAsks}
 use Rattle.match_turns.specs.ExceptionContinuation.{Continuations}
 
 -- a filter or a `__finally` block returns: the step is matched, whatever waits below
@@ -32,5 +30,4 @@ FuncletReturnsAreMatched =
     → instruction_at program c ≡ Some (instructions.Return from)
     → HasRule (act program (instructions.Return from) (exec program zero) c)
     → KnownNext program c (instructions.Return from)
-    → IsMatched t fs program turns_per_step turns_left (Represents t fs program p q) s c
-    (instructions.Return from)
+    → IsMatchedOrAsks t fs program p q s c (instructions.Return from)

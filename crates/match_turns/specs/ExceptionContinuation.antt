@@ -13,7 +13,7 @@ use Rattle.match_stack.specs.Stack.{StackItem}
 use Rattle.match_stack.specs.ImagePlan.{ImagePlan}
 use Rattle.match_stack.specs.ItemMatches.{Activation, locals_of, ResumesFrom}
 use Rattle.match_stack.specs.StackRecords.{On}
-use Rattle.match_stack.specs.DispatchStates.{IsWellFormed}
+use Rattle.match_stack.specs.DispatchStates.{IsWellFormed, host_list}
 use Rattle.match_runs.specs.Comes.{LeadsTo}
 use Rattle.match_bodies.specs.CodeSites.{Sites}
 use Rattle.match_bodies.specs.ProgramImages.{IsMachineMemory}
@@ -30,7 +30,7 @@ module _ (t : Functions) (fs : List Funclet) (program : LinearProgram) (p : Imag
       (s : State) (saved : Cpu) (is : List StackItem) (acts : List Activation)
       (resumption : Resumption) (c : Configuration)
       → On t fs program p s.memory (context_of saved) is (Waits c.frame ∷ c.below) acts
-      → IsWellFormed (record s { cpu = saved })
+      → IsWellFormed (host_list p c.store) (record s { cpu = saved })
       → ResumesFrom p resumption c.frame acts saved
       → IsMachineMemory t fs program p q s.memory c.store.memory
       → c.store.activations ≡ locals_of acts

@@ -21,9 +21,9 @@ use Rattle.match_stack.specs.Stack.{StackItem}
 use Rattle.match_stack.specs.ImagePlan.{ImagePlan}
 use Rattle.match_stack.specs.ItemMatches.{Activation, locals_of, ResumesFrom}
 use Rattle.match_stack.specs.StackRecords.{On}
-use Rattle.match_stack.specs.DispatchStates.{IsWellFormed}
+use Rattle.match_stack.specs.DispatchStates.{IsWellFormed, host_list}
 use Rattle.match_runs.specs.Ends.{HasRule}
-use Rattle.match_runs.specs.Matched.{Fails, IsMatched}
+use Rattle.match_runs.specs.Matched.{Fails}
 use Rattle.match_runs.specs.Comes.{LeadsTo}
 use Rattle.match_bodies.specs.CodeSites.{Sites}
 use Rattle.match_bodies.specs.ProgramImages.{IsMachineMemory, IsProgramImage}
@@ -32,6 +32,7 @@ use Rattle.match_bodies.specs.ConfigurationFacts.{IsWellMade, IsKnown, KnownNext
 use Rattle.match_bodies.specs.StepLaws.{turns_per_step}
 use Rattle.match_turns.specs.FuncletEntry.{entry_turns, FlagsFit}
 use Rattle.match_turns.specs.DispatchOutcome.{WorksOn, Represents}
+use Rattle.match_turns.specs.AskOutcome.{IsMatchedOrAsks}
 use Rattle.match_turns.specs.OperationOutcome.{ComesTo}
 
 -- the most turns from where an operation begins to where its operands are in their registers
@@ -67,7 +68,7 @@ RetriesAreMatched =
     → (s : State) (c : Configuration) (i : Instruction)
     → WorksOn t fs program p q s c → IsKnown program c → instruction_at program c ≡ Some i
     → HasRule (act program i (exec program zero) c) → KnownNext program c i
-    → IsMatched t fs program turns_per_step turns_left (Represents t fs program p q) s c i
+    → IsMatchedOrAsks t fs program p q s c i
 
 -- where a fault is continued, the machine is there at once, in the saved state
 abbrev pub ContinuationsAtOperations : Type 0
@@ -76,7 +77,7 @@ ContinuationsAtOperations =
     → IsProgramImage t fs program p q → IsWellMade program p
     → (s : State) (saved : Cpu) (is : List StackItem) (acts : List Activation) (c : Configuration)
     → On t fs program p s.memory (context_of saved) is (Waits c.frame ∷ c.below) acts
-    → IsWellFormed (record s { cpu = saved })
+    → IsWellFormed (host_list p c.store) (record s { cpu = saved })
     → ResumesFrom p SameOperation c.frame acts saved
     → IsMachineMemory t fs program p q s.memory c.store.memory
     → c.store.activations ≡ locals_of acts
@@ -95,5 +96,4 @@ OperationsAreMatched =
     → instruction_at program c ≡ Some (instructions.Compute to o first second)
     → HasRule (act program (instructions.Compute to o first second) (exec program zero) c)
     → KnownNext program c (instructions.Compute to o first second)
-    → IsMatched t fs program turns_per_step turns_left (Represents t fs program p q) s c
-    (instructions.Compute to o first second)
+    → IsMatchedOrAsks t fs program p q s c (instructions.Compute to o first second)

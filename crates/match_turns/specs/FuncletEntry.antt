@@ -10,12 +10,12 @@ use Rattle.source_meaning.specs.declared.depth.TheConstants.{DEEPEST}
 use Rattle.linear_code.specs.declared.program.Region.{Region}
 use Rattle.linear_code.specs.declared.instruction.Instruction.TheVariants as instructions
 use Rattle.linear_code.specs.Program.{LinearProgram, LinearBody, LinearFunclet}
-use Rattle.linear_machine.specs.Frames.{BodyName, body_of, Handler, Target, Resumption, Waits, Searches, Unwinds, Configuration}
+use Rattle.linear_machine.specs.Frames.{BodyName, body_of, Handler, FilterOf, Target, Resumption, Waits, Searches, Unwinds, Configuration}
 use Rattle.linear_machine.specs.Searching.{begin_filter}
 use Rattle.linear_machine.specs.Unwinding.{flag_of, begin_finally}
 use Rattle.match_stack.specs.ImagePlan.{ImagePlan}
 use Rattle.match_stack.specs.ItemMatches.{Activation, locals_of}
-use Rattle.match_stack.specs.DispatchStates.{Arrives}
+use Rattle.match_stack.specs.DispatchStates.{Arrives, host_list}
 use Rattle.match_runs.specs.Comes.{LeadsTo}
 use Rattle.match_bodies.specs.CodeSites.{Sites}
 use Rattle.match_bodies.specs.ProgramImages.{IsMachineMemory}
@@ -47,7 +47,7 @@ module _ (t : Functions) (fs : List Funclet) (program : LinearProgram) (p : Imag
       (s : State) (k argument : ℕ) (handler : Handler) (rest : List Handler) (exception : Exception)
       (resumption : Resumption) (c : Configuration) (acts : List Activation)
       → Arrives t fs program p s k handler.activation argument
-      (Searches exception resumption handler rest ∷ Waits c.frame ∷ c.below) acts
+      (Searches exception resumption (FilterOf handler rest) ∷ Waits c.frame ∷ c.below) acts (host_list p c.store)
       → register s.cpu Rcx ≡ register s.cpu Rsp + 88 → handler.filter ≡ Some k
       → IsMachineMemory t fs program p q s.memory c.store.memory
       → c.store.activations ≡ locals_of acts
@@ -62,7 +62,7 @@ module _ (t : Functions) (fs : List Funclet) (program : LinearProgram) (p : Imag
       (s : State) (k flag : ℕ) (rest : List Region) (target : Target) (c : Configuration)
       (acts : List Activation)
       → Arrives t fs program p s k c.frame.activation 1
-      (Unwinds rest target ∷ Waits c.frame ∷ c.below) acts
+      (Unwinds rest target ∷ Waits c.frame ∷ c.below) acts (host_list p c.store)
       → flag_of (slice_get program.funclets k) ≡ Some flag
       → IsMachineMemory t fs program p q s.memory c.store.memory
       → c.store.activations ≡ locals_of acts

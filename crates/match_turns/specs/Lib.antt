@@ -1,9 +1,10 @@
 pub mod CallOutcome
-pub mod CallLaws
 pub mod FuncletEntry
 pub mod FuncletLaws
 pub mod DispatchOutcome
 pub mod ExceptionContinuation
+pub mod AskOutcome
+pub mod CallLaws
 pub mod SettingOutcome
 pub mod TurnLaws
 pub mod BlockLaws

@@ -17,7 +17,7 @@ use Rattle.match_stack.specs.Stack.{StackItem}
 use Rattle.match_stack.specs.ImagePlan.{ImagePlan}
 use Rattle.match_stack.specs.ItemMatches.{Activation, locals_of, ResumesFrom}
 use Rattle.match_stack.specs.StackRecords.{On}
-use Rattle.match_stack.specs.DispatchStates.{IsWellFormed}
+use Rattle.match_stack.specs.DispatchStates.{IsWellFormed, host_list}
 use Rattle.match_runs.specs.Ends.{HasRule}
 use Rattle.match_runs.specs.Matched.{IsMatched}
 use Rattle.match_runs.specs.Comes.{LeadsTo}
@@ -28,10 +28,11 @@ use Rattle.match_bodies.specs.ConfigurationFacts.{IsWellMade, IsKnown, KnownNext
 use Rattle.match_bodies.specs.StepLaws.{turns_per_step}
 use Rattle.match_turns.specs.FuncletEntry.{entry_turns, FlagsFit}
 use Rattle.match_turns.specs.DispatchOutcome.{Represents}
+use Rattle.match_turns.specs.AskOutcome.{IsMatchedOrAsks}
 use Rattle.match_turns.specs.ExceptionContinuation.{Continuations}
 use Rattle.match_turns.specs.LocalUnwindPlaces.{AreFollowed, StayInside}
 
--- a call of RaiseException: its event is shown, and a filter or a `__finally` block begins, a
+-- a call of RaiseException: its event is shown, and a vectored handler, a filter or a `__finally` block begins, a
 -- handler takes over, or nobody does
 abbrev pub RaisesAreMatched : Type 0
 RaisesAreMatched =
@@ -42,8 +43,7 @@ RaisesAreMatched =
     → instruction_at program c ≡ Some (instructions.CallBuiltIn RaiseException first)
     → HasRule (act program (instructions.CallBuiltIn RaiseException first) (exec program zero) c)
     → KnownNext program c (instructions.CallBuiltIn RaiseException first)
-    → IsMatched t fs program turns_per_step turns_left (Represents t fs program p q) s c
-    (instructions.CallBuiltIn RaiseException first)
+    → IsMatchedOrAsks t fs program p q s c (instructions.CallBuiltIn RaiseException first)
 
 -- a local unwind: its first `__finally` block begins, or the label's instruction
 abbrev pub LocalUnwindsAreMatched : Type 0
@@ -66,7 +66,7 @@ ContinuationsAfterCalls =
     → IsProgramImage t fs program p q → IsWellMade program p
     → (s : State) (saved : Cpu) (is : List StackItem) (acts : List Activation) (c : Configuration)
     → On t fs program p s.memory (context_of saved) is (Waits c.frame ∷ c.below) acts
-    → IsWellFormed (record s { cpu = saved })
+    → IsWellFormed (host_list p c.store) (record s { cpu = saved })
     → ResumesFrom p AfterCall c.frame acts saved
     → IsMachineMemory t fs program p q s.memory c.store.memory
     → c.store.activations ≡ locals_of acts

@@ -1,11 +1,11 @@
--- What is claimed of steps that read a filter's exception, and of calls of `put`, `protect` and
--- `walk`.
+-- What is claimed of steps that read a filter's exception, and of calls of the services that raise
+-- nothing.
 use Rattle.std.specs.Prelude.{◌≡◌, ℕ, List, Some}
 use Rattle.x64_machine.specs.Effect.{State}
 use Rattle.virtual_unwind.specs.CallerOf.{Functions}
 use Rattle.host_model.specs.declared.funclet.Funclet.{Funclet}
 use Rattle.c_operations.specs.declared.field.Field.{Field}
-use Rattle.c_operations.specs.declared.built_in.BuiltIn.TheVariants.{Put, Protect, Walk}
+use Rattle.c_operations.specs.declared.built_in.BuiltIn.TheVariants.{Put, Protect, Walk, AddVectored, RemoveVectored}
 use Rattle.linear_code.specs.declared.slot.Slot.{Slot}
 use Rattle.linear_code.specs.declared.instruction.Instruction.TheVariants as instructions
 use Rattle.linear_code.specs.Program.{LinearProgram}
@@ -63,3 +63,25 @@ WalksAreMatched =
     → instruction_at program c ≡ Some (instructions.CallBuiltIn Walk first)
     → Moves t fs program turns_per_step turns_left (RepresentsAt t fs program p q) s c
     (instructions.CallBuiltIn Walk first)
+
+-- a function is put among the vectored handlers, and the result says whether it has been
+abbrev pub AddsAreMatched : Type 0
+AddsAreMatched =
+    (t : Functions) (fs : List Funclet) (program : LinearProgram) (p : ImagePlan) (q : Sites)
+    → IsProgramImage t fs program p q → IsWellMade program p
+    → (s : State) (c : Configuration) (f first : ℕ)
+    → RepresentsAt t fs program p q s c → IsKnown program c
+    → instruction_at program c ≡ Some (instructions.CallBuiltIn (AddVectored f) first)
+    → Moves t fs program turns_per_step turns_left (RepresentsAt t fs program p q) s c
+    (instructions.CallBuiltIn (AddVectored f) first)
+
+-- a function is taken out of the vectored handlers, and the result says whether it has been
+abbrev pub RemovesAreMatched : Type 0
+RemovesAreMatched =
+    (t : Functions) (fs : List Funclet) (program : LinearProgram) (p : ImagePlan) (q : Sites)
+    → IsProgramImage t fs program p q → IsWellMade program p
+    → (s : State) (c : Configuration) (f first : ℕ)
+    → RepresentsAt t fs program p q s c → IsKnown program c
+    → instruction_at program c ≡ Some (instructions.CallBuiltIn (RemoveVectored f) first)
+    → Moves t fs program turns_per_step turns_left (RepresentsAt t fs program p q) s c
+    (instructions.CallBuiltIn (RemoveVectored f) first)

@@ -9,6 +9,8 @@ use Rattle.match_bodies.specs.Setting.{Setting}
 use Rattle.match_turns.specs.CallOutcome as calls
 use Rattle.match_turns.specs.DispatchOutcome.{LiveCallers}
 use Rattle.match_turns.specs.DispatchOutcome as outcomes
+use Rattle.linear_code.specs.declared.instruction.Instruction.{Instruction}
+use Rattle.match_turns.specs.AskOutcome as asks
 use Rattle.match_turns.specs.ExceptionContinuation as continuations
 
 module _ (setting : Setting) where
@@ -37,6 +39,24 @@ module _ (setting : Setting) where
 
   abbrev pub Shows : Turn → List Event → (Next → Seen) → List Event → ℕ → LiveCallers → Type 0
   Shows = outcomes.Shows t fs program p q
+
+  abbrev pub ShowsOrAsks : Turn → List Event → (Next → Seen) → List Event → (left here : ℕ)
+      → LiveCallers → Type 0
+  ShowsOrAsks = asks.ShowsOrAsks t fs program p q
+
+  abbrev pub EntersHandler : Turn → (Next → Seen) → List Event → (left here : ℕ) → LiveCallers
+      → Type 0
+  EntersHandler = asks.EntersHandler t fs program p q
+
+  abbrev pub OutcomeOrAsks : Turn → (Next → Seen) → List Event → (left here : ℕ) → LiveCallers
+      → Type 0
+  OutcomeOrAsks = asks.OutcomeOrAsks t fs program p q
+
+  abbrev pub IsTakenWithin : ℕ → State → Configuration → Instruction → Type 0
+  IsTakenWithin = asks.IsTakenWithin t fs program p q
+
+  abbrev pub IsMatchedOrAsks : State → Configuration → Instruction → Type 0
+  IsMatchedOrAsks = asks.IsMatchedOrAsks t fs program p q
 
   abbrev pub Continuations : Type 0
   Continuations = continuations.Continuations t fs program p q

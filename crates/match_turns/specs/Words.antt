@@ -12,7 +12,7 @@ pub use Rattle.flat_memory.specs.declared.access.RefusedAccess.{RefusedAccess}
 pub use Rattle.flat_memory.specs.declared.protection.Protection.{Protection}
 pub use Rattle.c_operations.specs.Performed.{Raises, Gives, OperationResult, performed, Undefined}
 pub use Rattle.c_operations.specs.declared.built_in.BuiltIn.{BuiltIn}
-pub use Rattle.c_operations.specs.declared.built_in.BuiltIn.TheVariants.{Put, Protect, RaiseException, Walk}
+pub use Rattle.c_operations.specs.declared.built_in.BuiltIn.TheVariants.{Put, Protect, RaiseException, Walk, AddVectored, RemoveVectored}
 pub use Rattle.c_operations.specs.declared.field.Field.{Field}
 pub use Rattle.c_operations.specs.declared.field.Field.TheVariants.{ExceptionCode, ExceptionFlags, NumberParameters, ExceptionInformation}
 pub use Rattle.c_operations.specs.declared.operation.Operation.{Operation}
@@ -31,13 +31,13 @@ pub use Rattle.linear_code.specs.declared.program.RegionKind.{RegionKind}
 pub use Rattle.linear_code.specs.declared.slot.Slot.{Slot}
 pub use Rattle.linear_code.specs.declared.slot.Slot.TheVariants.{Local, Temporary}
 pub use Rattle.linear_machine.specs.BuiltInCalls.{CallsBuiltIn}
-pub use Rattle.linear_machine.specs.Frames.{Configuration, AfterCall, SameOperation, read, BodyName, FunctionBody, FuncletBody, body_of, Frame, Item, Waits, Searches, Unwinds, with_last, Next, deeper, last_temporaries, function_body, weight_of, Finished, local_of, Seen, Handler, Target, Resumption, Store, funclet_body, forth, set_local, Running, Stuck}
+pub use Rattle.linear_machine.specs.Frames.{Configuration, AfterCall, SameOperation, Asked, FilterOf, VectoredAt, read, BodyName, FunctionBody, FuncletBody, body_of, Frame, Item, Waits, Searches, Unwinds, with_last, Next, deeper, last_temporaries, function_body, weight_of, Finished, local_of, Seen, Handler, Target, Resumption, Store, funclet_body, forth, set_local, Running, Stuck}
 unfoldable pub use Rattle.linear_machine.specs.Frames.{with_some, pick}
 pub use Rattle.linear_machine.specs.Instructions.{waiting, begin_function, act, end_finally, local_unwind, end_funclet, end_body, return, written, is_constant, operand, computed, count_of, built_in}
 pub use Rattle.linear_machine.specs.Regions.{regions_of, holds, handlers, regions_at, regions_left, stops}
 pub use Rattle.linear_machine.specs.Run.{instruction_at, instruction_in}
 unfoldable pub use Rattle.linear_machine.specs.Run.{exec}
-pub use Rattle.linear_machine.specs.Searching.{search, accept, resumed, raise, answer, begin_filter, target_of}
+pub use Rattle.linear_machine.specs.Searching.{search, accept, continued, resumed, raise, answer, begin_filter, target_of}
 pub use Rattle.linear_machine.specs.Unwinding.{unwind, flag_of, begin_finally, flag_in, left_store, arrive, target_past, leave_region, unwind_body}
 pub use Rattle.lowering_invariants.specs.Activations.{with_own, owners_of, AreWorking, IsActivationOf, AreActivations}
 pub use Rattle.lowering_invariants.specs.Bodies.{function_of, IsInstructionOf, IsCallee, parent_of, owner_of, IsFinallyKind, IsFuncletOf, IsFilterKind, IsKindOf, IsTemporary, ReadsWell}
@@ -83,7 +83,7 @@ pub use Rattle.seh_records.specs.Record.{return_address_at, place_below, if_read
 unfoldable pub use Rattle.seh_records.specs.Record.{placed, misplaced}
 pub use Rattle.seh_records.specs.declared.dispatch.DispatchRecord.{DispatchRecord}
 pub use Rattle.seh_walk.specs.Walk.{filter_return, finally_return, vectored_return, steps}
-pub use Rattle.host_model.specs.Dispatch.{accepted, searches_on, unwinds_on, finally_returned, eax, again, restored, if_unwinding, raised, unwound_locally, place_of, new_record, to_target, at_landing, write_number, parameters, no_flags, count, accepting}
+pub use Rattle.host_model.specs.Dispatch.{asks_on, searching, accepted, searches_on, unwinds_on, finally_returned, eax, again, restored, if_unwinding, raised, unwound_locally, place_of, new_record, to_target, at_landing, write_number, parameters, no_flags, count, accepting}
 pub use Rattle.host_model.specs.Funclets.{arrivals, arrived, by_kind}
 pub use Rattle.host_model.specs.HostStep.{back, returned, turned, answer_number, protecting}
 unfoldable pub use Rattle.host_model.specs.HostStep.{turn}
@@ -93,8 +93,10 @@ pub use Rattle.match_runs.specs.Comes.{LeadsTo, IsLive, Comes}
 pub use Rattle.match_runs.specs.Ends.{HasRule}
 pub use Rattle.match_runs.specs.Matched.{IsMatched, Fails, Moves, Exits}
 pub use Rattle.match_runs.specs.Shadow.{AllKeep, KeepsShadow, WalkGives, drop_below, GivesCallers, caller_at, is_call, started, served}
-pub use Rattle.match_stack.specs.DispatchStates.{IsWellFormed, Arrives}
-pub use Rattle.match_stack.specs.DispatchSteps.{placed_in, anew, SearchIsAnswered, AnswersAs, from_body, AsksHost, IsException}
+pub use Rattle.match_stack.specs.DispatchStates.{IsWellFormed, Arrives, host_list}
+pub use Rattle.match_stack.specs.AskLaws.{HandlersAreSmall, IsAsking, HandlerBegins, SearchFollows}
+pub use Rattle.match_stack.specs.VectoredReturns.{vectored_turn, at_next, linear_vectored, HandlerHasAnswered, AsksOn, ContinuesSaved, AsksAnew}
+pub use Rattle.match_stack.specs.DispatchSteps.{placed_in, SearchIsAnswered, AnswersAs, from_body, AsksHost, IsException}
 pub use Rattle.match_stack.specs.FilterReturns.{filter_turn, linear_answer, with_answer, answered, AsksTheNext, AskedTakesOver, ContinuesException, IsRaisedAnew}
 pub use Rattle.match_stack.specs.HostUnwind.{on_top, store_of}
 pub use Rattle.match_stack.specs.ImagePlan.{ImagePlan, InCode, parent_body, IsFunclet, by_parent}
@@ -102,7 +104,7 @@ pub use Rattle.match_stack.specs.ItemMatches.{activations_below, BodyWaits, temp
 pub use Rattle.match_stack.specs.ListLaws.{KeepsStack, KeepsAbove, IsLinkedStack}
 pub use Rattle.match_stack.specs.PlainWalks.{state}
 pub use Rattle.match_stack.specs.SearchOutcomes.{FilterBegins}
-pub use Rattle.match_stack.specs.Stack.{StackItem, Unwinding, Searching, Framed, Leaf, IsStack, after_frame, StackFrame}
+pub use Rattle.match_stack.specs.Stack.{answer_return, StackItem, Unwinding, Searching, Framed, Leaf, IsStack, after_frame, StackFrame}
 pub use Rattle.match_stack.specs.StackRecords.{On, IsData, RecordHasRoom, IsUntouched}
 pub use Rattle.match_stack.specs.TurnLaws.{IsUnwinding, IsSearching}
 pub use Rattle.match_stack.specs.UnwindOutcomes.{Unwound, BlockBegins, LandsThere, landing_value, landing_events}
@@ -111,10 +113,10 @@ pub use Rattle.match_bodies.specs.Bodies.{slots_end, last_temporary, turns_left,
 pub use Rattle.match_bodies.specs.BodyViews.{counts_of, seen_by_templates, arrived_in, frame_at, state_of, IsReached}
 pub use Rattle.match_bodies.specs.Callers.{FindsReturn, FindsOwed, Owed, nothing_owed, owed_by, owed_of, callers, caller_above}
 pub use Rattle.match_bodies.specs.CodeSites.{Sites, links_of, function_arguments, parent_base, keep_argument, begin_of, making_size, frame_code, entry_code, funclet_arguments, keep_base}
-pub use Rattle.match_bodies.specs.ConfigurationFacts.{IsWellMade, IsKnown, KnownNext}
+pub use Rattle.match_bodies.specs.ConfigurationFacts.{IsAskable, AreAskable, IsWellMade, IsKnown, KnownNext}
 pub use Rattle.match_bodies.specs.Layouts.{IsLayoutIf, IsFuncletPlan, IsFunctionLayout, IsLeafLayout, IsLaidOut, IsFuncletLayout}
 pub use Rattle.match_bodies.specs.LocalRegisters.{now_of, RegistersHold}
-pub use Rattle.match_bodies.specs.ProgramImages.{frame_of, service_of, WorksAgain, IsProgramImage, is_finally, view_of, ReturnsThere}
+pub use Rattle.match_bodies.specs.ProgramImages.{frame_of, stub_code, service_of, WorksAgain, IsProgramImage, is_finally, view_of, ReturnsThere}
 pub use Rattle.match_bodies.specs.Setting.{Setting, IsMachineMemory, RepresentsAt, InBody, IsResumed, setting_of, HasProgram}
 pub use Rattle.match_bodies.specs.SlotStores.{KeepsStackBut, OwnerHasFrame, with_values}
 pub use Rattle.match_bodies.specs.StepLaws.{turns_per_step}
@@ -125,8 +127,9 @@ pub use Rattle.match_turns.specs.FilterInformation.{IsFilterBody}
 pub use Rattle.match_turns.specs.FuncletEntry.{entry_turns, FlagsFit, FiltersBegin, SeparatorsFollow, BlocksBegin}
 pub use Rattle.match_turns.specs.OperationOutcome.{ComesTo}
 pub use Rattle.match_turns.specs.RaiseLaws.{BodiesContinue, LocalUnwindsAreMatched, RaisesAreMatched, ContinuationsAfterCalls}
-pub use Rattle.match_turns.specs.SettingOutcome.{CallBegins, Continuations, Outcome, Shows, Represents, WalkContinues, WorksOn, EntersFunclet, ContinuesAs}
-pub use Rattle.match_turns.specs.TurnLaws.{waiting_below}
+pub use Rattle.match_turns.specs.SettingOutcome.{CallBegins, Continuations, Outcome, Shows, ShowsOrAsks, OutcomeOrAsks, EntersHandler, IsTakenWithin, IsMatchedOrAsks, Represents, WalkContinues, WorksOn, EntersFunclet, ContinuesAs}
+pub use Rattle.match_turns.specs.TurnLaws.{waiting_below, below_handler}
+pub use Rattle.match_turns.specs.AskOutcome.{turns_to_handler}
 pub use Rattle.template_code.specs.declared.layout.Place.{Place}
 pub use Rattle.template_code.specs.declared.layout.Place.TheVariants.{InRegister, InFrame, Arriving}
 pub use Rattle.template_code.specs.Slots.{fetch_placed, keep_placed}

@@ -50,7 +50,7 @@ use Rattle.image_link.specs.Routines.{RoutineView, routines}
 use Rattle.image_link.specs.declared.fragments.TheConstants.{CHAINED_SIZE}
 use Rattle.image_link.specs.Text.{SiteView, thunk_at}
 use Rattle.image_link.specs.Linked.{text_begin, linked}
-use Rattle.image_link.specs.Walks.{services_of}
+use Rattle.image_link.specs.Services.{services_of}
 use Rattle.image_link.proofs.Entries.{routine_small}
 use Rattle.image_link.proofs.Front.{services_few}
 use Rattle.image_link.proofs.Images.{site_near, has_places}

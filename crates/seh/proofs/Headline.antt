@@ -9,7 +9,7 @@ use Rattle.match_runs.specs.Laws.{ShowsNoMore}
 use Rattle.std.proofs.lemmas.List.{append_assoc}
 use Rattle.c_resolved.proofs.SoundPrograms.{accepted_is_sound}
 use Rattle.c_meaning.specs.FunctionNames.{names_of}
-use Rattle.image_link.specs.Walks.{calls_walk}
+use Rattle.image_link.specs.Services.{calls_walk}
 use Rattle.image_runs.specs.ImageMeaning.{name_in}
 use Rattle.image_runs.proofs.WalkEvents.{meanings_walk_by_calls}
 use Rattle.seh.proofs.EventLines.{lines_append, unnamed_lines}

@@ -4,6 +4,7 @@ pub mod Inputs
 pub mod Images
 mod PlannedCalls
 mod FrontThunks
+mod BlockPieces
 mod TextFront
 pub mod CheckedFrames
 mod ListedRanges

@@ -1,6 +1,7 @@
 -- Each byte of a linked program's text that no entry covers is in a leaf function, in the thunk of
--- a service, or in `__chkstk`: of the cold parts each has an entry.
-use Rattle.std.proofs.Common.{◌≡◌, inl, inr, ℕ, zero, suc, ◌+◌, ◌^◌, ◌<◌, ◌≤◌, true, false, List, [], ◌∷◌, ◌++◌, length, Option, Some, None, refl, sym, ap, subst, ◌∙◌, arith}
+-- a service, in `__chkstk`, or in a name thunk or a stub of a function: of the cold parts each has
+-- an entry.
+use Rattle.std.proofs.Common.{◌≡◌, inl, inr, ℕ, zero, suc, ◌+◌, ◌*◌, ◌^◌, ◌<◌, ◌≤◌, true, false, List, [], ◌∷◌, ◌++◌, length, Option, Some, None, refl, sym, ap, subst, ◌∙◌, arith}
 use Rattle.std.specs.Prelude.{slice_get}
 use Rattle.std.proofs.lemmas.Bool.{cases_lt, false≢true}
 use Rattle.flat_memory.specs.Memory.{Memory}
@@ -22,16 +23,17 @@ use Rattle.template_code.specs.Template.{body_size, code_from}
 use Rattle.template_code.specs.ColdParts.{hot_code, part_code}
 use Rattle.frame_layout.specs.declared.frame.FrameLayout.{FrameLayout}
 use Rattle.image_link.specs.Fits.{FitsProgram}
+use Rattle.image_link.specs.Handlers.{step_of}
 use Rattle.image_link.specs.Near.{IsSiteNear}
 use Rattle.image_link.specs.Routines.{RoutineView, routines}
 use Rattle.image_link.specs.declared.fragments.TheConstants.{CHAINED_SIZE}
 use Rattle.image_link.specs.Text.{SiteView, routine_size, cold_size, total, cold_total, frame_code, argument_code, front_code, front_size, routine_code}
 use Rattle.image_link.specs.Linked.{text_begin, linked}
-use Rattle.image_link.specs.Walks.{services_of}
+use Rattle.image_link.specs.Services.{services_of}
 use Rattle.image_link.proofs.Bounds.{text_length}
 use Rattle.image_link.proofs.Entries.{routine_small}
 use Rattle.image_link.proofs.Front.{services_few}
-use Rattle.image_link.proofs.Images.{site_near, has_places}
+use Rattle.image_link.proofs.Images.{site_near, site_fewer, has_places}
 use Rattle.image_link.proofs.Nearness.{routines_near}
 use Rattle.pe_image.specs.Image.{Image, Section, is_executable}
 use Rattle.pe_write.specs.NameTable.{NameRow}
@@ -43,14 +45,16 @@ use Rattle.image_tables.specs.CodeInMemory.{image_base, HasText, links}
 use Rattle.image_tables.specs.Entries.{entries}
 use Rattle.image_tables.specs.Functions.{leaf, rest_of}
 use Rattle.image_tables.specs.RegionRanges.{HasRanges, HasRegions}
-use Rattle.image_tables.specs.RoutinePlaces.{Placed, PlacedPart, Cursor, put, past, placed, placed_from, first_cursor, parts_from, parts_of, body_begin, end_of, site_of, routines_begin, cold_begin, probe_begin}
+use Rattle.image_tables.specs.RoutinePlaces.{Placed, PlacedPart, Cursor, put, past, placed, placed_from, first_cursor, parts_from, body_begin, end_of, site_of, routines_begin, cold_begin, probe_begin}
 use Rattle.image_tables.proofs.CodeInMemory.{code_length, routine_is_at, there}
 use Rattle.image_tables.proofs.FrameRules.{leaf_fine}
 use Rattle.image_tables.proofs.ImageText.{images_have_text}
-use Rattle.image_tables.proofs.Lookups.{parts_total, cold_parts_total, entries_are_held, parts_are_held, leaves_are_held_by_none, thunks_are_held_by_none, placed_has, some_same, none_some}
+use Rattle.image_tables.proofs.Lookups.{beyond_is_held_by_none, parts_total, cold_parts_total, entries_are_held, parts_are_held, leaves_are_held_by_none, thunks_are_held_by_none, placed_has, some_same, none_some}
+use Rattle.image_tables.proofs.Table.{blocks_inside, image_small}
 use Rattle.image_tables.proofs.RoutineRows.{IsSpare, routines_spare}
 use Rattle.image_tables.proofs.RoutineRanges.{routines_have}
 use Rattle.seh.specs.UncoveredCode.{IsInRoutine, UncoveredCodeIsRoutines}
+use Rattle.seh.proofs.BlockPieces.{block_piece}
 use Rattle.seh.proofs.FrontThunks.{thunk_near, front_there, front_piece as piece_in_front}
 use Rattle.seh.proofs.TextFront.{bytes_after, begins_with_front}
 
@@ -282,8 +286,32 @@ module _ (p : LinearProgram) (fits : FitsProgram p) (regions : HasRegions p) (m 
       absurd (none_some (sym none
       ∙ parts_are_held p index own.index x f own.part rva fits is e own.is own.low own.high))
 
+  -- ---- the blocks of functions
+
+  behind : (rva : ℕ) → cold_begin p + cold_total (routines p) ≤ rva
+      → rva < cold_begin p + cold_total (routines p) + step_of s.blocks * s.blocks.count
+      → IsPiece rva
+  behind rva low high =
+      let inside = blocks_inside p fits in
+      let small = image_small p fits in
+      let x = block_piece p fits m text rva low high in
+      let most = x.high_end in
+      record {
+        begin = x.begin;
+        end = x.end;
+        rest = x.rest;
+        low = x.low;
+        high = x.high;
+        small = omega arith;
+        alone = λ at le lt.
+            (let least = x.low_begin in
+            beyond_is_held_by_none p at fits (omega arith));
+        there = x.there;
+        right = x.right;
+      }
+
   piece : (rva : ℕ) → s.text ≤ rva
-      → rva < cold_begin p + cold_total (routines p)
+      → rva < cold_begin p + cold_total (routines p) + step_of s.blocks * s.blocks.count
       → holding rva (entries p) ≡ None → IsPiece rva
   piece rva low high none = elim (cases_lt rva (routines_begin p)) [
     | inl before ↦ front_piece rva low before
@@ -291,9 +319,12 @@ module _ (p : LinearProgram) (fits : FitsProgram p) (regions : HasRegions p) (m 
       | inl hot ↦
           let x = around s (first_cursor p) (routines p) rva past hot in
           routine_piece x.index x.routine rva x.routine.routine.frame refl x.is x.low x.high none
-      | inr cold ↦
-          let x = around_cold s (first_cursor p) (routines p) rva cold high in
-          cold_of x.index x.routine rva x.routine.routine.frame refl x.is x.low x.high none
+      | inr cold ↦ elim (cases_lt rva (cold_begin p + cold_total (routines p))) [
+        | inl apart ↦
+            let x = around_cold s (first_cursor p) (routines p) rva cold apart in
+            cold_of x.index x.routine rva x.routine.routine.frame refl x.is x.low x.high none
+        | inr last ↦ behind rva last high
+      ]
     ]
   ]
 
@@ -315,7 +346,9 @@ module _ (p : LinearProgram) (fits : FitsProgram p) (regions : HasRegions p)
       → rva < text_begin p.globals + length (linked p).text → holding rva (entries p) ≡ None
       → IsInRoutine image (entries p) rva
   in_text rva low high none =
-      let long = text_length (site_of p) (routines p) (routines_near p fits) in
+      let fewer = (has_places p fits).fewer in
+      let long = text_length (site_of p) (routines p) (routines_near p fits)
+      (site_fewer (services_of p) p.globals (routines p) (length p.functions) fewer) in
       let own = piece p fits regions (mapped image) (images_have_text p fits) rva low (omega arith)
       none in
       let few = own.small in

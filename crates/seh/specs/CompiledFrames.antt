@@ -39,8 +39,9 @@ CompiledEntriesAreFound =
     → IsFound (caller_in functions s.memory (context_of s.cpu))
     (left_to (registers e) (return_address e))
 
--- where no entry covers RIP, as in a leaf function, a thunk or `__chkstk`, it finds the caller in
--- every state that has RSP, the return address and the nonvolatile registers of its first byte
+-- where no entry covers RIP, as in a leaf function, a thunk, a name thunk or a stub of a vectored
+-- handler, or `__chkstk`, it finds the caller in every state that has RSP, the return address and
+-- the nonvolatile registers of its first byte
 abbrev pub CompiledLeavesAreFound : Type 0
 CompiledLeavesAreFound =
     (text image : List ℕ) (compiled : IsCompiled text image) (rest : List FetchedInstr)

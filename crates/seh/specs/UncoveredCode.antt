@@ -1,6 +1,6 @@
 -- The code of an image that no entry of its function table covers: leaf functions, the thunks of
--- services, and `__chkstk` (Microsoft x64 ABI, "Unwind data for exception handling": a leaf
--- function needs no entry).
+-- services, `__chkstk`, and the name thunks and stubs of functions that can be vectored handlers
+-- (Microsoft x64 ABI, "Unwind data for exception handling": a leaf function needs no entry).
 use Rattle.std.specs.Prelude.{◌≡◌, ℕ, ◌+◌, ◌<◌, ◌≤◌, true, List, [], slice_get, Some, None}
 use Rattle.pe_image.specs.Image.{Section, Image, is_executable}
 use Rattle.eh_tables.specs.Tables.{Entry, holding}

@@ -117,12 +117,12 @@ pub fn compiled_images()
 
 /// The frames of an image that `compile` wrote, said of its bytes: of the ranges and the unwind
 /// infos that its function table is read as, and of the instructions that its code is decoded to.
-/// At each of these, in the prologue, the body, an epilogue or a cold part, the walk over the loaded
-/// image finds the caller. Where no entry covers RIP it finds the caller of each state that has RSP,
-/// the return address and the nonvolatile registers of the routine's first byte. And each byte of
-/// code that no entry covers is in a routine of which that holds: a leaf function, a thunk or
-/// `__chkstk`, whose instructions are decoded one after another from its first byte to its end,
-/// outside all entries.
+/// At each of these, in the prologue, the body, an epilogue or a cold part, the walk over the
+/// loaded image finds the caller. Where no entry covers RIP it finds the caller of each state that
+/// has RSP, the return address and the nonvolatile registers of the routine's first byte. And each
+/// byte of code that no entry covers is in a routine of which that holds: a leaf function, a thunk,
+/// a name thunk or a stub of a vectored handler, or `__chkstk`. Its instructions are decoded one
+/// after another from its first byte to its end, outside all entries.
 pub fn compiled_frames()
     ensures entries { CompiledEntriesAreFound }
     ensures leaves { CompiledLeavesAreFound }

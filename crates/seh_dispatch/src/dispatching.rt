@@ -1,5 +1,5 @@
-//! The dispatcher: what is done between two funclets. All suspended work is kept in records in the
-//! machine's stack.
+//! The dispatcher: what is done between two funclets or vectored handlers. All suspended work is
+//! kept in records in the machine's stack.
 
 ghost use Rattle.std.specs.Prelude.{◌≡◌, ◌%◌};
 ghost use Rattle.eh_tables.specs.Tables.{TablesAreWhole};

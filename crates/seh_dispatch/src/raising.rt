@@ -8,7 +8,7 @@ ghost use Rattle.host_model.specs.Dispatch as spec;
 ghost use Rattle.seh_dispatch.specs.Machines.{state_of};
 ghost use Rattle.seh_dispatch.specs.Outcomes.{turn_of};
 
-use crate::dispatching::{enter, new_record, search_on};
+use crate::dispatching::{begun, enter, new_record, search_on};
 use crate::machine::Machine;
 use crate::outcome::TurnOutcome;
 use eh_tables::Tables;
@@ -46,13 +46,13 @@ fn ask<S: AddressSpace>(
     }
 }
 
+/// The record for a search, which begins from the saved state.
 fn searching(dispatch: &DispatchRecord) -> DispatchRecord
     ensures { result ≡ spec.searching dispatch.now }
 {
     let mut new = *dispatch;
     new.kind = Kind::Search;
-    new.row = 0;
-    new
+    begun(&new)
 }
 
 /// Begins the search of a record that was one of vectored handlers.

@@ -19,9 +19,9 @@ use seh_dispatch::advancing::advance;
 use seh_io::receiver::{Events, Lines};
 use seh_io::sink::Sink;
 
-/// One turn of the host: an instruction, a service, or the dispatch between two funclets. The
-/// receiver takes what the turn shows, in order. A host whose run has ended stays as it is, and
-/// nothing is shown. The host keeps its image, and counts what is shown.
+/// One turn of the host: an instruction, a service, or the dispatch between two funclets or
+/// vectored handlers. The receiver takes what the turn shows, in order. A host whose run has ended
+/// stays as it is, and nothing is shown. The host keeps its image, and counts what is shown.
 #[tactic(auto, using(seh_dispatch::proofs::FuncletOrder::listed_ascend))]
 pub fn turn<V: Events>(host: &mut Host<'_, '_>, to: &mut V) -> Turn
     ensures answer { result ≡ answer_of (running_of host.old).host }

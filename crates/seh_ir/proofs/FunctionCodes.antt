@@ -1,9 +1,9 @@
 -- The code of a function, made piece by piece.
 use Rattle.std.proofs.Common.{◌≡◌, ℕ, List, [], ◌∷◌, ◌++◌, length, replicate, Option, None, Some, refl, ap, ◌∙◌, arith}
 use Rattle.c_checked.specs.declared.function.StackedParameter.{StackedParameter}
-use Rattle.c_checked.specs.Program.{DataFrame, Function, weight}
+use Rattle.c_checked.specs.Program.{DataFrame, Function}
 use Rattle.linear_code.specs.declared.instruction.Instruction.TheVariants.{Return}
-use Rattle.seh_ir.specs.Words.{Temporary, Instruction, Separator, LoweringContext, constant, statements_code, first_separators, bring_code, open_code, open_size, close_code, scope_of, body_start, function_code}
+use Rattle.seh_ir.specs.Words.{Temporary, Instruction, Separator, LoweringContext, constant, statements_code, first_separators, first_count, bring_code, open_code, open_size, close_code, scope_of, body_start, function_code}
 use Rattle.lowering_expressions.proofs.Codes.{joined, two}
 use Rattle.seh_ir.proofs.Lowering.{first_are, length_first}
 
@@ -20,13 +20,13 @@ open_length (Some d) = let e = bring_length d.base d.parameters in omega arith
 -- where the code of the body begins
 pub start_length : (f : Function)
     → length (first_separators f ++ open_code f.data_frame) ≡ body_start f
-start_length f = two (first_separators f) (open_code f.data_frame) (weight f)
+start_length f = two (first_separators f) (open_code f.data_frame) (first_count f)
     (open_size f.data_frame) (length_first f) (open_length f.data_frame)
 
 -- ---- a function
 
 pub function_is : (f : Function) (scope : LoweringContext) (w : ℕ)
-    (l0 l1 l2 l3 l4 l5 l6 : List Instruction) → w ≡ weight f → scope ≡ scope_of f → l0 ≡ []
+    (l0 l1 l2 l3 l4 l5 l6 : List Instruction) → w ≡ first_count f → scope ≡ scope_of f → l0 ≡ []
     → l1 ≡ l0 ++ replicate w Separator → l2 ≡ l1 ++ open_code f.data_frame
     → l3 ≡ l2 ++ statements_code scope f.body (length l2) → l4 ≡ l3 ++ constant 0 0 ∷ []
     → l5 ≡ l4 ++ close_code f.data_frame → l6 ≡ l5 ++ Return (Temporary 0) ∷ []

@@ -1,9 +1,13 @@
 -- Regions, funclets and functions, one after another.
-use Rattle.std.proofs.Common.{◌≡◌, ℕ, zero, suc, ◌+◌, ◌<◌, List, [], ◌∷◌, ◌++◌, length, map, take, get_or, replicate, refl, sym, ap, ◌∙◌, arith, append_assoc}
-use Rattle.std.specs.Prelude.{◌-◌}
+use Rattle.std.proofs.Common.{◌≡◌, ◌⊎◌, inl, inr, ℕ, zero, suc, ◌+◌, ◌<◌, ◌≤◌, List, [], ◌∷◌, ◌++◌, length, map, take, get_or, replicate, refl, sym, ap, ◌∙◌, arith, append_assoc}
+use Rattle.std.specs.Prelude.{◌-◌, if◌then◌else◌, ◌&&◌, Option, Some, None}
+use Rattle.std.proofs.lemmas.Bool.{cases_lt}
 use Rattle.std.proofs.lemmas.List.{append-nil, map-append, length-replicate, replicate-append-replicate}
-use Rattle.c_checked.specs.Program.{Function as Function', surplus, weight}
-use Rattle.seh_ir.specs.Words.{Stmt, Statement, Statements, Empty, Then, TryFinally, finally_names, finally_funclet, in_funclet, statement, statements, function, Region, LinearFunction, LinearFunclet, Names, Owner, statement_size, statements_size, statement_regions, statements_regions, statement_funclets, statements_funclets, Separator, first_separators, lowered_function, lowered_funclets, all_funclets}
+use Rattle.c_checked.specs.Program.{Function as Function', surplus}
+use Rattle.c_checked.specs.Sound.{is_pair_of_ints, is_size}
+use Rattle.c_operations.specs.declared.operation.Size.{Size}
+use Rattle.c_operations.specs.declared.operation.Size.TheVariants.{Int, Long}
+use Rattle.seh_ir.specs.Words.{Stmt, Statement, Statements, Empty, Then, TryFinally, finally_names, finally_funclet, in_funclet, statement, statements, function, Region, LinearFunction, LinearFunclet, Names, Owner, statement_size, statements_size, statement_regions, statements_regions, statement_funclets, statements_funclets, Separator, asking, first_separators, first_count, lowered_function, lowered_funclets, all_funclets}
 use Rattle.linear_code.specs.declared.program.LabelRange.{LabelRange}
 use Rattle.seh_ir.specs.ColdParts.{statement_cold, statements_cold}
 use Rattle.c_checked.specs.declared.function.Function.{Function}
@@ -147,16 +151,50 @@ finally_appended owner inner names names' body last k x funclet old one two new 
 
 -- ---- functions
 
--- as many separators as a function weighs
-pub first_are : (f : Function') (n : ℕ) → n ≡ weight f
+-- the separators that a function begins with
+pub first_are : (f : Function') (n : ℕ) → n ≡ first_count f
     → replicate n Separator ≡ first_separators f
-first_are f n e = ap (λ k. replicate k Separator) e
-    ∙ sym (replicate-append-replicate 1 (surplus f) Separator)
+first_are f n e =
+    let k : n ≡ 1 + (surplus f + asking f) = omega arith in
+    ap (λ k. replicate k Separator) k
+    ∙ sym (replicate-append-replicate 1 (surplus f + asking f) Separator)
 
-pub length_first : (f : Function') → length (first_separators f) ≡ weight f
+pub length_first : (f : Function') → length (first_separators f) ≡ first_count f
 length_first f =
-    let e = length-replicate (surplus f) Separator in
+    let e = length-replicate (surplus f + asking f) Separator in
     omega arith
+
+abbrev asking_of : List Size → Option Size → ℕ
+asking_of sizes returns = if (is_pair_of_ints sizes && is_size Int returns) then 1 else 0
+
+asking_is : (f : Function') → (asking f ≡ 0) ⊎ ((asking f ≡ 1) × (length f.parameters ≡ 2))
+asking_is f = by f.parameters f.returns
+  where
+    by : (sizes : List Size) (returns : Option Size)
+        → (asking_of sizes returns ≡ 0) ⊎ ((asking_of sizes returns ≡ 1) × (length sizes ≡ 2))
+    by (Int ∷ Int ∷ []) (Some Int) = inr (refl, refl)
+    by (Int ∷ Int ∷ []) (Some Long) = inl refl
+    by (Int ∷ Int ∷ []) None = inl refl
+    by (Int ∷ Int ∷ z ∷ zs) returns = inl refl
+    by (Int ∷ Long ∷ zs) returns = inl refl
+    by (Int ∷ []) returns = inl refl
+    by (Long ∷ zs) returns = inl refl
+    by [] returns = inl refl
+
+-- one that can be asked takes two, which are no more than any other most
+pub asking_within : (f : Function') (most : ℕ) → (most ≡ 2 → ⊥) → length f.parameters ≤ most
+    → length f.parameters + asking f ≤ most
+asking_within f most other few = by (asking_is f)
+  where
+    by : (asking f ≡ 0) ⊎ ((asking f ≡ 1) × (length f.parameters ≡ 2))
+        → length f.parameters + asking f ≤ most
+    by (inl none) = omega arith
+    by (inr one) = strict (cases_lt (length f.parameters) most)
+      where
+        strict : (length f.parameters < most) ⊎ (most ≤ length f.parameters)
+            → length f.parameters + asking f ≤ most
+        strict (inl lt) = omega arith
+        strict (inr le) = absurd (other (omega arith))
 
 more_functions : (items : List Function) (i : ℕ) (x : Function) → i < length items
     → map lowered_function (map function (take (suc i) items))

@@ -1,8 +1,9 @@
 -- The linear code of a program.
-use Rattle.std.specs.Prelude.{ℕ, ◌+◌, List, [], ◌∷◌, ◌++◌, length, map, replicate, Option, Some, None}
+use Rattle.std.specs.Prelude.{ℕ, ◌+◌, if◌then◌else◌, List, [], ◌∷◌, ◌++◌, length, map, replicate, Option, Some, None}
 use Rattle.c_operations.specs.declared.operation.Operation.TheVariants.{Allocate, Place}
 use Rattle.c_checked.specs.declared.function.StackedParameter.{StackedParameter}
 use Rattle.c_checked.specs.Program.{DataFrame, part_of, Program, Function, frame_surplus, data_surplus, surplus, weight}
+use Rattle.c_checked.specs.Sound.{can_handle}
 use Rattle.linear_code.specs.declared.instruction.Instruction.{Instruction}
 use Rattle.linear_code.specs.declared.slot.Slot.TheVariants.{Local, Temporary}
 use Rattle.linear_code.specs.declared.instruction.Instruction.TheVariants.{Compute, Separator, Return}
@@ -23,10 +24,20 @@ use Rattle.seh_ir.specs.ColdParts.{statements_cold}
 abbrev pub all_locals : Function → ℕ
 all_locals f = own_locals f + statements_notes f.body
 
--- a function begins with a separator, so that no region of it begins where its prologue ends, and
--- with one for each further step that an activation of it counts: as many as it weighs
+-- to ask a vectored handler is a step of its own, and a function that can be one begins with a
+-- separator for it
+abbrev pub asking : Function → ℕ
+asking f = if can_handle (Some f) then 1 else 0
+
+-- a function begins with a separator, so that no region of it begins where its prologue ends, with
+-- one for each further step that an activation of it counts, as many as it weighs, and with one
+-- more where it can be asked
 abbrev pub first_separators : Function → List Instruction
-first_separators f = Separator ∷ replicate (surplus f) Separator
+first_separators f = Separator ∷ replicate (surplus f + asking f) Separator
+
+-- how many these are
+abbrev pub first_count : Function → ℕ
+first_count f = weight f + asking f
 
 -- the parameters on the data stack are brought to where they stand
 abbrev pub bring_code : (base : ℕ) → List StackedParameter → List Instruction
@@ -53,7 +64,7 @@ close_code (Some d) = set_pointer d.base 0 ∷ []
 
 -- where the code of its body begins
 abbrev pub body_start : Function → ℕ
-body_start f = weight f + open_size f.data_frame
+body_start f = first_count f + open_size f.data_frame
 
 -- after that comes its body; it returns 0 at its end, and what its first temporary holds at its
 -- exit, where each `return` leads

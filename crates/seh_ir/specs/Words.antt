@@ -21,7 +21,7 @@ pub use Rattle.lowering_expressions.specs.declared.scope.Names.{Names}
 pub use Rattle.lowering_expressions.specs.declared.scope.Way.{Way}
 pub use Rattle.lowering_expressions.specs.declared.scope.Way.TheVariants.{Nowhere, Jumps, Unwinds}
 pub use Rattle.seh_ir.specs.Funclets.{filter_funclets, finally_funclet, in_funclet, statement_funclets, statements_funclets}
-pub use Rattle.seh_ir.specs.Lowered.{all_locals, first_separators, bring_code, open_code, open_size, close_code, body_start, function_code, scope_of, lowered_funclets, all_funclets, lowered_function}
+pub use Rattle.seh_ir.specs.Lowered.{all_locals, asking, first_separators, first_count, bring_code, open_code, open_size, close_code, body_start, function_code, scope_of, lowered_funclets, all_funclets, lowered_function}
 pub use Rattle.seh_ir.specs.Regions.{statement_regions, statements_regions, except_kind, region}
 pub use Rattle.seh_ir.specs.Statements.{discarded_code, condition_code, declared_code, all_declared_code, statement_code, statements_code, return_code, returned_code, repeated, jump_code, leave_code, initialiser_code, put_code, put_initialiser_code, clearing, stacked_declared_code, declared_at_code, reset_code, landed, finally_called, when_code}
 pub use Rattle.seh_ir.specs.declared.funclets.Owner.{Owner}

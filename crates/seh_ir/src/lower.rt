@@ -1,9 +1,10 @@
 //! Whole programs.
 
-ghost use Rattle.std.specs.Prelude.{◌≡◌, ◌++◌, replicate, OnOk, IfOk};
+ghost use Rattle.std.specs.Prelude.{◌≡◌, ◌++◌, replicate, Some, OnOk, IfOk};
 ghost use Rattle.linear_code.specs.declared.instruction.Instruction.TheVariants.{Separator};
 ghost use Rattle.linear_code.specs.Program.{linear_function, linear_program};
 ghost use Rattle.c_checked.specs.Program as programs;
+ghost use Rattle.c_checked.specs.Sound as sound;
 ghost use Rattle.c_checked.specs.Whole.{program};
 ghost use Rattle.lowering_expressions.specs.Appended.{AppendsFunclets};
 ghost use Rattle.seh_ir.specs.Lowered as spec;
@@ -16,6 +17,7 @@ use crate::regions::statements_regions;
 use crate::statements::statements;
 use c_checked::checked::Checked;
 use c_checked::function::Function;
+use c_operations::operation::Size;
 use linear_code::instruction::Instruction;
 use linear_code::program::{IrFunclet, IrFunction, IrProgram};
 use linear_code::slot::Slot;
@@ -33,18 +35,48 @@ fn all_locals(f: &Function) -> Result<u64, AllocError>
     sum(own_locals(f)?, statements_notes(&f.body)?)
 }
 
-/// How much an activation counts in the depth, and how many separators its code begins with.
-fn weight(f: &Function) -> Result<u64, AllocError>
-    ensures { IfOk result (λ n. n ≡ programs.weight (programs.function f.now)) }
+/// Whether there are two sizes, and both are `int`'s.
+fn is_pair_of_ints(sizes: &[Size]) -> bool
+    ensures { result ≡ sound.is_pair_of_ints sizes.now }
 {
-    sum(1, f.surplus())
+    match sizes {
+        [Size::Int, Size::Int] => true,
+        _ => false,
+    }
+}
+
+/// Whether it can be a vectored handler: it takes a code and flags, and gives an answer.
+fn can_handle(f: &Function) -> bool
+    ensures { result ≡ sound.can_handle (Some (programs.function f.now)) }
+{
+    match f.returns {
+        Some(Size::Int) => is_pair_of_ints(&f.parameters),
+        _ => false,
+    }
+}
+
+/// How many separators it begins with to be asked as a vectored handler.
+fn asking(f: &Function) -> u64
+    ensures { result ≡ spec.asking (programs.function f.now) }
+{
+    if can_handle(f) {
+        return 1;
+    }
+    0
+}
+
+/// How many separators its code begins with.
+fn first_count(f: &Function) -> Result<u64, AllocError>
+    ensures { IfOk result (λ n. n ≡ spec.first_count (programs.function f.now)) }
+{
+    sum(sum(1, f.surplus())?, asking(f))
 }
 
 /// The label at which the code of the body begins.
 fn body_start(f: &Function) -> Result<u64, AllocError>
     ensures { IfOk result (λ n. n ≡ spec.body_start (programs.function f.now)) }
 {
-    sum(weight(f)?, open_size(&f.data_frame)?)
+    sum(first_count(f)?, open_size(&f.data_frame)?)
 }
 
 /// Adds so many separators.
@@ -89,7 +121,7 @@ fn function_code(alloc: Global, f: &Function) -> Result<Vec<Instruction>, AllocE
     ensures { IfOk result (λ v. v.items ≡ spec.function_code (programs.function f.now)) }
 {
     let scope = scope_of(alloc, f)?;
-    let separators = weight(f)?;
+    let separators = first_count(f)?;
     let mut code = Vec::new(alloc);
     put_separators(&mut code, separators)?;
     open(&mut code, &f.data_frame)?;

@@ -5,7 +5,8 @@ use Rattle.std.proofs.lemmas.Bool.{cases_Bool, true≢false}
 use Rattle.source_machine.specs.Words.{Program, Evaluate, Leave, computed, Machine, step, is_over, first, after, raises_inside}
 use Rattle.source_meaning.specs.Short.{lit, raise, answer}
 use Rattle.source_meaning.specs.Rows.{exit, sum_and_return, null_store_caught, filter_then_finally, continue_same_operand, return_flags, leave_flags, raise_in_filter, raise_in_finally, continue_noncontinuable}
-use Rattle.source_machine.specs.CalmRows.{TameRows, PlainRows, RaisesInFilters, RaisesInFinallys, FlagOneAtReturn, FlagZeroAtEnd, FlagZeroAtLeave, handled_in_filter, raising_after}
+use Rattle.source_meaning.specs.VectoredRows as vectored
+use Rattle.source_machine.specs.CalmRows.{TameRows, PlainRows, RaisesInFilters, RaisesInVectored, RaisesInFinallys, FlagOneAtReturn, FlagZeroAtEnd, FlagZeroAtLeave, handled_in_filter, raise_in_vectored, raising_after}
 use Rattle.source_machine.proofs.RunPrefixes.{over_stays, no_raise}
 use Rattle.source_machine.proofs.Tameness.{ended_is_tame}
 
@@ -77,11 +78,18 @@ plain_rows = (
   plain return_flags refl,
   plain leave_flags refl,
   plain continue_noncontinuable refl,
+  plain vectored.asked_first refl,
+  plain vectored.continues refl,
+  plain vectored.asked_again refl,
 )
 
 pub raises_in_filters : RaisesInFilters
 unfolding computed
 raises_in_filters = (nested raise_in_filter refl, nested handled_in_filter refl)
+
+pub raises_in_vectored : RaisesInVectored
+unfolding computed
+raises_in_vectored = nested raise_in_vectored refl
 
 pub raises_in_finallys : RaisesInFinallys
 unfolding computed

@@ -1,8 +1,8 @@
 -- What frames do with results keeps what the machine comes to.
-use Rattle.std.proofs.Common.{◌≡◌, ℕ, List, [], ◌∷◌, length, refl, sym, ap, ◌∙◌, Option, Some, None}
+use Rattle.std.proofs.Common.{◌≡◌, ℕ, ◌+◌, List, [], ◌∷◌, length, refl, sym, ap, ◌∙◌, Option, Some, None}
 use Rattle.std.specs.Prelude.{Bool, true, false, nat_eq, nat_lt, ◌^◌, reverse}
 use Rattle.std.proofs.lemmas.List.{length-reverse}
-use Rattle.source_machine.specs.Words.{Program, DataPart, close_part, close, reset_pointer, Expression, Statement, Statements, Ended, Deep, Exception, State, Result, Value, Normal, Continued, Target, End, Outcome, Gives, choose, with_value, and_then, emit, Handler, Does, ended_call, all, optional, in_loop, landing, finally_after, noncontinuable, search, W32, low, Place, context_at, OperandFrame, AssignmentFrame, StatementFrame, SequelFrame, BodyFrame, ContinuationFrame, Operand, Assignment, InStatement, Sequel, Body, EndsCall, Lands, Finishes, Plan, chosen, operand_plan, assignment_plan, evaluated, branch, answer_plan, in_statement_plan, sequel_plan, body_plan, Machine, follow, over, after_value, after_normal, after_body, left_call, target_landed, landed, finished, resumed, outside, given, unless_deep, unless_few, below, operand_meaning, assignment_meaning, branch_meaning, in_statement_meaning, sequel_meaning, body_meaning, through, through_all, comes_to}
+use Rattle.source_machine.specs.Words.{Program, DataPart, close_part, close, reset_pointer, Expression, Statement, Statements, Ended, Deep, Exception, State, Result, Value, Normal, Continued, Target, End, Outcome, Gives, choose, with_value, and_then, emit, Handler, Does, ended_call, all, optional, in_loop, landing, finally_after, noncontinuable, ask_from, search, W32, low, Place, context_at, OperandFrame, AssignmentFrame, StatementFrame, SequelFrame, BodyFrame, ContinuationFrame, Operand, Assignment, InStatement, Sequel, Body, EndsCall, Lands, Finishes, Plan, chosen, operand_plan, assignment_plan, evaluated, branch, answer_plan, vectored_plan, in_statement_plan, sequel_plan, body_plan, Machine, follow, over, after_value, after_normal, after_body, left_call, target_landed, landed, finished, resumed, outside, given, unless_deep, unless_few, below, operand_meaning, assignment_meaning, branch_meaning, in_statement_meaning, sequel_meaning, body_meaning, through, through_all, comes_to}
 use Rattle.source_meaning.specs.Tasks as tasks
 use Rattle.seh_num.specs.declared.event.Event.TheVariants as events
 use Rattle.source_machine.specs.Frames as frames
@@ -104,13 +104,24 @@ module _ (program : Program) (d : Does) where
       → comes (follow m (answer_plan a b c level exc p))
       ≡ from m (choose a (λ st. search d (below level m.handlers) exc (context_at m.handlers p) st)
       (choose b (λ st. Gives (Target level exc) st)
-      (choose c (λ st. d (tasks.Raise noncontinuable) (context_at m.handlers p) st)
-      (λ st. Gives Normal st))) m.state)
+      (λ st. choose c (λ st. d (tasks.Raise noncontinuable) (context_at m.handlers p) st)
+      (λ st. Gives Normal st) st)) m.state)
   unfolding choose
   answer_keeps true b c m level exc p = refl
   answer_keeps false true c m level exc p = refl
   answer_keeps false false true m level exc p = refl
   answer_keeps false false false m level exc p = refl
+
+  pub vectored_keeps : (b c : Bool) (m : Machine) (place : ℕ) (exc : Exception) (p : Place)
+      → comes (follow m (vectored_plan b c place exc p))
+      ≡ from m
+      (choose b (λ st. ask_from d (place + 1) exc (context_at m.handlers p) st)
+      (λ st. choose c (λ st. d (tasks.Raise noncontinuable) (context_at m.handlers p) st)
+      (λ st. Gives Normal st) st) m.state)
+  unfolding choose
+  vectored_keeps true c m place exc p = refl
+  vectored_keeps false true m place exc p = refl
+  vectored_keeps false false m place exc p = refl
 
   statement_keeps : (m : Machine) (f : StatementFrame) (v : ℕ)
       → comes (follow m (in_statement_plan f v))
@@ -127,6 +138,7 @@ module _ (program : Program) (d : Does) where
   statement_keeps m frames.EndsFilter v = refl
   statement_keeps m (frames.IsAnswered level exc p) v =
       answer_keeps (nat_eq (low W32 v) 0) (nat_lt (low W32 v) (2 ^ 31)) exc.flag m level exc p
+  statement_keeps m (frames.EndsVectored place exc p) v = refl
 
   -- ---- a normal end
 

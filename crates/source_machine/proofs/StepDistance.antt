@@ -3,7 +3,7 @@ use Rattle.std.proofs.Common.{◌≡◌, ℕ, zero, suc, ◌+◌, ◌*◌, ◌<�
 use Rattle.std.proofs.Common.{lit<, Option, Some, None, ◌≤◌, subst, sym, inl, inr}
 use Rattle.std.specs.Prelude.{Bool, true, false, ◌⊎◌, nat_eq, nat_lt, slice_get, ◌^◌}
 use Rattle.std.proofs.lemmas.Bool.{cases_Bool, ltb-false}
-use Rattle.source_machine.specs.Words.{Memory, State, DataFrame, DataPart, StackedParameter, StackedVariable, W32, low, BuiltIn, Put, Protect, RaiseException, Walk, Operation, Program, Function, weight, surplus, performed, Expression, On, Node, Lvalue, Local, Arguments, Done, Filter, Always, Funclet, Statement, Statements, Empty, Declared, is_reserved, Exception, Result, Value, Normal, Continued, LeftTry, Target, End, Handler, Task, Place, Callee, OperandFrame, AssignmentFrame, StatementFrame, SequelFrame, BodyFrame, ContinuationFrame, Operand, Assignment, InStatement, Sequel, Body, EndsCall, Lands, Finishes, Next, Over, Give, Start, Begin, Plan, Then, Push, chosen, node_plan, expression_plan, find_plan, pass_plan, operand_plan, assignment_plan, evaluated, branch, answer_plan, in_statement_plan, sequel_plan, body_plan, proceed_plan, declare_plan, statement_plan, Machine, follow, unless_deep, unless_few, started, begun, fetched, put, operated, entered, built_in, called, asked_by, asked, searched, ends, at_state, set_memory, allocate, local_of, placing, clearing, with_next, count_steps, stored, brought, opened, put_stacked, cleared_one, cleared, declared_stacked, declared_at, target_landed, landed, finished, left_call, after_value, after_normal, after_body, resumed, given, outside, done, is_deep, with_local, is_over, operand_worth, assignment_worth, statement_worth, worth, all_worth, next_worth, distance, Decreases}
+use Rattle.source_machine.specs.Words.{Memory, State, DataFrame, DataPart, StackedParameter, StackedVariable, W32, low, BuiltIn, Put, Protect, RaiseException, Walk, AddVectored, RemoveVectored, Operation, Program, Function, weight, surplus, performed, Expression, On, Node, Lvalue, Local, Arguments, Done, Filter, Always, Funclet, Statement, Statements, Empty, Declared, is_reserved, Exception, Result, Value, Normal, Continued, LeftTry, Target, End, Handler, Task, Place, Callee, OperandFrame, AssignmentFrame, StatementFrame, SequelFrame, BodyFrame, ContinuationFrame, Operand, Assignment, InStatement, Sequel, Body, EndsCall, Lands, Finishes, Next, Over, Give, Start, Begin, Plan, Then, Push, chosen, node_plan, expression_plan, find_plan, pass_plan, operand_plan, assignment_plan, evaluated, branch, answer_plan, vectored_plan, in_statement_plan, sequel_plan, body_plan, proceed_plan, declare_plan, statement_plan, Machine, follow, unless_deep, unless_few, started, begun, fetched, put, operated, entered, built_in, called, asked_vectored, asked_by, asked, searched, ends, at_state, set_memory, let_go, allocate, local_of, placing, clearing, with_next, count_steps, stored, brought, opened, put_stacked, cleared_one, cleared, declared_stacked, declared_at, target_landed, landed, finished, left_call, after_value, after_normal, after_body, resumed, given, outside, done, is_deep, with_local, is_over, operand_worth, assignment_worth, statement_worth, worth, all_worth, next_worth, distance, Decreases}
 use Rattle.c_operations.specs.Performed as performing
 use Rattle.c_checked.specs.Expression as nodes
 use Rattle.c_checked.specs.Expression.{Next as Another}
@@ -128,6 +128,13 @@ answer_worth false true c level exc p = lit< tt
 answer_worth false false true level exc p = lit< tt
 answer_worth false false false level exc p = lit< tt
 
+vectored_worth : (a b : Bool) (place : ℕ) (exc : Exception) (p : Place)
+    → plan_worth (vectored_plan a b place exc p) < 23
+unfolding plan_worth
+vectored_worth true b place exc p = lit< tt
+vectored_worth false true place exc p = lit< tt
+vectored_worth false false place exc p = lit< tt
+
 in_statement_worth : (f : StatementFrame) (v : ℕ)
     → plan_worth (in_statement_plan f v) < statement_worth f + 20
 unfolding plan_worth
@@ -142,6 +149,7 @@ in_statement_worth frames.Returns v = lit< tt
 in_statement_worth frames.EndsFilter v = lit< tt
 in_statement_worth (frames.IsAnswered level exc p) v =
     answer_worth (nat_eq (low W32 v) 0) (nat_lt (low W32 v) (2 ^ 31)) exc.flag level exc p
+in_statement_worth (frames.EndsVectored place exc p) v = lit< tt
 
 sequel_plan_worth : (f : SequelFrame) → plan_worth (sequel_plan f) < 22
 unfolding plan_worth
@@ -222,6 +230,7 @@ resumed_decreases m (InStatement f) how =
   where
     statement_more : (f : StatementFrame) → 20 < statement_worth f + 20
     statement_more (frames.IsAnswered level exc p) = lit< tt
+    statement_more (frames.EndsVectored place exc p) = lit< tt
     statement_more f = lit< tt
 resumed_decreases m (Sequel f) how = normal_decreases m (sequel_plan f) (sequel_plan_worth f) how
 resumed_decreases m (Body f) how = body_decreases m (body_plan f) (body_plan_worth f) how
@@ -254,6 +263,8 @@ begun_decreases m (tasks.ForIteration c next s) p =
 begun_decreases m (tasks.DoIteration s c) p = omega arith
 begun_decreases m (tasks.TryBody ss) p = omega arith
 begun_decreases m (tasks.Raise exc) p = omega arith
+begun_decreases m (tasks.AskVectored f place exc) p =
+    deeper (is_deep m.state 2) m _ 40 (lit< tt) (omega arith)
 begun_decreases m (tasks.RunFilter k e h exc) p =
     deeper (is_deep m.state 2) m _ 40 (lit< tt) (omega arith)
 begun_decreases m (tasks.RunFinally k last flag) p =
@@ -364,6 +375,8 @@ built_in_decreases m Put vs p = omega arith
 built_in_decreases m Protect vs p = omega arith
 built_in_decreases m RaiseException vs p = omega arith
 built_in_decreases m Walk vs p = omega arith
+built_in_decreases m (AddVectored f) vs p = omega arith
+built_in_decreases m (RemoveVectored f) vs p = omega arith
 
 called_decreases : (program : Program) (m : Machine) (callee : Callee) (vs : List ℕ) (p : Place)
     → distance (called program m callee vs p) < at_worth m 23
@@ -406,6 +419,11 @@ searched_decreases : (m : Machine) (level : ℕ) (exc : Exception) (p : Place)
 searched_decreases m zero exc p = omega arith
 searched_decreases m (suc level) exc p = asked_decreases m (slice_get m.handlers level) level exc p
 
+asked_vectored_decreases : (m : Machine) (f : Option ℕ) (place : ℕ) (exc : Exception) (p : Place)
+    → distance (asked_vectored m f place exc p) < at_worth m 22
+asked_vectored_decreases m None place exc p = omega arith
+asked_vectored_decreases m (Some f) place exc p = omega arith
+
 done_decreases : (program : Program) (m : Machine) (next : Next) → is_over next ≡ false
     → distance (done program m next) < at_worth m (next_worth next)
 unfolding plan_worth
@@ -430,6 +448,11 @@ done_decreases program m (frames.SetLocal x v p) e = omega arith
 done_decreases program m (frames.PutStacked v x p) e =
     put_stacked_decreases program v x p ends m 21 (lit< tt)
 done_decreases program m (frames.ClearElements v n p) e = cleared_decreases program v n p m
+done_decreases program m (frames.AskFrom place exc p) e =
+    asked_vectored_decreases m (slice_get m.state.vectored place) place exc p
+done_decreases program m (frames.VectoredAnswer v place exc p) e =
+    followed (at_state m (let_go m.state)) _ 23
+    (vectored_worth (nat_lt (low W32 v) (2 ^ 31)) exc.flag place exc p)
 done_decreases program m (frames.Search level exc p) e = searched_decreases m level exc p
 done_decreases program m y e = omega arith
 

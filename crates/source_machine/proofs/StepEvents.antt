@@ -2,7 +2,7 @@
 use Rattle.std.proofs.Common.{ℕ, zero, suc, List, [], ◌∷◌, ◌++◌, length, refl, Option, Some, None}
 use Rattle.std.specs.Prelude.{Bool, true, false, nat_eq, nat_lt, slice_get}
 use Rattle.seh_num.specs.declared.event.Event.{Event}
-use Rattle.source_machine.specs.Words.{Memory, DataFrame, DataPart, StackedParameter, StackedVariable, Expression, ends, at_state, set_memory, allocate, local_of, placing, clearing, with_next, count_steps, stored, brought, opened, put_stacked, cleared_one, cleared, declared_stacked, declared_at, BuiltIn, Put, Protect, RaiseException, Walk, Operation, performed, Program, Function, weight, surplus, Lvalue, Local, Filter, Always, Funclet, Statements, is_reserved, Exception, Result, Value, Normal, Continued, LeftTry, Target, End, Handler, Task, IsPrefixOf, Place, Callee, ContinuationFrame, Operand, Assignment, InStatement, Sequel, Body, EndsCall, Lands, Finishes, Next, Over, Give, Start, Begin, Plan, Then, Push, operand_plan, assignment_plan, in_statement_plan, sequel_plan, body_plan, Machine, follow, unless_deep, unless_few, started, begun, fetched, put, operated, entered, built_in, called, asked_by, asked, searched, target_landed, landed, finished, left_call, after_value, after_normal, after_body, resumed, given, outside, done, is_deep, with_local, Extends}
+use Rattle.source_machine.specs.Words.{Memory, DataFrame, DataPart, StackedParameter, StackedVariable, Expression, ends, at_state, set_memory, let_go, allocate, local_of, placing, clearing, with_next, count_steps, stored, brought, opened, put_stacked, cleared_one, cleared, declared_stacked, declared_at, BuiltIn, Put, Protect, RaiseException, Walk, AddVectored, RemoveVectored, Operation, performed, Program, Function, weight, surplus, Lvalue, Local, Filter, Always, Funclet, Statements, is_reserved, Exception, Result, Value, Normal, Continued, LeftTry, Target, End, Handler, Task, IsPrefixOf, Place, Callee, ContinuationFrame, Operand, Assignment, InStatement, Sequel, Body, EndsCall, Lands, Finishes, Next, Over, Give, Start, Begin, Plan, Then, Push, operand_plan, assignment_plan, in_statement_plan, sequel_plan, body_plan, Machine, follow, unless_deep, unless_few, started, begun, fetched, put, operated, entered, built_in, called, asked_vectored, asked_by, asked, searched, target_landed, landed, finished, left_call, after_value, after_normal, after_body, resumed, given, outside, done, is_deep, with_local, Extends}
 use Rattle.c_operations.specs.Performed as performing
 use Rattle.source_meaning.specs.Tasks as tasks
 use Rattle.source_machine.specs.Frames as frames
@@ -98,6 +98,8 @@ begun_shows m (tasks.ForIteration c next s) p = follows m.state.events m _
 begun_shows m (tasks.DoIteration s c) p = prefix_self m.state.events
 begun_shows m (tasks.TryBody ss) p = prefix_self m.state.events
 begun_shows m (tasks.Raise exc) p = one m.state.events _
+begun_shows m (tasks.AskVectored f place exc) p =
+    unless_shows (is_deep m.state 2) m _ (prefix_self m.state.events)
 begun_shows m (tasks.RunFilter k e h exc) p =
     unless_shows (is_deep m.state 2) m _ (one m.state.events _)
 begun_shows m (tasks.RunFinally k last flag) p =
@@ -193,12 +195,19 @@ built_in_shows m Put vs p = one m.state.events _
 built_in_shows m Protect vs p = prefix_self m.state.events
 built_in_shows m RaiseException vs p = prefix_self m.state.events
 built_in_shows m Walk vs p = (_, refl)
+built_in_shows m (AddVectored f) vs p = prefix_self m.state.events
+built_in_shows m (RemoveVectored f) vs p = prefix_self m.state.events
 
 called_shows : (program : Program) (m : Machine) (callee : Callee) (vs : List ℕ) (p : Place)
     → Shows m.state.events (called program m callee vs p)
 called_shows program m (frames.Defined f) vs p =
     entered_shows program m f (slice_get program.functions f) vs
 called_shows program m (frames.BuiltInOf k) vs p = built_in_shows m k vs p
+
+asked_vectored_shows : (m : Machine) (f : Option ℕ) (place : ℕ) (exc : Exception) (p : Place)
+    → Shows m.state.events (asked_vectored m f place exc p)
+asked_vectored_shows m None place exc p = prefix_self m.state.events
+asked_vectored_shows m (Some f) place exc p = prefix_self m.state.events
 
 asked_by_shows : (m : Machine) (f : Filter) (h : Handler) (level : ℕ) (exc : Exception) (p : Place)
     → Shows m.state.events (asked_by m f h level exc p)
@@ -242,6 +251,10 @@ done_shows program m (frames.ClearElements v n p) = cleared_shows program v n p 
 done_shows program m (frames.Guard body filter block p) = prefix_self m.state.events
 done_shows program m (frames.Answer v) = one m.state.events _
 done_shows program m frames.LetGo = prefix_self m.state.events
+done_shows program m (frames.AskFrom place exc p) =
+    asked_vectored_shows m (slice_get m.state.vectored place) place exc p
+done_shows program m (frames.VectoredAnswer v place exc p) =
+    follows m.state.events (at_state m (let_go m.state)) _ (prefix_self m.state.events)
 done_shows program m (frames.Search level exc p) = searched_shows m level exc p
 
 pub extends : Extends

@@ -1,10 +1,10 @@
 -- Each step keeps what the machine comes to.
 use Rattle.std.proofs.Common.{◌≡◌, ℕ, zero, suc, ◌+◌, ◌-◌, List, [], ◌∷◌, ◌++◌, length, take, refl}
 use Rattle.std.proofs.Common.{sym, ap, ◌∙◌, arith, Option, Some, None}
-use Rattle.std.specs.Prelude.{nat_lt, slice_get}
+use Rattle.std.specs.Prelude.{nat_lt, ◌^◌, slice_get}
 use Rattle.std.proofs.lemmas.List.{append_assoc, append-nil, reverse-append, length-append}
 use Rattle.std.proofs.Math.Seq.{take-append_seam}
-use Rattle.source_machine.specs.Words.{StackedVariable, Expression, Normal, ends, evaluated, put_variable, close_part, part_of, declare_stacked, declare_at, declared_stacked, declared_at, BuiltIn, Put, Protect, RaiseException, Walk, Operation, performed, Program, Function, weight, surplus, Node, Lvalue, Local, Arguments, Done, Filter, Statements, Empty, Declared, Undefined, is_reserved, End, Gives, deeper, counting, with_value, and_then, Handler, Task, Does, counted, tried, locate, read, write, each, all, ended_call, enter, call_built_in, node, declare_each, statement, perform, does, Place, context_at, Callee, Next, Over, Give, Start, Begin, node_plan, find_plan, pass_plan, proceed_plan, declare_plan, Machine, follow, started, fetched, put, operated, entered, built_in, called, with_local, handler_at, guarded, without_last, done, is_deep, call, through, through_all, reaches, KeepsMeaning}
+use Rattle.source_machine.specs.Words.{StackedVariable, W32, low, let_go, at_state, Expression, Normal, ends, evaluated, put_variable, close_part, part_of, declare_stacked, declare_at, declared_stacked, declared_at, BuiltIn, Put, Protect, RaiseException, Walk, AddVectored, RemoveVectored, Operation, performed, Program, Function, weight, surplus, Node, Lvalue, Local, Arguments, Done, Filter, Statements, Empty, Declared, Undefined, is_reserved, End, Gives, deeper, counting, with_value, and_then, Handler, Task, Does, counted, tried, locate, read, write, each, all, ended_call, enter, call_built_in, node, declare_each, statement, perform, does, Place, context_at, Callee, Next, Over, Give, Start, Begin, node_plan, find_plan, pass_plan, proceed_plan, declare_plan, Machine, follow, started, fetched, put, operated, entered, built_in, called, with_local, handler_at, guarded, without_last, done, is_deep, call, through, through_all, reaches, KeepsMeaning}
 use Rattle.c_operations.specs.Performed as performing
 use Rattle.c_checked.specs.Expression as nodes
 use Rattle.c_checked.specs.Expression.{Next as Another}
@@ -14,9 +14,9 @@ use Rattle.source_meaning.specs.Tasks as tasks
 use Rattle.source_meaning.proofs.RemainingSteps.{does_is}
 use Rattle.source_machine.specs.Frames as frames
 use Rattle.source_machine.proofs.FrameKeeping.{comes, from, over_keeps, deep_keeps, few_keeps, evaluated_keeps}
-use Rattle.source_machine.proofs.FrameKeeping.{given_keeps}
+use Rattle.source_machine.proofs.FrameKeeping.{given_keeps, vectored_keeps}
 use Rattle.source_machine.proofs.StackKeeping.{end_of_call, opened_keeps, put_stacked_keeps, cleared_keeps}
-use Rattle.source_machine.proofs.TaskKeeping.{begun_keeps, searched_keeps}
+use Rattle.source_machine.proofs.TaskKeeping.{begun_keeps, searched_keeps, asked_vectored_keeps}
 
 module _ (program : Program) (d : Does) where
   node_keeps : (m : Machine) (n : Node) (p : Place)
@@ -90,6 +90,8 @@ module _ (program : Program) (d : Does) where
   built_in_keeps m Protect vs p = refl
   built_in_keeps m RaiseException vs p = refl
   built_in_keeps m Walk vs p = refl
+  built_in_keeps m (AddVectored f) vs p = refl
+  built_in_keeps m (RemoveVectored f) vs p = refl
 
   called_keeps : (m : Machine) (callee : Callee) (vs : List ℕ) (p : Place)
       → comes program d (called program m callee vs p)
@@ -212,6 +214,10 @@ module _ (program : Program) (d : Does) where
   done_keeps is m (frames.Guard body filter block p) = guarded_keeps m body filter block p
   done_keeps is m (frames.Answer v) = refl
   done_keeps is m frames.LetGo = refl
+  done_keeps is m (frames.AskFrom place exc p) = asked_vectored_keeps program d m place exc p
+  done_keeps is m (frames.VectoredAnswer v place exc p) =
+      vectored_keeps program d (nat_lt (low W32 v) (2 ^ 31)) exc.flag (at_state m (let_go m.state))
+      place exc p
   done_keeps is m (frames.Search level exc p) = searched_keeps program d m level exc p
 
 pub keeps_meaning : KeepsMeaning

@@ -1,7 +1,7 @@
 -- What is done next doesn't look at how many steps are left, unless it counts steps.
 use Rattle.std.proofs.Common.{◌≡◌, ℕ, zero, suc, List, [], ◌∷◌, length, refl, Option, Some, None}
 use Rattle.std.specs.Prelude.{Bool, true, false, nat_eq, slice_get}
-use Rattle.source_machine.specs.Words.{DataFrame, DataPart, StackedParameter, StackedVariable, Expression, ends, at_state, set_memory, allocate, local_of, placing, clearing, with_next, stored, brought, opened, put_stacked, cleared_one, declared_stacked, declared_at, BuiltIn, Put, Protect, RaiseException, Walk, Operation, performed, Program, Lvalue, Local, Filter, Always, Funclet, Statements, is_reserved, Exception, Result, Value, Normal, Continued, LeftTry, Target, End, Handler, Task, Place, ContinuationFrame, Operand, Assignment, InStatement, Sequel, Body, EndsCall, Lands, Finishes, Next, Over, Give, Start, Begin, Plan, Then, Push, operand_plan, assignment_plan, in_statement_plan, sequel_plan, body_plan, Machine, follow, unless_deep, begun, fetched, put, operated, built_in, asked_by, asked, searched, target_landed, landed, finished, left_call, after_value, after_normal, after_body, resumed, given, outside, done, is_deep, with_local}
+use Rattle.source_machine.specs.Words.{DataFrame, DataPart, StackedParameter, StackedVariable, Expression, ends, at_state, set_memory, let_go, allocate, local_of, placing, clearing, with_next, stored, brought, opened, put_stacked, cleared_one, declared_stacked, declared_at, BuiltIn, Put, Protect, RaiseException, Walk, AddVectored, RemoveVectored, Operation, performed, Program, Lvalue, Local, Filter, Always, Funclet, Statements, is_reserved, Exception, Result, Value, Normal, Continued, LeftTry, Target, End, Handler, Task, Place, ContinuationFrame, Operand, Assignment, InStatement, Sequel, Body, EndsCall, Lands, Finishes, Next, Over, Give, Start, Begin, Plan, Then, Push, operand_plan, assignment_plan, in_statement_plan, sequel_plan, body_plan, Machine, follow, unless_deep, begun, fetched, put, operated, built_in, asked_vectored, asked_by, asked, searched, target_landed, landed, finished, left_call, after_value, after_normal, after_body, resumed, given, outside, done, is_deep, with_local}
 use Rattle.c_operations.specs.Performed as performing
 use Rattle.source_meaning.specs.Tasks as tasks
 use Rattle.source_machine.specs.Frames as frames
@@ -84,6 +84,7 @@ module _ (l : ℕ) where
   begin m (tasks.DoIteration s c) p = refl
   begin m (tasks.TryBody ss) p = refl
   begin m (tasks.Raise exc) p = refl
+  begin m (tasks.AskVectored f place exc) p = unless (is_deep m.state 2) m _
   begin m (tasks.RunFilter k e h exc) p = unless (is_deep m.state 2) m _
   begin m (tasks.RunFinally k last flag) p = unless (is_deep m.state 2) m _
   begin m (tasks.Retry o a b) p = refl
@@ -110,6 +111,8 @@ module _ (l : ℕ) where
   built m Protect vs p = refl
   built m RaiseException vs p = refl
   built m Walk vs p = refl
+  built m (AddVectored f) vs p = refl
+  built m (RemoveVectored f) vs p = refl
 
   -- ---- the data stack
 
@@ -161,6 +164,11 @@ module _ (l : ℕ) where
   declare program m None x e p = follows (with_local m p x 0) _
   declare program m (Some v) x e p = declare_stacked program m v v.elements e p
 
+  ask_vectored : (m : Machine) (f : Option ℕ) (place : ℕ) (exc : Exception) (p : Place)
+      → asked_vectored (with_left l m) f place exc p ≡ with_left l (asked_vectored m f place exc p)
+  ask_vectored m None place exc p = refl
+  ask_vectored m (Some f) place exc p = refl
+
   ask_by : (m : Machine) (f : Filter) (h : Handler) (level : ℕ) (exc : Exception) (p : Place)
       → asked_by (with_left l m) f h level exc p ≡ with_left l (asked_by m f h level exc p)
   ask_by m Always h level exc p = refl
@@ -203,5 +211,8 @@ module _ (l : ℕ) where
   alike program m (frames.SetLocal x v p) = refl
   alike program m (frames.PutStacked v x p) = put_on program v x p ends m
   alike program m (frames.ClearElements v n p) = tt
+  alike program m (frames.AskFrom place exc p) =
+      ask_vectored m (slice_get m.state.vectored place) place exc p
+  alike program m (frames.VectoredAnswer v place exc p) = follows (at_state m (let_go m.state)) _
   alike program m (frames.Search level exc p) = searches m level exc p
   alike program m y = refl

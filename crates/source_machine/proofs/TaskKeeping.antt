@@ -3,7 +3,7 @@ use Rattle.std.proofs.Common.{◌≡◌, ℕ, zero, suc, ◌<◌, length, refl, 
 use Rattle.std.proofs.Common.{Some, None}
 use Rattle.std.specs.Prelude.{slice_get}
 use Rattle.std.proofs.lemmas.Option.{slice_get_within}
-use Rattle.source_machine.specs.Words.{Program, On, Filter, Always, Funclet, Statement, Unhandled, Exception, choose, deeper, with_value, and_then, emit, Handler, Task, Does, statement, in_loop, finally_after, raise_event, search_by, search, perform, Place, context_at, ends, statement_plan, Machine, follow, begun, asked_by, asked, searched, is_deep, found, below}
+use Rattle.source_machine.specs.Words.{Program, On, Filter, Always, Funclet, Statement, Unhandled, Exception, choose, deeper, with_value, and_then, Handler, Task, Does, statement, in_loop, finally_after, search_by, search, ask_at, ask_from, perform, Place, context_at, ends, statement_plan, Machine, follow, begun, asked_vectored, asked_by, asked, searched, is_deep, found, below}
 use Rattle.c_checked.specs.Statement as statements
 use Rattle.source_meaning.specs.Tasks as tasks
 use Rattle.source_machine.specs.Frames as frames
@@ -41,6 +41,22 @@ module _ (program : Program) (d : Does) where
   searched_keeps m zero exc p = over_keeps program d m (Some (Unhandled (record { 0 = exc.code })))
   searched_keeps m (suc k) exc p = asked_keeps m (slice_get m.handlers k) k exc p refl
 
+  -- ---- vectored handlers are asked
+
+  asked_at_keeps : (m : Machine) (f : Option ℕ) (place : ℕ) (exc : Exception) (p : Place)
+      → comes program d (asked_vectored m f place exc p)
+      ≡ from program d m (ask_at d f place exc (context_at m.handlers p) m.state)
+  asked_at_keeps m None place exc p =
+      ap (λ hs. from program d m (search d hs exc (context_at m.handlers p) m.state))
+      (all_below m.handlers)
+  asked_at_keeps m (Some f) place exc p = refl
+
+  pub asked_vectored_keeps : (m : Machine) (place : ℕ) (exc : Exception) (p : Place)
+      → comes program d (asked_vectored m (slice_get m.state.vectored place) place exc p)
+      ≡ from program d m (ask_from d place exc (context_at m.handlers p) m.state)
+  asked_vectored_keeps m place exc p =
+      asked_at_keeps m (slice_get m.state.vectored place) place exc p
+
   -- ---- statements
 
   statement_keeps : (m : Machine) (s : Statement) (p : Place)
@@ -71,9 +87,9 @@ module _ (program : Program) (d : Does) where
       p) c p _ 1 refl
   begun_keeps m (tasks.DoIteration s c) p = refl
   begun_keeps m (tasks.TryBody ss) p = refl
-  begun_keeps m (tasks.Raise exc) p =
-      ap (λ hs. from program d m (search d hs exc (context_at m.handlers p)
-      (emit (raise_event exc) m.state))) (all_below m.handlers)
+  begun_keeps m (tasks.Raise exc) p = refl
+  begun_keeps m (tasks.AskVectored f place exc) p =
+      deep_keeps program d (is_deep m.state 2) m _ _ refl
   begun_keeps m (tasks.RunFilter k e h exc) p = deep_keeps program d (is_deep m.state 2) m _ _ refl
   begun_keeps m (tasks.RunFinally k last flag) p =
       deep_keeps program d (is_deep m.state 2) m _ _ refl

@@ -2,11 +2,14 @@
 use Rattle.std.specs.Prelude.{[], ◌∷◌, pos, None}
 use Rattle.c_operations.specs.declared.operation.Size.TheVariants.{Int}
 use Rattle.c_checked.specs.Expression.{Constant, Call, Done}
-use Rattle.c_checked.specs.Statement.{Statement, Always, Funclet, Leave, Evaluate}
+use Rattle.c_checked.specs.Statement.{Statement, Always, Funclet, If, Leave, Evaluate}
 use Rattle.c_checked.specs.Program.{Program}
-use Rattle.source_meaning.specs.Short.{kept, long, lit, raise, put, answer, except, finally, function, main_alone, with_main}
+use Rattle.source_meaning.specs.Short.{kept, long, lit, equal, local, evaluate, add_vectored, raise}
+use Rattle.source_meaning.specs.Short.{put, answer, except, finally, function, main_alone}
+use Rattle.source_meaning.specs.Short.{with_main}
 use Rattle.source_meaning.specs.Rows.{sum_and_return, null_store_caught, filter_then_finally, continue_same_operand, return_flags, leave_flags, raise_in_filter, raise_in_finally, continue_noncontinuable}
 use Rattle.source_meaning.specs.MoreRows.{reserved_access}
+use Rattle.source_meaning.specs.VectoredRows as vectored
 use Rattle.source_machine.specs.Tame.{Tame}
 use Rattle.source_machine.specs.Plain.{Plain}
 
@@ -22,7 +25,8 @@ TameRows =
 -- ---- Plain
 
 -- no exception; one with a handler; one with a filter and then a `__finally`; one that a filter
--- continues; and C0000025, raised after a filter has answered
+-- continues; C0000025, raised after a filter has answered; vectored handlers that pass on and that
+-- continue; and C0000025, raised after one has answered
 abbrev pub PlainRows : Type 0
 PlainRows =
     Plain sum_and_return (pos 0) 100
@@ -32,6 +36,9 @@ PlainRows =
     × Plain return_flags (pos 0) 100
     × Plain leave_flags (pos 0) 100
     × Plain continue_noncontinuable (pos 0) 100
+    × Plain vectored.asked_first (pos 0) 100
+    × Plain vectored.continues (pos 0) 100
+    × Plain vectored.asked_again (pos 0) 100
 
 -- int f(void){ __try{ RaiseException(0xE0000002,0,0,0); } __except(1){ } return 1; }
 -- int main(void){ __try{ RaiseException(0xE0000001,0,0,0); } __except(f()){ put(1); } return 0; }
@@ -47,6 +54,18 @@ abbrev pub RaisesInFilters : Type 0
 RaisesInFilters =
     (Plain raise_in_filter (pos 0) 100 → ⊥)
     × (Plain handled_in_filter (pos 0) 100 → ⊥)
+
+-- int v(unsigned c, unsigned f){ if (c == 0xE0000001) RaiseException(0xE0000002,0,0,0); return 0; }
+-- int main(void){ AddVectoredExceptionHandler(1, v); __try{ RaiseException(0xE0000001,0,0,0); }
+-- __except(1){ } return 0; }
+abbrev pub raise_in_vectored : Program
+raise_in_vectored =
+    with_main [] (function (Int ∷ Int ∷ []) []
+    (If (kept (equal (local 0) (lit 0xE0000001))) (raise 0xE0000002 0) ∷ answer (lit 0) ∷ []) ∷ [])
+    (evaluate (add_vectored 0 1) ∷ except (raise 0xE0000001 0 ∷ []) Always [] ∷ answer (lit 0) ∷ [])
+
+abbrev pub RaisesInVectored : Type 0
+RaisesInVectored = Plain raise_in_vectored (pos 0) 100 → ⊥
 
 -- int main(void){ __try{ __try{ BODY } __finally{ RaiseException(0xE0000002,0,0,0); } }
 -- __except(1){ put(2); } return 0; }

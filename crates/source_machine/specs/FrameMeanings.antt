@@ -21,7 +21,7 @@ use Rattle.source_meaning.specs.Expressions.{call_built_in, node, stacked_addres
 use Rattle.source_meaning.specs.DataStack.{close_part, reset_pointer, put, clear}
 use Rattle.source_meaning.specs.Statements.{optional, declare, declare_each, in_loop, landing}
 use Rattle.source_meaning.specs.Statements.{finally_after, statement}
-use Rattle.source_meaning.specs.Raises.{answered, search}
+use Rattle.source_meaning.specs.Raises.{answered, search, ask_from, vectored_answered}
 use Rattle.source_meaning.specs.Meaning.{perform}
 use Rattle.source_machine.specs.Frames as frames
 use Rattle.source_machine.specs.Frames.{Place, context_at, Callee, ForLoop, OperandFrame}
@@ -151,6 +151,8 @@ module _ (program : Program) (d : Does) where
   in_statement_meaning hs (frames.IsAnswered level exc p) v st =
       answered d v level exc (context_at hs p) st
       (λ st. search d (below level hs) exc (context_at hs p) st)
+  in_statement_meaning hs (frames.EndsVectored place exc p) v st =
+      vectored_answered d v place exc (context_at hs p) (let_go st)
 
   -- ---- what waits for a normal end, when it is there
 
@@ -224,6 +226,9 @@ module _ (program : Program) (d : Does) where
   next_meaning hs (frames.Answer v) st =
       Gives (Value v) (emit (events.Answer (signed W32 v)) (let_go st))
   next_meaning hs frames.LetGo st = Gives Normal (let_go st)
+  next_meaning hs (frames.AskFrom place exc p) st = ask_from d place exc (context_at hs p) st
+  next_meaning hs (frames.VectoredAnswer v place exc p) st =
+      vectored_answered d v place exc (context_at hs p) (let_go st)
   next_meaning hs (frames.Search level exc p) st =
       search d (below level hs) exc (context_at hs p) st
 

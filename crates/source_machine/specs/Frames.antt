@@ -91,7 +91,7 @@ pub data AssignmentFrame : Type 0 where
   AssignsStepped : Stepped → ℕ → ℕ → Place → AssignmentFrame
   GivesStepped : Fixity → ℕ → AssignmentFrame
 
--- what waits for a value in a statement, or for a filter's answer
+-- what waits for a value in a statement, or for an answer of a filter or a vectored handler
 pub data StatementFrame : Type 0 where
   Initialises : ℕ → Place → StatementFrame
   InitialisesStacked : StackedVariable → Place → StatementFrame
@@ -104,6 +104,8 @@ pub data StatementFrame : Type 0 where
   EndsFilter : StatementFrame
   -- a handler's number among the machine's
   IsAnswered : ℕ → Exception → Place → StatementFrame
+  -- a vectored handler's answer, by its place in their list
+  EndsVectored : (place : ℕ) → Exception → Place → StatementFrame
 
 -- what waits for a normal end
 pub data SequelFrame : Type 0 where
@@ -166,6 +168,9 @@ pub data Next : Type 0 where
   -- a filter's answer, and the end of a `__finally` block
   Answer : ℕ → Next
   LetGo : Next
+  -- the vectored handlers from a place of their list on are asked, and what one has answered
+  AskFrom : (place : ℕ) → Exception → Place → Next
+  VectoredAnswer : ℕ → (place : ℕ) → Exception → Place → Next
   -- the handlers below this number are asked, the highest first
   Search : ℕ → Exception → Place → Next
 

@@ -1,13 +1,16 @@
 -- The machine, and its step.
-use Rattle.std.specs.Prelude.{ℕ, zero, suc, ◌+◌, ◌-◌, ◌++◌, Bool, true, false, nat_eq, nat_lt, List}
+use Rattle.std.specs.Prelude.{ℕ, zero, suc, ◌+◌, ◌-◌, ◌++◌, ◌^◌, Bool, true, false, not, nat_eq}
+use Rattle.std.specs.Prelude.{nat_lt, List}
 use Rattle.std.specs.Prelude.{[], ◌∷◌, length, reverse, take, replicate, get_or, slice_get, Option, Some}
 use Rattle.std.specs.Prelude.{None, is_some}
 use Rattle.seh_num.specs.declared.width.Width.TheVariants.{W32, W64}
 use Rattle.seh_num.specs.declared.event.Event.TheVariants as events
-use Rattle.seh_num.specs.Widths.{signed}
+use Rattle.seh_num.specs.Widths.{low, signed}
 use Rattle.flat_memory.specs.Memory.{Memory, protected, rights_asked}
 use Rattle.c_operations.specs.declared.built_in.BuiltIn.{BuiltIn}
-use Rattle.c_operations.specs.declared.built_in.BuiltIn.TheVariants.{Put, Protect, RaiseException, Walk}
+use Rattle.c_operations.specs.declared.built_in.BuiltIn.TheVariants.{Put, Protect, RaiseException}
+use Rattle.c_operations.specs.declared.built_in.BuiltIn.TheVariants.{Walk, AddVectored}
+use Rattle.c_operations.specs.declared.built_in.BuiltIn.TheVariants.{RemoveVectored}
 use Rattle.c_operations.specs.declared.operation.Operation.{Operation}
 use Rattle.c_operations.specs.Performed as performing
 use Rattle.c_operations.specs.Performed.{performed}
@@ -20,7 +23,8 @@ use Rattle.c_checked.specs.declared.statement.StackedVariable.{StackedVariable}
 use Rattle.source_meaning.specs.declared.ended.Ended.TheVariants.{Unhandled, Undefined, Deep}
 use Rattle.source_meaning.specs.Source.{is_reserved}
 use Rattle.source_meaning.specs.State.{Exception, State, Result, Value, Normal, Returned, Broke, Continued}
-use Rattle.source_meaning.specs.State.{LeftTry, Target, End, frame_of, local_of, set_local, set_memory, emit, hold}
+use Rattle.source_meaning.specs.State.{LeftTry, Target, End, frame_of, local_of, set_local}
+use Rattle.source_meaning.specs.State.{set_memory, set_vectored, emit, hold}
 use Rattle.source_meaning.specs.State.{let_go, depth, with_activation, with_outermost, emit_all}
 use Rattle.source_meaning.specs.State.{walk_events, hold_surplus, let_go_surplus, count_steps}
 use Rattle.source_meaning.specs.Tasks as tasks
@@ -28,7 +32,8 @@ use Rattle.source_meaning.specs.Tasks.{Handler, DataPart, part_of, Task}
 use Rattle.source_meaning.specs.DataStack.{placing, clearing, memory_above, allocate}
 use Rattle.source_meaning.specs.DataStack.{reset_pointer, reset_pointer_if}
 use Rattle.source_meaning.specs.Expressions.{of_test, no_exception, raised, stacked_address}
-use Rattle.source_meaning.specs.Raises.{raise_event}
+use Rattle.source_meaning.specs.Raises.{raise_event, handler_arguments}
+use Rattle.vectored_list.specs.Lists.{is_listed, can_be_added, added, removed}
 use Rattle.source_meaning.specs.declared.depth.TheConstants.{DEEPEST, TOO_DEEP}
 use Rattle.source_machine.specs.Frames as frames
 use Rattle.source_machine.specs.Frames.{Place, context_at, Callee, ForLoop, ContinuationFrame, Operand, Assignment}
@@ -37,7 +42,8 @@ use Rattle.source_machine.specs.Frames.{Over, Give, Start, Begin, Plan, Then, Pu
 use Rattle.source_machine.specs.Plans.{node_plan, expression_plan, find_plan, pass_plan}
 use Rattle.source_machine.specs.Plans.{operand_plan, assignment_plan, load_plan, store_plan}
 use Rattle.source_machine.specs.Plans.{ends, proceed_plan, declare_plan, evaluates, evaluated, for_body}
-use Rattle.source_machine.specs.Plans.{statement_plan, in_statement_plan, sequel_plan, body_plan}
+use Rattle.source_machine.specs.Plans.{statement_plan, in_statement_plan, vectored_plan}
+use Rattle.source_machine.specs.Plans.{sequel_plan, body_plan}
 
 -- a state with the handlers around the place where it continues, outermost first; what waits,
 -- newest first; and what is done next
@@ -93,8 +99,13 @@ begun m (tasks.TryBody ss) p = with_next m (frames.Proceed ss p)
 begun m (tasks.Raise exc) p =
     record m {
       state = emit (raise_event exc) m.state;
-      next = frames.Search (length m.handlers) exc p;
+      next = frames.AskFrom 0 exc p;
     }
+begun m (tasks.AskVectored f place exc) p =
+    unless_deep (is_deep m.state 2) m
+    (follow (at_state m (hold m.state))
+    (Push (InStatement (frames.EndsVectored place exc p))
+    (frames.Call (frames.Defined f) (handler_arguments exc) p)))
 begun m (tasks.RunFilter k e h exc) p =
     unless_deep (is_deep m.state 2) m
     (follow (at_state m (emit (events.Filter k) (hold m.state)))
@@ -208,6 +219,14 @@ built_in m Protect vs p =
 built_in m RaiseException vs p =
     follow m (Push (Sequel frames.GivesZero)
     (Start (tasks.Raise (raised (get_or vs 0 0) (get_or vs 1 0))) p))
+built_in m (AddVectored f) vs p =
+    with_next
+    (at_state m (set_vectored m.state
+    (added (not (nat_eq (low W32 (get_or vs 0 0)) 0)) f m.state.vectored)))
+    (Give (Value (of_test (can_be_added f m.state.vectored))))
+built_in m (RemoveVectored f) vs p =
+    with_next (at_state m (set_vectored m.state (removed f m.state.vectored)))
+    (Give (Value (of_test (is_listed f m.state.vectored))))
 built_in m Walk vs p =
     with_next (at_state m (emit_all (walk_events (reverse m.state.functions)) m.state))
     (Give (Value 0))
@@ -250,6 +269,11 @@ guarded m body filter block p = record m {
 
 abbrev pub unhandled : Machine → Exception → Machine
 unhandled m exc = over m (End (Some (Unhandled (record { 0 = exc.code }))))
+
+-- a vectored handler, or where there is none at the place the handlers
+abbrev pub asked_vectored : Machine → Option ℕ → (place : ℕ) → Exception → Place → Machine
+asked_vectored m None place exc p = with_next m (frames.Search (length m.handlers) exc p)
+asked_vectored m (Some f) place exc p = with_next m (Start (tasks.AskVectored f place exc) p)
 
 abbrev pub asked_by : Machine → Filter → Handler → ℕ → Exception → Place → Machine
 asked_by m Always h level exc p = with_next m (Give (Target level exc))
@@ -376,6 +400,11 @@ done program m (frames.Guard body filter block p) = guarded m body filter block 
 done program m (frames.Answer v) =
     with_next (at_state m (emit (events.Answer (signed W32 v)) (let_go m.state))) (Give (Value v))
 done program m frames.LetGo = with_next (at_state m (let_go m.state)) (Give Normal)
+done program m (frames.AskFrom place exc p) =
+    asked_vectored m (slice_get m.state.vectored place) place exc p
+done program m (frames.VectoredAnswer v place exc p) =
+    follow (at_state m (let_go m.state))
+    (vectored_plan (nat_lt (low W32 v) (2 ^ 31)) exc.flag place exc p)
 done program m (frames.Search level exc p) = searched m level exc p
 
 abbrev pub step : Program → Machine → Machine

@@ -1,5 +1,6 @@
 -- What is done next where nothing but the program's text and a value decides it.
-use Rattle.std.specs.Prelude.{ℕ, ◌++◌, Bool, true, false, not, nat_eq, nat_lt, ◌^◌, List, [], ◌∷◌}
+use Rattle.std.specs.Prelude.{ℕ, ◌+◌, ◌++◌, Bool, true, false, not, nat_eq, nat_lt, ◌^◌, List, []}
+use Rattle.std.specs.Prelude.{◌∷◌}
 use Rattle.std.specs.Prelude.{Option, Some, None}
 use Rattle.seh_num.specs.declared.width.Width.TheVariants.{W32}
 use Rattle.seh_num.specs.Widths.{low}
@@ -215,6 +216,12 @@ answer_plan false true flag level exc p = Then (Give (Target level exc))
 answer_plan false false true level exc p = Then (Start (tasks.Raise noncontinuable) p)
 answer_plan false false false level exc p = ends
 
+-- a vectored handler's answer below 0 continues, and after any other the next one is asked
+abbrev pub vectored_plan : Bool → Bool → (place : ℕ) → Exception → Place → Plan
+vectored_plan true flag place exc p = Then (frames.AskFrom (place + 1) exc p)
+vectored_plan false true place exc p = Then (Start (tasks.Raise noncontinuable) p)
+vectored_plan false false place exc p = ends
+
 abbrev pub in_statement_plan : StatementFrame → ℕ → Plan
 in_statement_plan (frames.Initialises x p) v = Then (frames.SetLocal x v p)
 in_statement_plan (frames.InitialisesStacked x p) v = Then (frames.PutStacked x v p)
@@ -228,6 +235,7 @@ in_statement_plan frames.Returns v = Then (Give (Returned v))
 in_statement_plan frames.EndsFilter v = Then (frames.Answer v)
 in_statement_plan (frames.IsAnswered level exc p) v =
     answer_plan (nat_eq (low W32 v) 0) (nat_lt (low W32 v) (2 ^ 31)) exc.flag level exc p
+in_statement_plan (frames.EndsVectored place exc p) v = Then (frames.VectoredAnswer v place exc p)
 
 abbrev pub sequel_plan : SequelFrame → Plan
 sequel_plan (frames.Continues ss p) = Then (frames.Proceed ss p)

@@ -47,6 +47,7 @@ assignment_worth (frames.GivesStepped m x) = 1
 
 abbrev pub statement_worth : StatementFrame → ℕ
 statement_worth (frames.IsAnswered level exc p) = 5
+statement_worth (frames.EndsVectored place exc p) = 5
 statement_worth f = 2
 
 abbrev pub sequel_worth : SequelFrame → ℕ
@@ -88,6 +89,8 @@ next_worth (frames.ClearElements v n p) = 21
 next_worth (frames.Guard body filter block p) = 21
 next_worth (frames.Answer v) = 21
 next_worth frames.LetGo = 21
+next_worth (frames.AskFrom place exc p) = 22
+next_worth (frames.VectoredAnswer v place exc p) = 23
 next_worth (frames.Search level exc p) = 21
 
 abbrev pub distance : Machine → ℕ

@@ -7,4 +7,5 @@ pub mod MoreSteps
 pub mod Rows
 pub mod MoreRows
 pub mod WalkRows
+pub mod VectoredRows
 pub mod SoundRows

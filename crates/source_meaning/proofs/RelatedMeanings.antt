@@ -1,5 +1,5 @@
 -- Where two meanings of the tasks inside a task are related, so is what the task does.
-use Rattle.std.proofs.Common.{ℕ, zero, suc, List, [], ◌∷◌, length, Option, Some, None}
+use Rattle.std.proofs.Common.{ℕ, zero, suc, ◌+◌, List, [], ◌∷◌, length, Option, Some, None}
 use Rattle.std.specs.Prelude.{Bool, nat_eq, slice_get}
 use Rattle.c_operations.specs.declared.operation.Operation.{Operation}
 use Rattle.c_operations.specs.declared.operation.Operation.TheVariants.{Load, Store}
@@ -7,12 +7,12 @@ use Rattle.c_operations.specs.Performed as performing
 use Rattle.c_operations.specs.Performed.{performed}
 use Rattle.c_checked.specs.declared.expression.Access.{Access}
 use Rattle.c_operations.specs.declared.built_in.BuiltIn.{BuiltIn}
-use Rattle.c_operations.specs.declared.built_in.BuiltIn.TheVariants.{Put, Protect, RaiseException, Walk}
+use Rattle.c_operations.specs.declared.built_in.BuiltIn.TheVariants.{Put, Protect, RaiseException, Walk, AddVectored, RemoveVectored}
 use Rattle.c_checked.specs.Expression as nodes
 use Rattle.c_checked.specs.Expression.{Expression, On, Node, Lvalue, Local, Global, Stacked, Indirection, Element, Arguments, Done, Next}
 use Rattle.c_checked.specs.Statement.{Declared, Filter, Always, Funclet, Statement, Declare, Block, Evaluate, If, IfElse, For, DoWhile, Return, Break, Continue, Leave, TryExcept, TryFinally, Statements, Empty, Then}
-use Rattle.source_meaning.specs.Words.{Event, Program, Function, DataFrame, StackedParameter, StackedVariable, weight, surplus, Unhandled, Undefined, Exception, State, local_of, Value, Normal, Returned, Broke, Continued, LeftTry, Target, End, Outcome, set_memory, Handler, DataPart, part_of, Context, Task, Eval, Locate, Run, ForIteration, DoIteration, TryBody, Raise, RunFilter, RunFinally, Retry, Does, tried, operate, locate, load, read, write, each, all, enter, call_built_in, node, expression, optional, declare_stacked, declare_at, declare, declare_each, statement, for_iteration, do_iteration, perform, placing, clearing, bring, open_frame, close_part, put, clear}
-use Rattle.source_meaning.specs.Raises.{noncontinuable, answered, search_by, search, run_filter, run_finally}
+use Rattle.source_meaning.specs.Words.{Event, Program, Function, DataFrame, StackedParameter, StackedVariable, weight, surplus, Unhandled, Undefined, Exception, State, local_of, Value, Normal, Returned, Broke, Continued, LeftTry, Target, End, Outcome, set_memory, Handler, DataPart, part_of, Context, Task, Eval, Locate, Run, ForIteration, DoIteration, TryBody, Raise, AskVectored, RunFilter, RunFinally, Retry, Does, tried, operate, locate, load, read, write, each, all, enter, call_built_in, node, expression, optional, declare_stacked, declare_at, declare, declare_each, statement, for_iteration, do_iteration, perform, placing, clearing, bring, open_frame, close_part, put, clear}
+use Rattle.source_meaning.specs.Raises.{noncontinuable, continued, answered, search_by, search, ask_at, ask_from, vectored_answered, handler_arguments, ask_vectored, run_filter, run_finally}
 use Rattle.source_meaning.specs.Source.{is_reserved}
 use Rattle.source_meaning.proofs.Relations.{Relation, Go, GoWith, give, value_go, then_go, loop_go}
 use Rattle.source_meaning.proofs.Relations.{choice_go, deeper_go, counting_go, landing_go, finally_go, ended_go, given_go, close_go}
@@ -135,6 +135,8 @@ module _ (R : Relation) (program : Program) (f g : Does) (alike : Related R f g)
   built_in_go RaiseException vs context =
       λ a st l n. then_go R _ _ (give R (Value 0)) a _ _ _ (alike (Raise _) context a st l n)
   built_in_go Walk vs context = λ a st l n. R.later a _ _ _ _ (give R (Value 0) a _ l n)
+  built_in_go (AddVectored handler) vs context = λ a st l n. give R (Value _) a _ l n
+  built_in_go (RemoveVectored handler) vs context = λ a st l n. give R (Value _) a _ l n
 
   node_go : (n : Node) (context : Context) → Go R (node program f n context)
       (node program g n context)
@@ -275,12 +277,17 @@ module _ (R : Relation) (program : Program) (f g : Does) (alike : Related R f g)
 
   -- ---- raises
 
+  continued_go : (exc : Exception) (context : Context)
+      → Go R (continued f exc context) (continued g exc context)
+  continued_go exc context =
+      choice_go R exc.flag _ _ _ _ (alike (Raise noncontinuable) context) (give R Normal)
+
   answered_go : (v level : ℕ) (exc : Exception) (context : Context) (k k' : State → Outcome)
       → Go R k k' → Go R (λ st. answered f v level exc context st k)
       (λ st. answered g v level exc context st k')
   answered_go v level exc context k k' h =
       choice_go R _ _ _ _ _ h (choice_go R _ _ _ _ _ (give R (Target level exc))
-      (choice_go R _ _ _ _ _ (alike (Raise noncontinuable) context) (give R Normal)))
+      (continued_go exc context))
 
   by_go : (filter : Filter) (h : Handler) (level : ℕ) (exc : Exception) (context : Context)
       (k k' : State → Outcome) → Go R k k' → Go R
@@ -296,6 +303,30 @@ module _ (R : Relation) (program : Program) (f g : Does) (alike : Related R f g)
   search_go [] exc context = give R (End (Some (Unhandled _)))
   search_go (h ∷ outer) exc context =
       by_go h.filter h (length outer) exc context _ _ (search_go outer exc context)
+
+  ask_at_go : (h : Option ℕ) (place : ℕ) (exc : Exception) (context : Context)
+      → Go R (ask_at f h place exc context) (ask_at g h place exc context)
+  ask_at_go None place exc context = search_go context.handlers exc context
+  ask_at_go (Some handler) place exc context = alike (AskVectored handler place exc) context
+
+  ask_go : (place : ℕ) (exc : Exception) (context : Context)
+      → Go R (ask_from f place exc context) (ask_from g place exc context)
+  ask_go place exc context a st l n =
+      ask_at_go (slice_get st.vectored place) place exc context a st l n
+
+  vectored_go : (v place : ℕ) (exc : Exception) (context : Context)
+      → Go R (vectored_answered f v place exc context) (vectored_answered g v place exc context)
+  vectored_go v place exc context =
+      choice_go R _ _ _ _ _ (ask_go (place + 1) exc context) (continued_go exc context)
+
+  ask_vectored_go : (handler place : ℕ) (exc : Exception) (context : Context)
+      → Go R (ask_vectored program f handler place exc context)
+      (ask_vectored program g handler place exc context)
+  ask_vectored_go handler place exc context =
+      deeper_go R 2 _ _ (λ a st l n. value_go R _ _
+      (λ v a st l n. vectored_go v place exc context a _ l n) a _ _ _
+      (enter_go handler (slice_get program.functions handler) (handler_arguments exc) context a _ l
+      n))
 
   run_filter_go : (k : ℕ) (e : Expression) (h : Handler) (exc : Exception) (context : Context)
       → Go R (run_filter f k e h exc context) (run_filter g k e h exc context)
@@ -318,7 +349,8 @@ module _ (R : Relation) (program : Program) (f g : Does) (alike : Related R f g)
   perform_go (DoIteration s c) context = do_go s c context
   perform_go (TryBody ss) context = all_go ss context
   perform_go (Raise exc) context =
-      λ a st l n. R.later a _ _ _ _ (search_go context.handlers exc context a _ l n)
+      λ a st l n. R.later a _ _ _ _ (ask_go 0 exc context a _ l n)
+  perform_go (AskVectored handler place exc) context = ask_vectored_go handler place exc context
   perform_go (RunFilter k e h exc) context = run_filter_go k e h exc context
   perform_go (RunFinally k last flag) context = run_finally_go k last flag context
   perform_go (Retry o x y) context = operate_go o x y context

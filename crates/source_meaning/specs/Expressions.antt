@@ -21,7 +21,9 @@ use Rattle.c_checked.specs.declared.expression.Access.{Access}
 use Rattle.c_checked.specs.declared.expression.Conversion.{Conversion}
 use Rattle.c_checked.specs.declared.expression.Conversion.TheVariants.{Kept, Extend, Scale}
 use Rattle.c_operations.specs.declared.built_in.BuiltIn.{BuiltIn}
-use Rattle.c_operations.specs.declared.built_in.BuiltIn.TheVariants.{Put, Protect, RaiseException, Walk}
+use Rattle.c_operations.specs.declared.built_in.BuiltIn.TheVariants.{Put, Protect, RaiseException}
+use Rattle.c_operations.specs.declared.built_in.BuiltIn.TheVariants.{Walk, AddVectored}
+use Rattle.c_operations.specs.declared.built_in.BuiltIn.TheVariants.{RemoveVectored}
 use Rattle.c_checked.specs.declared.expression.Fixity.{Fixity}
 use Rattle.c_checked.specs.declared.expression.Fixity.TheVariants.{Postfix, Prefix}
 use Rattle.c_checked.specs.Expression as nodes
@@ -33,10 +35,12 @@ use Rattle.c_checked.specs.Program.{Program, Function, weight, surplus}
 use Rattle.source_meaning.specs.declared.ended.Ended.TheVariants.{Undefined}
 use Rattle.source_meaning.specs.Source.{is_reserved}
 use Rattle.source_meaning.specs.State.{Exception, State, Value, Normal, Returned, Target, End, Outcome}
-use Rattle.source_meaning.specs.State.{Gives, choose, local_of, set_local, set_memory, emit, deeper}
+use Rattle.source_meaning.specs.State.{Gives, choose, local_of, set_local, set_memory, set_vectored}
+use Rattle.source_meaning.specs.State.{emit, deeper}
 use Rattle.source_meaning.specs.State.{with_value, and_then, with_activation, with_outermost}
 use Rattle.source_meaning.specs.State.{emit_all, walk_events, counting, hold_surplus, let_go_surplus}
 use Rattle.source_meaning.specs.DataStack.{open_frame, close_part}
+use Rattle.vectored_list.specs.Lists.{is_listed, can_be_added, added, removed}
 use Rattle.source_meaning.specs.Tasks.{Context, part_of, Eval, Locate, Run, Raise, Retry, Does}
 
 -- ---- values
@@ -208,6 +212,11 @@ call_built_in does Protect vs context st =
 call_built_in does RaiseException vs context st =
     and_then (does (Raise (raised (get_or vs 0 0) (get_or vs 1 0))) context st)
     (λ st. Gives (Value 0) st)
+call_built_in does (AddVectored f) vs context st =
+    Gives (Value (of_test (can_be_added f st.vectored)))
+    (set_vectored st (added (not (nat_eq (low W32 (get_or vs 0 0)) 0)) f st.vectored))
+call_built_in does (RemoveVectored f) vs context st =
+    Gives (Value (of_test (is_listed f st.vectored))) (set_vectored st (removed f st.vectored))
 call_built_in does Walk vs context st =
     Gives (Value 0) (emit_all (walk_events (reverse st.functions)) st)
 

@@ -13,13 +13,15 @@ use Rattle.source_meaning.specs.Source.{first_memory}
 use Rattle.source_meaning.specs.State.{State, Value, End, Outcome, Gives, choose, deeper, with_value}
 use Rattle.source_meaning.specs.State.{and_then}
 use Rattle.source_meaning.specs.Tasks.{Context, Eval, Locate, Run, ForIteration, DoIteration, TryBody}
-use Rattle.source_meaning.specs.Tasks.{Raise, RunFilter, RunFinally, Retry, Does, counted}
+use Rattle.source_meaning.specs.Tasks.{Raise, AskVectored, RunFilter, RunFinally, Retry, Does}
+use Rattle.source_meaning.specs.Tasks.{counted}
 use Rattle.source_meaning.specs.Expressions.{no_exception, operate, locate, all, ended_call, enter}
 use Rattle.source_meaning.specs.Expressions.{expression}
 use Rattle.source_meaning.specs.Statements.{in_loop, landing, finally_after, statement, for_iteration}
 use Rattle.source_meaning.specs.Statements.{do_iteration}
 use Rattle.source_meaning.specs.DataStack.{given, close, clear}
-use Rattle.source_meaning.specs.Raises.{raise_event, search, run_filter, run_finally}
+use Rattle.source_meaning.specs.Raises.{raise_event, ask_from, ask_vectored, run_filter}
+use Rattle.source_meaning.specs.Raises.{run_finally}
 use Rattle.source_meaning.specs.State.{emit, counting}
 
 -- what each task does, given what the tasks inside it do
@@ -31,7 +33,9 @@ perform program does (ForIteration c next s) context st = for_iteration does c n
 perform program does (DoIteration s c) context st = do_iteration does s c context st
 perform program does (TryBody ss) context st = all does ss context st
 perform program does (Raise exc) context st =
-    search does context.handlers exc context (emit (raise_event exc) st)
+    ask_from does 0 exc context (emit (raise_event exc) st)
+perform program does (AskVectored f place exc) context st =
+    ask_vectored program does f place exc context st
 perform program does (RunFilter k e h exc) context st = run_filter does k e h exc context st
 perform program does (RunFinally k last flag) context st = run_finally does k last flag context st
 perform program does (Retry o a b) context st = operate program does o a b context st
@@ -55,6 +59,7 @@ start program n =
       functions = [];
       held = 0;
       events = [];
+      vectored = [];
     }
 
 abbrev pub outside : Context

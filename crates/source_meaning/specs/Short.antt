@@ -11,6 +11,7 @@ use Rattle.c_operations.specs.declared.operation.Signedness.TheVariants.{Signed,
 use Rattle.c_checked.specs.declared.expression.Access.{Access}
 use Rattle.c_checked.specs.declared.expression.Conversion.TheVariants.{Kept, Extend}
 use Rattle.c_operations.specs.declared.built_in.BuiltIn.TheVariants.{Put, Protect, RaiseException, Walk}
+use Rattle.c_operations.specs.declared.built_in.BuiltIn.TheVariants.{AddVectored, RemoveVectored}
 use Rattle.c_checked.specs.Expression.{Expression, On, Node, Constant, Read, Unary, Binary}
 use Rattle.c_checked.specs.Expression.{CallBuiltIn, ExceptionCode, AbnormalTermination, Lvalue}
 use Rattle.c_checked.specs.Expression.{Local, Global, Done, Next, arguments}
@@ -88,6 +89,14 @@ raise code flags =
 
 abbrev pub protect : ℕ → ℕ → Statement
 protect a mode = evaluate (CallBuiltIn Protect (arguments (cast a ∷ lit mode ∷ [])))
+
+-- the function of this number becomes a vectored handler, the first one where `first` isn't 0, and
+-- is one no more
+abbrev pub add_vectored : (handler first : ℕ) → Node
+add_vectored handler first = CallBuiltIn (AddVectored handler) (Next (lit first) Done)
+
+abbrev pub remove_vectored : (handler : ℕ) → Node
+remove_vectored handler = CallBuiltIn (RemoveVectored handler) Done
 
 abbrev pub walk : Statement
 walk = evaluate (CallBuiltIn Walk Done)

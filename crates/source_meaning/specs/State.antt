@@ -16,10 +16,11 @@ pub record Exception : Type 0 where
   pub access : Option (Bool × ℕ)
 
 -- the steps that are left; memory; the live activations' locals, outermost first, and their
--- functions; what is held of the depth beside them: 2 for each filter and `__finally` block that
--- runs, or that a target has left, 1 for each activation that a target has left, and of each
--- activation, live or left, what its function weighs above 1; of what a target has left, until it
--- lands; the events so far
+-- functions; what is held of the depth beside them: 2 for each filter, vectored handler and
+-- `__finally` block that runs, or that a target has left, 1 for each activation that a target has
+-- left, and of each activation, live or left, what its function weighs above 1; of what a target
+-- has left, until it lands; the events so far; the vectored handlers, by the numbers of their
+-- functions, in the order in which they are asked
 pub record State : Type 0 where
   pub steps_left : ℕ
   pub memory : Memory
@@ -27,6 +28,7 @@ pub record State : Type 0 where
   pub functions : List ℕ
   pub held : ℕ
   pub events : List Event
+  pub vectored : List ℕ
 
 -- what a part of a program comes to; a target names its handler by the number of handlers outside
 -- its `__try`; an end is none where no step was left
@@ -76,6 +78,9 @@ let_go_surplus s st = record st { held = st.held - s }
 
 abbrev pub set_memory : State → Memory → State
 set_memory st memory = record st { memory = memory }
+
+abbrev pub set_vectored : State → List ℕ → State
+set_vectored st vectored = record st { vectored = vectored }
 
 abbrev pub emit : Event → State → State
 emit e st = record st { events = st.events ++ e ∷ [] }

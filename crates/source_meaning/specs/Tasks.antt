@@ -37,6 +37,8 @@ pub data Task : Type 0 where
   -- the body of a `__try`
   TryBody : Statements → Task
   Raise : Exception → Task
+  -- a vectored handler, by the number of its function, at a place of their list
+  AskVectored : (handler place : ℕ) → Exception → Task
   -- a filter, by its number
   RunFilter : ℕ → Expression → Handler → Exception → Task
   -- a `__finally` block, by its number

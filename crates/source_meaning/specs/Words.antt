@@ -14,6 +14,6 @@ pub use Rattle.source_meaning.specs.State.{State, Result, Value, End, Outcome, G
 unfoldable pub use Rattle.source_meaning.specs.State.{choose, deeper, counting, with_value, and_then}
 pub use Rattle.source_meaning.specs.Statements.{optional, declare_stacked, declare_at, declare, declare_each, statement, for_iteration, do_iteration}
 unfoldable pub use Rattle.source_meaning.specs.Statements.{in_loop, landing, finally_after}
-pub use Rattle.source_meaning.specs.Tasks.{Handler, DataPart, part_of, Context, Task, Eval, Locate, Run, ForIteration, DoIteration, TryBody, Raise, RunFilter, RunFinally, Retry, Does}
+pub use Rattle.source_meaning.specs.Tasks.{Handler, DataPart, part_of, Context, Task, Eval, Locate, Run, ForIteration, DoIteration, TryBody, Raise, AskVectored, RunFilter, RunFinally, Retry, Does}
 unfoldable pub use Rattle.source_meaning.specs.Tasks.{counted}
 pub use Rattle.source_meaning.specs.declared.ended.Ended.TheVariants.{Unhandled, Undefined, Deep}

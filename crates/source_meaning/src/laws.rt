@@ -5,6 +5,7 @@ ghost use Rattle.source_meaning.specs.Meaning.{meaning};
 ghost use Rattle.source_meaning.specs.Rows as shown;
 ghost use Rattle.source_meaning.specs.MoreRows as shown_more;
 ghost use Rattle.source_meaning.specs.WalkRows.{WalkInFilter, WalkAfterCollision, WalkRowsAreSound};
+ghost use Rattle.source_meaning.specs.VectoredRows as vectored;
 ghost use Rattle.source_meaning.specs.SoundRows.{RowsAreSound};
 
 /// A task is one step and then its case, and leaves no more steps than there were. What n steps
@@ -57,4 +58,13 @@ pub fn walk_rows()
     ensures walk_in_filter { WalkInFilter }
     ensures walk_after_collision { WalkAfterCollision }
     ensures sound { WalkRowsAreSound }
+{}
+
+/// Programs with vectored handlers: one that is asked before a filter, one that continues, and one
+/// of two that is asked again.
+pub fn vectored_rows()
+    ensures asked_first { vectored.VectoredHandlerAskedFirst }
+    ensures continues { vectored.VectoredHandlerContinues }
+    ensures asked_again { vectored.VectoredHandlerAskedAgain }
+    ensures sound { vectored.VectoredRowsAreSound }
 {}

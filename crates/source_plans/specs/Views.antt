@@ -44,6 +44,8 @@ use Rattle.source_plans.specs.declared.frame.Finish.{Finish}
 use Rattle.source_plans.specs.declared.frame.Finish.TheVariants as finishes
 use Rattle.source_plans.specs.declared.frame.StackAction.{StackAction}
 use Rattle.source_plans.specs.declared.frame.StackAction.TheVariants as stack_actions
+use Rattle.source_plans.specs.declared.frame.VectoredAction.{VectoredAction}
+use Rattle.source_plans.specs.declared.frame.VectoredAction.TheVariants as vectored_actions
 use Rattle.source_plans.specs.declared.frame.Action.{Action}
 use Rattle.source_plans.specs.declared.frame.Action.TheVariants as actions
 use Rattle.source_plans.specs.declared.frame.Next.{Next}
@@ -141,6 +143,8 @@ task_of (task_kinds.ForIteration k) =
 task_of (task_kinds.DoIteration s c) = tasks.DoIteration (statement s.now.value) (expression c.now)
 task_of (task_kinds.TryBody ss) = tasks.TryBody (all_statements ss.now.items)
 task_of (task_kinds.Raise exc) = tasks.Raise (exception_of exc)
+task_of (task_kinds.AskVectored f asked exc) =
+    tasks.AskVectored f asked.value (exception_of exc)
 task_of (task_kinds.RunFilter k e h exc) =
     tasks.RunFilter k (expression e.now) (handler_of h) (exception_of exc)
 task_of (task_kinds.RunFinally k last flag) =
@@ -208,6 +212,8 @@ statement_frame_of in_statements.Returns = frames.Returns
 statement_frame_of in_statements.EndsFilter = frames.EndsFilter
 statement_frame_of (in_statements.IsAnswered level exc p) =
     frames.IsAnswered level (exception_of exc) (place_of p)
+statement_frame_of (in_statements.EndsVectored asked exc p) =
+    frames.EndsVectored asked.value (exception_of exc) (place_of p)
 
 abbrev pub sequel_frame_of : SequelFrame → frames.SequelFrame
 sequel_frame_of (sequels.Continues ss i p) =
@@ -258,6 +264,11 @@ stack_action_of (stack_actions.Find base offset) p = frames.FindStacked base off
 stack_action_of (stack_actions.Put v x) p = frames.PutStacked v.now x p
 stack_action_of (stack_actions.Clear v n) p = frames.ClearElements v.now n p
 
+abbrev pub vectored_action_of : VectoredAction → Exception → frames.Place → frames.Next
+vectored_action_of (vectored_actions.AskFrom place) exc p = frames.AskFrom place exc p
+vectored_action_of (vectored_actions.Answered answer asked) exc p =
+    frames.VectoredAnswer answer asked.value exc p
+
 abbrev pub action_of : Action → frames.Next
 action_of (actions.Over how) = frames.Over (finish_of how)
 action_of (actions.Give how) = frames.Give (result_of how)
@@ -278,6 +289,8 @@ action_of (actions.Guard body f block p) =
     (place_of p)
 action_of (actions.Answer v) = frames.Answer v
 action_of actions.LetGo = frames.LetGo
+action_of (actions.OfVectored action exc p) =
+    vectored_action_of action (exception_of exc) (place_of p)
 action_of (actions.Search level exc p) = frames.Search level (exception_of exc) (place_of p)
 
 abbrev pub next_of : Next → frames.Next

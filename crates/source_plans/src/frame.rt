@@ -1,6 +1,6 @@
 //! What waits for a result, and what is done next.
 
-use crate::place::{Exception, Place};
+use crate::place::{AskedPlace, Exception, Place};
 use crate::task::{ForLoop, Task};
 use c_checked::expression::{Access, Conversion, Expr, Fixity, Lvalue, Node};
 use c_checked::function::DataPart;
@@ -100,7 +100,7 @@ pub enum Phase {
     After,
 }
 
-/// What waits for a value in a statement, or for a filter's answer.
+/// What waits for a value in a statement, or for an answer of a filter or a vectored handler.
 #[derive(Clone, Copy, Drop)]
 pub enum StatementFrame<'p> {
     Initialises(u64, Place),
@@ -115,6 +115,8 @@ pub enum StatementFrame<'p> {
     EndsFilter,
     /// The handler's number among the machine's.
     IsAnswered(usize, Exception, Place),
+    /// A vectored handler's answer.
+    EndsVectored(AskedPlace, Exception, Place),
 }
 
 /// What a part of a program comes to, where the program doesn't end there.
@@ -196,6 +198,20 @@ pub enum StackAction<'p> {
     Clear(&'p StackedVariable, u64),
 }
 
+/// What is done with vectored handlers.
+#[derive(Clone, Copy, Drop)]
+pub enum VectoredAction {
+    /// Those from a place of their list on are asked.
+    AskFrom(u64),
+    /// One has given an answer.
+    Answered {
+        /// Its answer, an `int` in the low 32 bits.
+        answer: u64,
+        /// Its place in their list.
+        asked: AskedPlace,
+    },
+}
+
 /// What is to be done next, other than to pass arguments.
 #[derive(Clone, Copy, Drop)]
 pub enum Action<'p> {
@@ -221,6 +237,8 @@ pub enum Action<'p> {
     Answer(u64),
     /// The end of a `__finally` block.
     LetGo,
+    /// What is done with vectored handlers, about an exception.
+    OfVectored(VectoredAction, Exception, Place),
     /// The handlers below this number are asked, the highest first.
     Search(usize, Exception, Place),
 }

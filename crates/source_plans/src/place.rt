@@ -1,5 +1,7 @@
 //! Where a part of a program runs.
 
+ghost use Rattle.std.specs.Prelude.{◌≡◌, ◌<◌, ◌+◌, ◌-◌, ◌^◌};
+
 use c_checked::function::DataPart;
 use c_checked::statement::Filter;
 use seh_num::code::NONCONTINUABLE_EXCEPTION;
@@ -40,6 +42,33 @@ pub struct Handler<'p> {
     pub activation: usize,
     /// What AbnormalTermination answers at its `__try`.
     pub abnormal: bool,
+}
+
+/// A place in the list of vectored handlers at which one was found, counted from 0.
+#[derive(Clone, Copy)]
+pub struct AskedPlace {
+    /// The place.
+    pub value: u64,
+    /// One more is a place too.
+    pub ghost few: { value < 2 ^ 64 - 1 },
+}
+
+impl AskedPlace {
+    /// A place of a list that is longer than that.
+    pub fn new(value: u64, length: u64) -> AskedPlace
+        requires { value < length }
+        ensures { result.value ≡ value }
+    {
+        let _ = length;
+        AskedPlace { value }
+    }
+
+    /// The place after it.
+    pub fn next(self) -> u64
+        ensures { result ≡ self.value + 1 }
+    {
+        self.value + 1
+    }
 }
 
 /// No exception.

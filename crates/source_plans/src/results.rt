@@ -1,6 +1,8 @@
 //! What frames do with results.
 
-ghost use Rattle.std.specs.Prelude.{◌≡◌, ◌++◌, [], ◌∷◌, map, option_map, nat_eq, nat_lt, IfOk};
+ghost use Rattle.std.specs.Prelude.{◌≡◌, ◌++◌, ◌^◌, [], ◌∷◌, map, option_map, nat_eq, nat_lt, IfOk};
+ghost use Rattle.seh_num.specs.declared.width.Width.TheVariants.{W32};
+ghost use Rattle.seh_num.specs.Widths.{low};
 ghost use Rattle.c_checked.specs.Expression as tree;
 ghost use Rattle.c_checked.specs.Statement as trees;
 ghost use Rattle.source_machine.specs.Frames as frames;
@@ -11,9 +13,10 @@ ghost use Rattle.source_plans.specs.Views.{place_of, plan_of};
 use crate::expressions::{evaluates, gives, operand, push, start, then};
 use crate::frame::{
     Action, AssignmentFrame, BodyFrame, Callee, Completion, Compound, ContinuationFrame, ForPart,
-    Next, OperandFrame, Plan, SequelFrame, StackAction, StatementFrame, Stepped, Waiting,
+    Next, OperandFrame, Plan, SequelFrame, StackAction, StatementFrame, Stepped, VectoredAction,
+    Waiting,
 };
-use crate::place::{Exception, NONCONTINUABLE, Place};
+use crate::place::{AskedPlace, Exception, NONCONTINUABLE, Place};
 use crate::statements::{branch, ends, first_plan, for_body, iterate, tested};
 use crate::task::{ForLoop, Task};
 use crate::values::{apart, converted, incremented_value, of_test, value_of};
@@ -250,7 +253,28 @@ fn answer_plan<'p>(answer: u64, level: usize, exception: Exception, place: Place
     }
 }
 
-/// A value is there in a statement, or as a filter's answer.
+/// A vectored handler's answer, an `int`: below 0 continues, and after any other the next one is
+/// asked.
+pub fn vectored_plan<'p>(
+    answer: u64,
+    asked: AskedPlace,
+    exception: Exception,
+    place: Place,
+) -> Plan<'p>
+    ensures { plan_of result ≡ plans.vectored_plan (nat_lt (low W32 answer) (2 ^ 31))
+        exception.flag asked.value (views.exception_of exception) (place_of place) }
+{
+    if zero_extend(Width::W32, answer) < 0x8000_0000 {
+        let next = VectoredAction::AskFrom(asked.next());
+        then(Next::Does(Action::OfVectored(next, exception, place)))
+    } else if exception.flag {
+        then(start(Task::Raise(NONCONTINUABLE), place))
+    } else {
+        ends()
+    }
+}
+
+/// A value is there in a statement, or as an answer of a filter or a vectored handler.
 pub fn in_statement_plan<'p>(frame: StatementFrame<'p>, value: u64) -> Plan<'p>
     ensures { plan_of result ≡ plans.in_statement_plan
         (views.statement_frame_of frame.entry) value }
@@ -271,6 +295,13 @@ pub fn in_statement_plan<'p>(frame: StatementFrame<'p>, value: u64) -> Plan<'p>
         StatementFrame::EndsFilter => then(Next::Does(Action::Answer(value))),
         StatementFrame::IsAnswered(level, exception, place) => {
             answer_plan(value, level, exception, place)
+        }
+        StatementFrame::EndsVectored(asked, exception, place) => {
+            let answered = VectoredAction::Answered {
+                answer: value,
+                asked,
+            };
+            then(Next::Does(Action::OfVectored(answered, exception, place)))
         }
     }
 }

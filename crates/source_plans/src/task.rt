@@ -1,6 +1,6 @@
 //! What counts a step.
 
-use crate::place::{Exception, Handler};
+use crate::place::{AskedPlace, Exception, Handler};
 use c_checked::expression::{Expr, Lvalue};
 use c_checked::statement::{Declared, Stmt};
 use c_operations::operation::Operation;
@@ -34,6 +34,12 @@ pub enum Task<'p> {
     /// The body of a `__try`.
     TryBody(&'p Vec<Stmt>),
     Raise(Exception),
+    /// A vectored handler, by the number of its function, at a place of their list.
+    AskVectored {
+        handler: u64,
+        asked: AskedPlace,
+        exception: Exception,
+    },
     /// A filter, by its number.
     RunFilter {
         number: u32,

@@ -24,6 +24,7 @@ state_of m es =
       functions = numbers_of m.functions;
       held = m.held;
       events = es;
+      vectored = m.vectored;
     }
 
 -- with what is done next

@@ -146,6 +146,8 @@ impl<'p> Machine<'p> {
                 Ok(silent(start(task, place)))
             }
             BuiltIn::Walk => Ok(walking(Next::Does(Action::Give(Completion::Value(0))))),
+            BuiltIn::AddVectored(handler) => Ok(silent(self.add_vectored(handler, first))),
+            BuiltIn::RemoveVectored(handler) => Ok(silent(self.remove_vectored(handler))),
         }
     }
 

@@ -23,6 +23,7 @@ use source_plans::frame::{Action, ContinuationFrame, Finish, Next, Phase, Plan};
 use source_plans::place::{Handler, Place};
 use source_plans::task::Task;
 use std::alloc::AllocError;
+use vectored_list::VectoredList;
 use x64_memory::page_map::PageMap;
 
 /// A machine that runs a program.
@@ -36,11 +37,13 @@ pub struct Machine<'p> {
     pub activations: Activations,
     /// The function of each of them.
     pub functions: LiveFunctions,
-    /// What is held of the depth beside the live activations: 2 for each filter and `__finally`
-    /// block that runs, or that a target has left, 1 for each activation that one has left, and of
-    /// each activation, live or left, its function's surplus; of what a target has left, until it
-    /// lands.
+    /// What is held of the depth beside the live activations: 2 for each filter, vectored handler
+    /// and `__finally` block that runs, or that a target has left, 1 for each activation that one
+    /// has left, and of each activation, live or left, its function's surplus; of what a target has
+    /// left, until it lands.
     pub held: u64,
+    /// The vectored handlers, by the numbers of their functions.
+    pub vectored: VectoredList,
     /// The handlers around the place where the machine continues, outermost first.
     pub handlers: Vec<Handler<'p>>,
     /// What waits, the newest last.

@@ -20,7 +20,8 @@ use seh_num::event::{Code, Event};
 use source_meaning::ended::Ended;
 use source_plans::expressions::{evaluates, start};
 use source_plans::frame::{
-    Action, Completion, ContinuationFrame, Finish, Next, SequelFrame, StatementFrame, Waiting,
+    Action, Completion, ContinuationFrame, Finish, Next, SequelFrame, StatementFrame,
+    VectoredAction, Waiting,
 };
 use source_plans::place::{Exception, Handler, Place};
 use source_plans::task::Task;
@@ -34,7 +35,7 @@ fn unhandled<'p>(exception: Exception) -> Next<'p>
 }
 
 impl<'p> Machine<'p> {
-    /// An exception is raised: the handlers are asked, the innermost first.
+    /// An exception is raised: the vectored handlers are asked, and then the handlers.
     pub fn raise(&self, exception: Exception, place: Place) -> MachineStep<'p>
         ensures { Showed self.now self.now (λ m. model.begun m (tasks.Raise
             (views.exception_of exception)) (place_of place)) result }
@@ -46,7 +47,7 @@ impl<'p> Machine<'p> {
         };
         showing(
             event,
-            Next::Does(Action::Search(self.handlers.len(), exception, place)),
+            Next::Does(Action::OfVectored(VectoredAction::AskFrom(0), exception, place)),
         )
     }
 
@@ -202,5 +203,14 @@ impl<'p> Machine<'p> {
             Event::Answer(low_signed(value)),
             Next::Does(Action::Give(Completion::Value(value))),
         )
+    }
+
+    /// A `__finally` block has ended, which counts in the depth no more.
+    pub fn let_go(&mut self) -> MachineStep<'p>
+        ensures { (p : Program) → Showed self.old self.new (λ m. model.done p m frames.LetGo)
+            result }
+    {
+        self.held = self.held.saturating_sub(2);
+        silent(Next::Does(Action::Give(Completion::Normal)))
     }
 }

@@ -28,7 +28,12 @@ use std::alloc::{AllocError, Global};
 
 impl<'p> Machine<'p> {
     /// A task's beginning, after its step.
-    fn begin(&mut self, task: Task<'p>, place: Place) -> Result<MachineStep<'p>, AllocError>
+    fn begin(
+        &mut self,
+        alloc: Global,
+        task: Task<'p>,
+        place: Place,
+    ) -> Result<MachineStep<'p>, AllocError>
         ensures { IfOk result (Showed self.old self.new (λ m. model.begun m
             (views.task_of task.entry) (place_of place))) }
     {
@@ -44,6 +49,11 @@ impl<'p> Machine<'p> {
             }
             Task::TryBody(stmts) => Ok(silent(Next::Does(Action::Proceed(stmts, 0, place)))),
             Task::Raise(exception) => Ok(self.raise(exception, place)),
+            Task::AskVectored {
+                handler,
+                asked,
+                exception,
+            } => silently(self.ask_vectored(alloc, handler, asked, exception, place)),
             Task::RunFilter {
                 number,
                 value,
@@ -105,6 +115,7 @@ impl<'p> Machine<'p> {
     /// A task, before or after its step.
     fn take_up(
         &mut self,
+        alloc: Global,
         phase: Phase,
         task: Task<'p>,
         place: Place,
@@ -114,7 +125,7 @@ impl<'p> Machine<'p> {
     {
         match phase {
             Phase::Before => Ok(silent(self.start(task, place))),
-            Phase::After => self.begin(task, place),
+            Phase::After => self.begin(alloc, task, place),
         }
     }
 
@@ -133,7 +144,7 @@ impl<'p> Machine<'p> {
         match action {
             Action::Over(how) => Ok(silent(Next::Does(Action::Over(how)))),
             Action::Give(how) => self.give(how),
-            Action::Do(phase, task, place) => self.take_up(phase, task, place),
+            Action::Do(phase, task, place) => self.take_up(alloc, phase, task, place),
             Action::Evaluate(node, place) => self.planned(node_plan(alloc, node, place)),
             Action::Find(target, place) => self.planned(find_plan(target, place)),
             Action::Fetch(target, address, place) => silently(self.fetch(target, address, place)),
@@ -159,9 +170,9 @@ impl<'p> Machine<'p> {
                 silently(self.guard(body, filter, block, place))
             }
             Action::Answer(value) => Ok(self.answer(value)),
-            Action::LetGo => {
-                self.held = self.held.saturating_sub(2);
-                Ok(silent(Next::Does(Action::Give(Completion::Normal))))
+            Action::LetGo => Ok(self.let_go()),
+            Action::OfVectored(action, exception, place) => {
+                silently(self.act_vectored(action, exception, place))
             }
             Action::Search(level, exception, place) => {
                 silently(self.search(level, exception, place))

@@ -6,6 +6,7 @@ pub mod Slots
 pub mod Jumps
 pub mod Frames
 pub mod Calls
+pub mod Handlers
 pub mod Probing
 pub mod Template
 pub mod ColdParts

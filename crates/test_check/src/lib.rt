@@ -6,6 +6,8 @@
 #[cfg(test)]
 mod declarations;
 #[cfg(test)]
+mod handlers;
+#[cfg(test)]
 mod jumps;
 #[cfg(test)]
 mod places;

@@ -4,11 +4,12 @@ use crate::calls::{answer, answers, compiled, words_of};
 use crate::inputs::all_answer;
 use std::alloc::{AllocError, Global};
 
-/// The image of a text, which has one entry, one with a chained entry, and an image without a
-/// function table.
+/// The image of a text, which has one entry, one with a chained entry, one with pieces of code for
+/// vectored handlers, of which a leaf function has no entry, and an image without a function table.
 const YES: &str = r"
 check | compiled int main(void){ put(2+3*4); return 7; } | 0 yes 1
 check | compiled int g(int n){ if (n) put(1); else { put(2); *(int*)0 = 1; } return 0; } int main(void){ __try{ g(0); } __except(1){ put(3); } return 0; } | 0 yes 3
+check | compiled int v(unsigned c, unsigned f){ put(c); return 0; } int w(unsigned c, unsigned f){ return -1; } int main(void){ AddVectoredExceptionHandler(1, v); RemoveVectoredExceptionHandler(w); return 0; } | 0 yes 2
 check | fourteen | 0 yes 0
 ";
 

@@ -5,7 +5,7 @@ use crate::ways::{COMPILED, MEANING, TEXT, WAYS, all_show};
 use std::process::Abort;
 use test_texts::{
     binary, cold_parts, data_stack, depths, examples, handlers, many_locals, refused, texts, unary,
-    walks,
+    vectored, walks,
 };
 
 /// Expressions, calls and loops show what they mean, and a recursion returns as often as it called.
@@ -114,6 +114,16 @@ fn data_stack(rt: HostRuntime) {
     all_show(&rt, rt.alloc(), &MEANING, &TEXT, data_stack::STEPS);
     all_show(&rt, rt.alloc(), &WAYS, &TEXT, data_stack::LIMITS);
     all_show(&rt, rt.alloc(), &WAYS, &TEXT, data_stack::RULES);
+}
+
+/// Vectored handlers are asked before the handlers of frames.
+#[test]
+fn vectored(rt: HostRuntime) {
+    all_show(&rt, rt.alloc(), &WAYS, &TEXT, vectored::HANDLERS);
+    all_show(&rt, rt.alloc(), &WAYS, &TEXT, vectored::WITHIN);
+    all_show(&rt, rt.alloc(), &MEANING, &TEXT, vectored::DEEPER);
+    all_show(&rt, rt.alloc(), &MEANING, &TEXT, vectored::STEPS);
+    all_show(&rt, rt.alloc(), &WAYS, &TEXT, vectored::RULES);
 }
 
 /// Each program shows what is beside it.

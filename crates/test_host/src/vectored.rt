@@ -8,9 +8,10 @@ use std::alloc::{AllocError, Global};
 use std::process::Abort;
 use test_tables::one_section::{PLAIN, image};
 use test_tables::vectored::{
-    ADDS_AND_REMOVES, ADDS_SEVENTEEN, ASKED_IN_ORDER, CONTINUES_ACCESS, REMOVES_ITSELF,
-    SHOWS_RECORD, VECTORED_HARMS_KIND, VECTORED_HARMS_MARK, VECTORED_HARMS_PLACE, VECTORED_IN_VAIN,
-    adds_while_asked, asked_first, asked_once, raises_while_asked,
+    ADDED_BY_ECX, ADDS_AND_REMOVES, ADDS_SEVENTEEN, ASKED_IN_ORDER, CONTINUES_ACCESS, PUTS_CODE,
+    REMOVES_ITSELF, SHOWS_RECORD, VECTORED_HARMS_KIND, VECTORED_HARMS_MARK, VECTORED_HARMS_PLACE,
+    VECTORED_HARMS_WALK, VECTORED_IN_VAIN, adds_while_asked, asked_first, asked_once,
+    raises_while_asked,
 };
 
 /// A run without an argument, of ten thousand turns, with its trace.
@@ -24,6 +25,7 @@ const TRACED: Run = Run {
 fn code_of(name: &str) -> &'static [u8] {
     match name {
         "ASKED_IN_ORDER" => ASKED_IN_ORDER,
+        "ADDED_BY_ECX" => ADDED_BY_ECX,
         "CONTINUES_ACCESS" => CONTINUES_ACCESS,
         "REMOVES_ITSELF" => REMOVES_ITSELF,
         "ADDS_SEVENTEEN" => ADDS_SEVENTEEN,
@@ -36,7 +38,8 @@ fn code_of(name: &str) -> &'static [u8] {
 /// The image that words name.
 fn image_of(alloc: Global, words: &str) -> Result<Vec<u8>, AllocError> {
     match words {
-        "asked_first" => asked_first(alloc),
+        "PUTS_CODE" => asked_first(alloc, PUTS_CODE),
+        "VECTORED_HARMS_WALK" => asked_first(alloc, VECTORED_HARMS_WALK),
         "adds_while_asked 0" => adds_while_asked(alloc, 0),
         "adds_while_asked 1" => adds_while_asked(alloc, 1),
         "raises_while_asked 1" => raises_while_asked(alloc, 1),
@@ -48,9 +51,10 @@ fn image_of(alloc: Global, words: &str) -> Result<Vec<u8>, AllocError> {
     }
 }
 
-/// A handler is asked before the filter, for which the record's kind is 1 again, and with the
-/// code, 3758096385. One that is added in front is asked before the others; one that continues an
-/// access is the last. What can't be continued is raised anew, and the first one is asked again.
+/// A handler is asked before the filter, for which the record's kind is 1 again, and with the code,
+/// 3758096385. One that is added in front is asked before the others, one for which ECX is 0 after
+/// them; one that continues an access is the last. What can't be continued is raised anew, and the
+/// first one is asked again.
 ///
 /// The place rises in the list as it then is: of three, the one after one that takes itself out
 /// isn't asked; one that is added behind is asked, and one that adds another in front is asked
@@ -59,11 +63,13 @@ fn image_of(alloc: Global, words: &str) -> Result<Vec<u8>, AllocError> {
 ///
 /// The record has kind 4, the place 1, no frame, and RDX is 0. It is at 0x707FF9B0, 1,568 below RSP
 /// of the raise, 0x707FFFD8, or at 0x707FF990 of the function with a frame of 40. The return wants
-/// its mark and its kind; past the list's end is every place from there on. A search from within a
-/// handler passes the return, where it wants the kind too.
+/// its mark and its kind; past the list's end is every place from there on. The search begins from
+/// the saved state, whatever the handler left of the walk. A search from within a handler passes
+/// the return, where it wants the kind too.
 const VECTORED: &str = r"
-asked_first | raise E0000001 0 / 3758096385 / filter 1 / 1 / answer 2 / except E0000001 / 3 / exit 0
+PUTS_CODE | raise E0000001 0 / 3758096385 / filter 1 / 1 / answer 2 / except E0000001 / 3 / exit 0
 ASKED_IN_ORDER | raise E0000001 0 / 1 / 2 / unhandled E0000001
+ADDED_BY_ECX | raise E0000001 0 / 1 / 2 / unhandled E0000001
 CONTINUES_ACCESS | raise C0000005 0 read 0000000020000000 / 0 / exit 0
 VECTORED_IN_VAIN | raise E0000001 1 / 5 / raise C0000025 1 / 5 / unhandled C0000025
 REMOVES_ITSELF | raise E0000001 0 / 1 / 3 / raise E0000001 0 / 2 / 3 / exit 0
@@ -75,6 +81,7 @@ SHOWS_RECORD | raise E0000001 1 / 4 / 1 / 0 / 0 / unhandled E0000001
 VECTORED_HARMS_KIND | raise E0000001 0 / stopped BadRecord 00000000707FF9B0
 VECTORED_HARMS_MARK | raise E0000001 0 / stopped BadRecord 00000000707FF9B0
 VECTORED_HARMS_PLACE | raise E0000001 0 / unhandled E0000001
+VECTORED_HARMS_WALK | raise E0000001 0 / filter 1 / 1 / answer 2 / except E0000001 / 3 / exit 0
 raises_while_asked 4 | raise E0000001 0 / raise E0000002 0 / filter 1 / 1 / answer 2 / except E0000002 / 3 / exit 0
 raises_while_asked 1 | raise E0000001 0 / raise E0000002 0 / stopped BadRecord 00000000707FF990
 ";

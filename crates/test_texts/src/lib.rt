@@ -19,4 +19,5 @@ pub mod many_locals;
 pub mod refused;
 pub mod texts;
 pub mod unary;
+pub mod vectored;
 pub mod walks;

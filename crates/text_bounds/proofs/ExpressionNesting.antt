@@ -3,11 +3,13 @@ use Rattle.std.proofs.Common.{◌≡◌, ℕ, ◌+◌, ◌≤◌, max, refl, sym
 use Rattle.std.proofs.lemmas.Bool.{leb-true}
 use Rattle.std.specs.Prelude.{Bool, true, false, nat_le, nat_eq, if◌then◌else◌, List, [], ◌∷◌, length, map, Option, Some, None}
 use Rattle.c_checked.specs.Expression as nodes
-use Rattle.text_bounds.specs.Words.{Node, CType, Field, Literal, Arithmetic, start, height, Fault, TypedNode, compound_assigned, assigned, comma_of, Entity, LocalVariable, LocalArray, GlobalVariable, GlobalArray, UserFunction, BuiltInFunction, CodeFunction, AbnormalFunction, BuiltInConstant, Names, FaultAt, ResolvedExpression, ruled, rule_1, rule_2, rule_3, given_that, literal, name, field, Wanted, built_in_wants, fits, passed, Argument, Passed, before, spoiled, pass, pass_all, called, call_with, only_where, call, changed, resolve_expression, resolve_arguments, OfType, ZeroLiteral, expression_nesting, node_nesting, expression_reads, node_reads, heights, plain, typed, good, arguments_nesting, arguments_read}
+use Rattle.text_bounds.specs.Words.{Node, CType, Field, Literal, Arithmetic, start, height, Fault, TypedNode, compound_assigned, assigned, comma_of, Entity, LocalVariable, LocalArray, GlobalVariable, GlobalArray, UserFunction, BuiltInFunction, CodeFunction, AbnormalFunction, AddingFunction, RemovingFunction, BuiltInConstant, Names, FaultAt, ResolvedExpression, ruled, rule_1, rule_2, rule_3, given_that, literal, name, field, Wanted, built_in_wants, fits, passed, Argument, Passed, before, spoiled, pass, pass_all, called, call_with, handler_after, call_naming, call_with_handler, unsigned, only_where, call, changed, resolve_expression, resolve_arguments, OfType, ZeroLiteral, expression_nesting, node_nesting, expression_reads, node_reads, heights, plain, typed, good, arguments_nesting, arguments_read}
 use Rattle.c_operations.specs.declared.field.Field.TheVariants as fields
 use Rattle.c_syntax.specs.declared.expression.Base.TheVariants.{UnsignedLongLong}
 use Rattle.c_syntax.specs.declared.expression.Field.TheVariants as record_fields
 use Rattle.c_syntax.specs.declared.expression.Literal.TheVariants as literals
+use Rattle.c_operations.specs.declared.built_in.BuiltIn.{BuiltIn}
+use Rattle.c_operations.specs.declared.built_in.BuiltIn.TheVariants.{AddVectored, RemoveVectored}
 use Rattle.c_syntax.specs.Expression as trees
 use Rattle.c_syntax.specs.Expression.{Expression}
 use Rattle.c_resolved.specs.declared.fault.Fault.TheVariants.{TypeClash}
@@ -136,6 +138,31 @@ with_shallow : (n at : ℕ) (ws : List Wanted) (t : CType) (make : nodes.Argumen
 with_shallow n at ws t make args h go = given_that_shallow n (nat_eq (length ws) (length args)) at _
     _ _ (called_shallow n t make (pass_all ws args).found (pass_all ws args).faults (h ws) go)
 
+-- the same of a call that names a vectored handler
+naming_shallow : (n : ℕ) (make : ℕ → nodes.Arguments → Node) (o : Option nodes.Arguments)
+    (fs : List FaultAt) (f : Option ℕ) (gs : List FaultAt) → AreShallow n o
+    → ((k : ℕ) (es : nodes.Arguments) → (node_nesting (make k es) ≤ arguments_nesting es)
+    × (node_reads (make k es) ≤ arguments_read es))
+    → ShallowIf n (call_naming make (record { found = o; faults = fs })
+    (record { found = f; faults = gs })).found
+naming_shallow n make None fs f gs h go = tt
+naming_shallow n make (Some es) fs None gs h go = tt
+naming_shallow n make (Some es) fs (Some k) gs h go =
+    let g = go k es in
+    let u = g.0 in
+    let v = g.1 in
+    let p = h.0 in
+    let q = h.1 in
+    (omega arith, omega arith)
+
+with_handler_shallow : (n at : ℕ) (ws : List Wanted) (of : ℕ → BuiltIn) (args : List Argument)
+    → ArgumentsShallow n args → ShallowIf n (call_with_handler at ws of args).found
+with_handler_shallow n at ws of args h =
+    given_that_shallow n (nat_eq (length ws + 1) (length args)) at _ _ _
+    (naming_shallow n (λ f. nodes.CallBuiltIn (of f)) (pass_all ws args).found
+    (pass_all ws args).faults (handler_after ws args).found (handler_after ws args).faults (h ws)
+    (λ k es. (omega arith, omega arith)))
+
 call_shallow : (s : Names) (n at : ℕ) (e : Option Entity) (args : List Argument)
     → ArgumentsShallow n args → ShallowIf n (call s at e args).found
 call_shallow s n at (Some (UserFunction f t ps)) args h = with_shallow n at (map OfType ps) t
@@ -147,6 +174,10 @@ call_shallow s n at (Some CodeFunction) args h = only_where_shallow n s.code at 
 call_shallow s n at (Some AbnormalFunction) args h = only_where_shallow n s.abnormal at _ _
     (with_shallow n at [] _ (λ es. nodes.AbnormalTermination) args h
     (λ es. (omega arith, omega arith)))
+call_shallow s n at (Some AddingFunction) args h =
+    with_handler_shallow n at (OfType unsigned ∷ []) (λ f. AddVectored f) args h
+call_shallow s n at (Some RemovingFunction) args h =
+    with_handler_shallow n at [] (λ f. RemoveVectored f) args h
 call_shallow s n at other args h = tt
 
 all_deeper : (m n : ℕ) (o : Option nodes.Arguments) → m ≤ n → AreShallow m o → AreShallow n o

@@ -2,12 +2,14 @@
 use Rattle.std.proofs.Common.{◌≡◌, ℕ, ◌+◌, ◌*◌, ◌≤◌, refl, sym, subst, arith}
 use Rattle.std.proofs.Math.Nat.{mul-add, mul-one}
 use Rattle.std.specs.Prelude.{Bool, true, false, nat_le, nat_eq, if◌then◌else◌, List, [], ◌∷◌, length, map, Option, Some, None}
-use Rattle.text_bounds.specs.Words.{Node, CType, Field, Literal, Arithmetic, start, Fault, access_of, TypedNode, int, compound_assigned, assigned, comma_of, Entity, LocalVariable, LocalArray, GlobalVariable, GlobalArray, UserFunction, BuiltInFunction, CodeFunction, AbnormalFunction, BuiltInConstant, Names, FaultAt, ResolvedExpression, ruled, rule_1, rule_2, rule_3, given_that, literal, name, field, Wanted, built_in_wants, fits, passed, Argument, Passed, before, spoiled, pass, pass_all, called, call_with, only_where, call, changed, resolve_expression, resolve_arguments, OfType, ZeroLiteral, Weights, NodesAdd, nodes_of_arguments}
+use Rattle.text_bounds.specs.Words.{Node, CType, Field, Literal, Arithmetic, start, Fault, access_of, TypedNode, int, compound_assigned, assigned, comma_of, Entity, LocalVariable, LocalArray, GlobalVariable, GlobalArray, UserFunction, BuiltInFunction, CodeFunction, AbnormalFunction, AddingFunction, RemovingFunction, BuiltInConstant, Names, FaultAt, ResolvedExpression, ruled, rule_1, rule_2, rule_3, given_that, literal, name, field, Wanted, built_in_wants, fits, passed, Argument, Passed, before, spoiled, pass, pass_all, called, call_with, handler_after, call_naming, call_with_handler, unsigned, only_where, call, changed, resolve_expression, resolve_arguments, OfType, ZeroLiteral, Weights, NodesAdd, nodes_of_arguments}
 use Rattle.c_operations.specs.declared.field.Field.{Field as Field'}
 use Rattle.c_operations.specs.declared.operation.Size.{Size}
 use Rattle.c_checked.specs.Expression as nodes
 use Rattle.c_syntax.specs.declared.expression.Field.TheVariants as record_fields
 use Rattle.c_syntax.specs.declared.expression.Literal.TheVariants as literals
+use Rattle.c_operations.specs.declared.built_in.BuiltIn.{BuiltIn}
+use Rattle.c_operations.specs.declared.built_in.BuiltIn.TheVariants.{AddVectored, RemoveVectored}
 use Rattle.c_syntax.specs.Expression as trees
 use Rattle.c_syntax.specs.Expression.{Expression}
 use Rattle.c_syntax.specs.Nodes as counted
@@ -169,6 +171,27 @@ with_light w n at ws t make args h go = given_that_light w (w.each + n)
     (nat_eq (length ws) (length args)) at _ _ _
     (called_light w n t make (pass_all ws args).found (pass_all ws args).faults (h ws) go)
 
+-- the same of a call that names a vectored handler
+naming_light : (w : Weights) (n : ℕ) (make : ℕ → nodes.Arguments → Node)
+    (o : Option nodes.Arguments) (fs : List FaultAt) (f : Option ℕ) (gs : List FaultAt)
+    → AreLight w n o
+    → ((k : ℕ) (es : nodes.Arguments)
+    → w.node (make k es) + w.converted ≤ w.each + w.arguments es)
+    → LightIf w (w.each + n) (call_naming make (record { found = o; faults = fs })
+    (record { found = f; faults = gs })).found
+naming_light w n make None fs f gs h go = tt
+naming_light w n make (Some es) fs None gs h go = tt
+naming_light w n make (Some es) fs (Some k) gs h go = let g = go k es in omega arith
+
+with_handler_light : (w : Weights) → NodesAdd w → (n at : ℕ) (ws : List Wanted)
+    (of : ℕ → BuiltIn) (args : List Argument) → ArgumentsLight w n args
+    → LightIf w (w.each + n) (call_with_handler at ws of args).found
+with_handler_light w adds n at ws of args h =
+    given_that_light w (w.each + n) (nat_eq (length ws + 1) (length args)) at _ _ _
+    (naming_light w n (λ f. nodes.CallBuiltIn (of f)) (pass_all ws args).found
+    (pass_all ws args).faults (handler_after ws args).found (handler_after ws args).faults (h ws)
+    (λ k es. adds.built_in_call (of k) es))
+
 call_light : (w : Weights) → NodesAdd w → (s : Names) (n at : ℕ) (e : Option Entity)
     (args : List Argument) → ArgumentsLight w n args
     → LightIf w (w.each + n) (call s at e args).found
@@ -182,6 +205,10 @@ call_light w adds s n at (Some CodeFunction) args h = only_where_light w (w.each
 call_light w adds s n at (Some AbnormalFunction) args h = only_where_light w (w.each + n) s.abnormal
     at _ _ (with_light w n at [] _ (λ es. nodes.AbnormalTermination) args h
     (λ es. let g = adds.abnormal_termination in omega arith))
+call_light w adds s n at (Some AddingFunction) args h =
+    with_handler_light w adds n at (OfType unsigned ∷ []) (λ f. AddVectored f) args h
+call_light w adds s n at (Some RemovingFunction) args h =
+    with_handler_light w adds n at [] (λ f. RemoveVectored f) args h
 call_light w adds s n at other args h = tt
 
 -- ---- expressions

@@ -2,7 +2,7 @@
 use Rattle.std.proofs.Common.{◌≡◌, ℕ, zero, suc, ◌+◌, ◌*◌, ◌/◌, ◌^◌, ◌≤◌, true, List, [], ◌∷◌, ◌++◌, length, map, replicate, Option, Some, None, refl, arith, length-append}
 use Rattle.std.specs.List.{AllByRecursion}
 use Rattle.std.proofs.lemmas.Bool.{ltb-true, leb-true}
-use Rattle.text_bounds.specs.Words.{Function, Temporary, LinearFunclet, Owner, constant, statements_code, lowered_function, all_funclets, tables_room, function_bodies, funclet_bodies, functions_room, funclets, Return, all_locals, scope_of, lowered_funclets, first_separators, bring_code, open_code, close_code, body_start, room, code_room}
+use Rattle.text_bounds.specs.Words.{Function, Temporary, LinearFunclet, Owner, constant, statements_code, lowered_function, all_funclets, tables_room, function_bodies, funclet_bodies, functions_room, funclets, Return, all_locals, scope_of, lowered_funclets, asking, first_separators, bring_code, open_code, close_code, body_start, room, code_room}
 use Rattle.c_checked.specs.declared.function.StackedParameter.{StackedParameter}
 use Rattle.c_checked.specs.declared.function.TheConstants.{BYTES_BY_WEIGHT}
 use Rattle.c_checked.specs.Program.{DataFrame, data_size, data_surplus, surplus}
@@ -12,6 +12,7 @@ use Rattle.lowering_follows.proofs.SoundExpressions.{both_left, both_right}
 use Rattle.c_checked.specs.Sound as sound
 use Rattle.linear_code.specs.declared.instruction.Instruction.TheVariants.{Separator}
 use Rattle.seh_ir.proofs.FuncletCounts.{statements_count}
+use Rattle.seh_ir.proofs.Lowering.{asking_within}
 use Rattle.text_bounds.specs.RoomLaws.{LoweredIsBounded}
 use Rattle.text_bounds.proofs.ExpressionRooms.{room_append}
 use Rattle.text_bounds.proofs.StatementRooms.{funclets_room, funclets_append, statements_bound}
@@ -31,14 +32,16 @@ opened : (o : Option DataFrame) → code_room (open_code o) + code_room (close_c
 opened None = omega arith
 opened (Some d) = let r = brought d.base d.parameters in omega arith
 
--- with the separators that it counts for
+-- with the separators that it counts for, and that of a function that can be asked
 abbrev FitsData : Function → Type 0
-FitsData f = data_room f.data_frame + data_surplus f ≤ 1182
+FitsData f = data_room f.data_frame + data_surplus f + asking f ≤ 1182
 
-data_fits : (n : ℕ) (locals : List Size) (o : Option DataFrame) → n ≤ MOST_PARAMETERS
-    → sound.data_sound n locals o ≡ true → data_room o + data_size o / BYTES_BY_WEIGHT ≤ 1182
-data_fits n locals None few ok = omega arith
-data_fits n locals (Some d) few ok =
+-- one that can be asked takes fewer parameters
+data_fits : (n more : ℕ) (locals : List Size) (o : Option DataFrame) → n + more ≤ MOST_PARAMETERS
+    → sound.data_sound n locals o ≡ true
+    → data_room o + data_size o / BYTES_BY_WEIGHT + more ≤ 1182
+data_fits n more locals None few ok = omega arith
+data_fits n more locals (Some d) few ok =
     let p = both_left _ _ ok in
     let size = ltb-true d.size (2 ^ 21) (both_right _ _ (both_left _ _ p)) in
     let count = leb-true (length d.parameters) n (both_right _ _ p) in
@@ -51,7 +54,8 @@ functions_fit_data all (f ∷ fs) ok =
     let own = both_left _ _ ok in
     let few = leb-true (length f.parameters) MOST_PARAMETERS
     (both_right _ _ (both_left _ _ (both_left _ _ own))) in (
-      data_fits (length f.parameters) f.locals f.data_frame few (both_right _ _ own),
+      data_fits (length f.parameters) (asking f) f.locals f.data_frame
+          (asking_within f MOST_PARAMETERS (λ e. omega arith) few) (both_right _ _ own),
       functions_fit_data all fs (both_right _ _ ok),
     )
 
@@ -85,7 +89,7 @@ functions_bound number (f ∷ fs) fit =
     let c = statements_count owner names f.body in
     let body = statements_code (scope_of f) f.body at in
     let ends = constant 0 0 ∷ (close_code f.data_frame ++ Return (Temporary 0) ∷ []) in
-    let s = separators_room (surplus f) in
+    let s = separators_room (surplus f + asking f) in
     let o = opened f.data_frame in
     omega (
       arith,

@@ -8,6 +8,7 @@ use Rattle.text_bounds.specs.Rooms.{functions_room}
 
 -- its code and its tables take no more than the room of its functions, 576 bytes for each function
 -- and each filter or `__finally` block, and 1,182 for each function, for its part of the data stack
+-- and the separator that one has more that can be a vectored handler
 abbrev pub LoweredIsBounded : Type 0
 LoweredIsBounded =
     (program : Program) → IsSound program

@@ -163,7 +163,8 @@ abbrev mutual
 -- ---- functions
 
 -- each begins with a separator, and with one for each 1 of its frame's surplus, and returns 0 at
--- its end; what is for its part of the data stack isn't among this
+-- its end; what is for its part of the data stack isn't among this, nor the separator that one has
+-- more that can be a vectored handler
 abbrev pub functions_room : List Function → ℕ
 functions_room [] = 0
 functions_room (f ∷ fs) =

@@ -19,7 +19,7 @@ pub use Rattle.c_checked.specs.Sound.{IsSound, funclets}
 pub use Rattle.c_checked.specs.declared.expression.Conversion.{Conversion}
 pub use Rattle.c_checked.specs.declared.expression.Conversion.TheVariants.{Kept, Extend, Scale}
 pub use Rattle.c_checked.specs.declared.expression.Fixity.{Fixity}
-pub use Rattle.c_resolved.specs.Expressions.{Entity, LocalVariable, LocalArray, GlobalVariable, GlobalArray, UserFunction, BuiltInFunction, CodeFunction, AbnormalFunction, BuiltInConstant, Names, FaultAt, ResolvedExpression, ruled, rule_1, rule_2, rule_3, given_that, literal, name, field, Wanted, built_in_wants, fits, passed, Argument, Passed, before, spoiled, pass, pass_all, called, call_with, only_where, call, changed, resolve_expression, resolve_arguments, OfType, ZeroLiteral, good}
+pub use Rattle.c_resolved.specs.Expressions.{Entity, LocalVariable, LocalArray, GlobalVariable, GlobalArray, UserFunction, BuiltInFunction, CodeFunction, AbnormalFunction, AddingFunction, RemovingFunction, BuiltInConstant, Names, FaultAt, ResolvedExpression, ruled, rule_1, rule_2, rule_3, given_that, literal, name, field, Wanted, built_in_wants, fits, passed, Argument, Passed, before, spoiled, pass, pass_all, called, call_with, handler_after, call_naming, call_with_handler, unsigned, only_where, call, changed, resolve_expression, resolve_arguments, OfType, ZeroLiteral, good}
 pub use Rattle.c_resolved.specs.Operators.{TypedNode, compound_assigned, assigned, comma_of, int, only_if, as_is, as_type, can_become, is_additive, right_operand, on_integers, sum, difference, arithmetic_of, comparison_of, binary_of, lvalue_of, with_lvalue, address, unary_of, cast_of, element_of, incremented, branch_type, as_branch, chosen, conditional_of, is_shift, working_type, typed, as_index, operation_in, long_operation, moved, compared, void_pointer, increment_operator}
 pub use Rattle.c_resolved.specs.Program.{resolve, file_of, empty_file, with_parameters, around, parameter_variable, function_of, functions_of}
 pub use Rattle.c_resolved.specs.Layout.{Layout, layout_of, base_local}
@@ -34,7 +34,7 @@ pub use Rattle.linear_code.specs.declared.instruction.Instruction.TheVariants.{J
 pub use Rattle.linear_code.specs.declared.slot.Slot.TheVariants.{Local, Temporary}
 pub use Rattle.lowering_sizes.specs.Sizes.{expression_size, address_count, read_size, locate_size, conversion_size, elements_notes, stacked_notes, declared_notes, statement_notes, statements_notes, discarded_size, condition_size, declared_size, all_declared_size, statement_size, statements_size}
 pub use Rattle.lowering_expressions.specs.Expressions.{constant, copy, expression_code, combine, argument_count, chosen_of, conversion_code, unary_code, choice_code, code_code, abnormal_code, read_code, write_code, address_code, locate_code, stacked_code, arguments_code, node_code}
-pub use Rattle.seh_ir.specs.Lowered.{lowered_function, all_funclets, lowered, all_locals, scope_of, lowered_funclets, first_separators, bring_code, open_code, close_code, body_start}
+pub use Rattle.seh_ir.specs.Lowered.{lowered_function, all_funclets, lowered, all_locals, scope_of, lowered_funclets, asking, first_separators, bring_code, open_code, close_code, body_start}
 pub use Rattle.seh_ir.specs.Statements.{statements_code, jump_code, return_code, leave_code, discarded_code, returned_code, condition_code, initialiser_code, put_code, put_initialiser_code, clear_code, stacked_declared_code, declared_at_code, declared_code, all_declared_code, set_pointer, reset_code, landed, repeated, statement_code}
 pub use Rattle.seh_ir.specs.declared.funclets.Owner.{Owner}
 pub use Rattle.lowering_follows.specs.StepsPerTurn.{weight_of, steps_per_turn_of}

@@ -3,7 +3,7 @@ use Rattle.std.proofs.Common.{refl}
 use Rattle.source_meaning.specs.Meaning.{computed}
 use Rattle.linear_machine.specs.Run.{computed_linear}
 use Rattle.worked_programs.specs.LeftActivations.{LeftActivations}
-use Rattle.worked_programs.specs.LinearRows.{SumAndReturn, NullStoreCaught, FilterThenFinally, ContinueSameOperand, ReturnFlags, LeaveFlags, DivisionFaults, DivisionByZero, RaiseInFilter, RaiseInFinally, ContinueNoncontinuable, FilterAskedOnce, CollidedTwice, WalkInFilter, WalkAfterCollision, TargetInOuterActivation, TwoFilters, BreakThroughFinally, ReturnThroughTwo, StoreAcrossPages, FaultAddress, ReservedAccess, Conversions, Operators, SixArguments, Loops, DeepRecursion, EndlessRecursion, SumToArgument}
+use Rattle.worked_programs.specs.LinearRows.{SumAndReturn, NullStoreCaught, FilterThenFinally, ContinueSameOperand, ReturnFlags, LeaveFlags, DivisionFaults, DivisionByZero, RaiseInFilter, RaiseInFinally, ContinueNoncontinuable, FilterAskedOnce, CollidedTwice, WalkInFilter, WalkAfterCollision, TargetInOuterActivation, TwoFilters, BreakThroughFinally, ReturnThroughTwo, StoreAcrossPages, FaultAddress, ReservedAccess, Conversions, Operators, SixArguments, Loops, DeepRecursion, EndlessRecursion, AskedFirst, HandlerContinues, AskedAgain, SumToArgument}
 
 pub sum_and_return : SumAndReturn
 unfolding computed computed_linear
@@ -116,6 +116,18 @@ deep_recursion = refl
 pub endless_recursion : EndlessRecursion
 unfolding computed computed_linear
 endless_recursion = refl
+
+pub asked_first : AskedFirst
+unfolding computed computed_linear
+asked_first = refl
+
+pub handler_continues : HandlerContinues
+unfolding computed computed_linear
+handler_continues = refl
+
+pub asked_again : AskedAgain
+unfolding computed computed_linear
+asked_again = refl
 
 pub sum_to_argument : SumToArgument
 unfolding computed computed_linear

@@ -1,7 +1,7 @@
 -- The rows, computed.
 use Rattle.std.proofs.Common.{refl}
 use Rattle.source_meaning.specs.Meaning.{computed}
-use Rattle.worked_programs.specs.SourceRows.{sum_and_return_row, empty_text_row, null_store_caught_traced_row, null_store_caught_row, filter_then_finally_row, continue_same_operand_row, return_and_leave_flags_return_row, return_and_leave_flags_leave_row, division_faults_unhandled_overflow_row, division_faults_unhandled_zero_row, call_last_in_try_row, try_last_in_function_row, leaf_fault_caught_row, raise_in_filter_row, raise_in_finally_row, continue_noncontinuable_row, registers_restored_at_landing_row, deep_recursion_deep_row, deep_recursion_row, store_across_pages_row, fault_address_in_filter_row, sum_to_argument_0_row, sum_to_argument_9_row, misplaced_jumps_leave_row, misplaced_jumps_return_row, undefined_reserved_access_row, conversions_and_shifts_row, division_by_zero_traced_row, address_of_local_row, local_array_sum_row, data_stack_pointer_in_handlers_row, six_arguments_row, two_filters_of_one_fault_row, break_through_finally_row, return_through_two_finallys_row, target_in_outer_activation_row, filter_asked_once_under_collision_row, collided_twice_row}
+use Rattle.worked_programs.specs.SourceRows.{sum_and_return_row, empty_text_row, null_store_caught_traced_row, null_store_caught_row, filter_then_finally_row, continue_same_operand_row, return_and_leave_flags_return_row, return_and_leave_flags_leave_row, division_faults_unhandled_overflow_row, division_faults_unhandled_zero_row, call_last_in_try_row, try_last_in_function_row, leaf_fault_caught_row, raise_in_filter_row, raise_in_finally_row, continue_noncontinuable_row, registers_restored_at_landing_row, deep_recursion_deep_row, deep_recursion_row, store_across_pages_row, fault_address_in_filter_row, sum_to_argument_0_row, sum_to_argument_9_row, misplaced_jumps_leave_row, misplaced_jumps_return_row, undefined_reserved_access_row, conversions_and_shifts_row, division_by_zero_traced_row, address_of_local_row, local_array_sum_row, data_stack_pointer_in_handlers_row, six_arguments_row, two_filters_of_one_fault_row, break_through_finally_row, return_through_two_finallys_row, target_in_outer_activation_row, filter_asked_once_under_collision_row, collided_twice_row, vectored_handler_asked_first_row, vectored_handler_continues_row}
 
 pub sum_and_return : sum_and_return_row
 unfolding computed
@@ -164,3 +164,11 @@ filter_asked_once_under_collision = record {
 pub collided_twice : collided_twice_row
 unfolding computed
 collided_twice = record { faults = refl; sound = refl; prints = refl; ends = refl }
+
+pub vectored_handler_asked_first : vectored_handler_asked_first_row
+unfolding computed
+vectored_handler_asked_first = record { faults = refl; sound = refl; prints = refl; ends = refl }
+
+pub vectored_handler_continues : vectored_handler_continues_row
+unfolding computed
+vectored_handler_continues = record { faults = refl; sound = refl; prints = refl; ends = refl }

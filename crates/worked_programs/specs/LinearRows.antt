@@ -5,6 +5,7 @@ use Rattle.source_meaning.specs.Meaning.{meaning}
 use Rattle.source_meaning.specs.Rows.{sum_and_return, null_store_caught, filter_then_finally, continue_same_operand, return_flags, leave_flags, division_faults, division_by_zero, raise_in_filter, raise_in_finally, continue_noncontinuable}
 use Rattle.source_meaning.specs.MoreRows.{filter_asked_once, collided_twice, target_in_outer_activation, two_filters, break_through_finally, return_through_two, store_across_pages, fault_address, reserved_access, conversions, operators, six_arguments, loops, deep_recursion, endless_recursion, sum_to_argument}
 use Rattle.source_meaning.specs.WalkRows.{walk_in_filter, walk_after_collision}
+use Rattle.source_meaning.specs.VectoredRows.{asked_first, continues, asked_again}
 use Rattle.linear_machine.specs.Run.{linear_meaning}
 use Rattle.seh_ir.specs.Lowered.{lowered}
 
@@ -95,6 +96,15 @@ DeepRecursion = Agrees deep_recursion 0 1000
 
 abbrev pub EndlessRecursion : Type 0
 EndlessRecursion = Agrees endless_recursion 0 10000
+
+abbrev pub AskedFirst : Type 0
+AskedFirst = Agrees asked_first 0 100
+
+abbrev pub HandlerContinues : Type 0
+HandlerContinues = Agrees continues 0 100
+
+abbrev pub AskedAgain : Type 0
+AskedAgain = Agrees asked_again 0 100
 
 -- within fewer steps too, and with an argument
 abbrev pub SumToArgument : Type 0

@@ -4,7 +4,7 @@ use Rattle.seh_num.specs.declared.event.Event.TheVariants as events
 use Rattle.source_meaning.specs.declared.ended.Ended.TheVariants.{Exit, Unhandled, Undefined, Deep}
 use Rattle.c_resolved.specs.declared.fault.Fault.TheVariants.{NoMain, LeaveOutsideTry, JumpOutOfFinally}
 use Rattle.worked_programs.specs.Prints.{Prints, IsRefused}
-use Rattle.worked_programs.specs.Texts.{sum_and_return_text, sum_and_return, empty_text_text, empty_text, null_store_caught_traced_text, null_store_caught_traced, null_store_caught_text, null_store_caught, filter_then_finally_text, filter_then_finally, continue_same_operand_text, continue_same_operand, return_and_leave_flags_return_text, return_and_leave_flags_return, return_and_leave_flags_leave_text, return_and_leave_flags_leave, division_faults_unhandled_overflow_text, division_faults_unhandled_overflow, division_faults_unhandled_zero_text, division_faults_unhandled_zero, call_last_in_try_text, call_last_in_try, try_last_in_function_text, try_last_in_function, leaf_fault_caught_text, leaf_fault_caught, raise_in_filter_text, raise_in_filter, raise_in_finally_text, raise_in_finally, continue_noncontinuable_text, continue_noncontinuable, registers_restored_at_landing_text, registers_restored_at_landing, deep_recursion_deep_text, deep_recursion_deep, deep_recursion_text, deep_recursion, store_across_pages_text, store_across_pages, fault_address_in_filter_text, fault_address_in_filter, sum_to_argument_0_text, sum_to_argument_0, sum_to_argument_9_text, sum_to_argument_9, misplaced_jumps_leave_text, misplaced_jumps_leave, misplaced_jumps_return_text, misplaced_jumps_return, undefined_reserved_access_text, undefined_reserved_access, conversions_and_shifts_text, conversions_and_shifts, division_by_zero_traced_text, division_by_zero_traced, address_of_local_text, address_of_local, local_array_sum_text, local_array_sum, data_stack_pointer_in_handlers_text, data_stack_pointer_in_handlers, six_arguments_text, six_arguments, two_filters_of_one_fault_text, two_filters_of_one_fault, break_through_finally_text, break_through_finally, return_through_two_finallys_text, return_through_two_finallys, target_in_outer_activation_text, target_in_outer_activation, filter_asked_once_under_collision_text, filter_asked_once_under_collision, collided_twice_text, collided_twice}
+use Rattle.worked_programs.specs.Texts.{sum_and_return_text, sum_and_return, empty_text_text, empty_text, null_store_caught_traced_text, null_store_caught_traced, null_store_caught_text, null_store_caught, filter_then_finally_text, filter_then_finally, continue_same_operand_text, continue_same_operand, return_and_leave_flags_return_text, return_and_leave_flags_return, return_and_leave_flags_leave_text, return_and_leave_flags_leave, division_faults_unhandled_overflow_text, division_faults_unhandled_overflow, division_faults_unhandled_zero_text, division_faults_unhandled_zero, call_last_in_try_text, call_last_in_try, try_last_in_function_text, try_last_in_function, leaf_fault_caught_text, leaf_fault_caught, raise_in_filter_text, raise_in_filter, raise_in_finally_text, raise_in_finally, continue_noncontinuable_text, continue_noncontinuable, registers_restored_at_landing_text, registers_restored_at_landing, deep_recursion_deep_text, deep_recursion_deep, deep_recursion_text, deep_recursion, store_across_pages_text, store_across_pages, fault_address_in_filter_text, fault_address_in_filter, sum_to_argument_0_text, sum_to_argument_0, sum_to_argument_9_text, sum_to_argument_9, misplaced_jumps_leave_text, misplaced_jumps_leave, misplaced_jumps_return_text, misplaced_jumps_return, undefined_reserved_access_text, undefined_reserved_access, conversions_and_shifts_text, conversions_and_shifts, division_by_zero_traced_text, division_by_zero_traced, address_of_local_text, address_of_local, local_array_sum_text, local_array_sum, data_stack_pointer_in_handlers_text, data_stack_pointer_in_handlers, six_arguments_text, six_arguments, two_filters_of_one_fault_text, two_filters_of_one_fault, break_through_finally_text, break_through_finally, return_through_two_finallys_text, return_through_two_finallys, target_in_outer_activation_text, target_in_outer_activation, filter_asked_once_under_collision_text, filter_asked_once_under_collision, collided_twice_text, collided_twice, vectored_handler_asked_first_text, vectored_handler_asked_first, vectored_handler_continues_text, vectored_handler_continues}
 
 abbrev pub sum_and_return_row : Type 0
 sum_and_return_row =
@@ -216,3 +216,15 @@ collided_twice_row =
     ∷ events.Finally 2 true ∷ events.Raise (record { 0 = 3758096387 }) false None ∷ events.Filter 3
     ∷ events.Answer (pos 1) ∷ events.Except (record { 0 = 3758096387 }) ∷ events.Put (pos 3) ∷ [])
     (Exit (pos 0))
+
+abbrev pub vectored_handler_asked_first_row : Type 0
+vectored_handler_asked_first_row =
+    Prints vectored_handler_asked_first_text vectored_handler_asked_first true (pos 0) 1000
+    (events.Raise (record { 0 = 3758096385 }) false None ∷ events.Put (pos 1) ∷ events.Filter 1
+    ∷ events.Answer (pos 2) ∷ events.Except (record { 0 = 3758096385 }) ∷ events.Put (pos 3) ∷ [])
+    (Exit (pos 0))
+
+abbrev pub vectored_handler_continues_row : Type 0
+vectored_handler_continues_row =
+    Prints vectored_handler_continues_text vectored_handler_continues false (pos 0) 1000
+    (events.Put (pos 0) ∷ []) (Exit (pos 0))

@@ -318,3 +318,21 @@ collided_twice_text =
 
 abbrev pub collided_twice : List ExternalDeclaration
 collided_twice = Function (record { base = bases.Int; pointers = 0 }) (at 4 8) ([]) (stmts.Then (stmts.TryExcept (stmts.Then (stmts.TryExcept (stmts.Then (stmts.TryFinally (stmts.Then (stmts.TryFinally (stmts.Then (stmts.Evaluate (Some (trees.Call (at 44 58) (trees.Next (trees.Constant 59 (literals.Integer 3758096385 integers.Unsigned)) (trees.Next (trees.Constant 70 (literals.Integer 0 integers.Int)) (trees.Next (trees.Constant 72 (literals.Integer 0 integers.Int)) (trees.Next (trees.Constant 74 (literals.Integer 0 integers.Int)) trees.Done))))))) stmts.Empty) 80 (stmts.Then (stmts.Evaluate (Some (trees.Call (at 91 105) (trees.Next (trees.Constant 106 (literals.Integer 3758096386 integers.Unsigned)) (trees.Next (trees.Constant 117 (literals.Integer 0 integers.Int)) (trees.Next (trees.Constant 119 (literals.Integer 0 integers.Int)) (trees.Next (trees.Constant 121 (literals.Integer 0 integers.Int)) trees.Done))))))) stmts.Empty)) stmts.Empty) 129 (stmts.Then (stmts.Evaluate (Some (trees.Call (at 140 154) (trees.Next (trees.Constant 155 (literals.Integer 3758096387 integers.Unsigned)) (trees.Next (trees.Constant 166 (literals.Integer 0 integers.Int)) (trees.Next (trees.Constant 168 (literals.Integer 0 integers.Int)) (trees.Next (trees.Constant 170 (literals.Integer 0 integers.Int)) trees.Done))))))) stmts.Empty)) stmts.Empty) 178 (trees.Binary (trees.Call (at 187 203) trees.Done) 205 (binary.Comparison comparisons.Equal) (trees.Constant 207 (literals.Integer 3758096387 integers.Unsigned))) (stmts.Then (stmts.Evaluate (Some (trees.Call (at 220 223) (trees.Next (trees.Constant 224 (literals.Integer 3 integers.Int)) trees.Done)))) stmts.Empty)) stmts.Empty) 232 (trees.Constant 241 (literals.Integer 1 integers.Int)) (stmts.Then (stmts.Evaluate (Some (trees.Call (at 245 248) (trees.Next (trees.Constant 249 (literals.Integer 1 integers.Int)) trees.Done)))) stmts.Empty)) (stmts.Then (stmts.Return 255 (Some (trees.Constant 262 (literals.Integer 0 integers.Int)))) stmts.Empty)) ∷ []
+
+abbrev pub vectored_handler_asked_first_text : List ℕ
+vectored_handler_asked_first_text =
+    codes "int v(unsigned c, unsigned f){ put(c == 0xE0000001); return 0; } int "
+    ++ codes "main(void){ AddVectoredExceptionHandler(1, v); __try{ "
+    ++ codes "RaiseException(0xE0000001,0,0,0); } __except(2){ put(3); } return 0; }"
+
+abbrev pub vectored_handler_asked_first : List ExternalDeclaration
+vectored_handler_asked_first = Function (record { base = bases.Int; pointers = 0 }) (at 4 5) (record { of = (record { base = bases.Unsigned; pointers = 0 }); name = (at 15 16) } ∷ record { of = (record { base = bases.Unsigned; pointers = 0 }); name = (at 27 28) } ∷ []) (stmts.Then (stmts.Evaluate (Some (trees.Call (at 31 34) (trees.Next (trees.Binary (trees.Variable (at 35 36)) 37 (binary.Comparison comparisons.Equal) (trees.Constant 40 (literals.Integer 3758096385 integers.Unsigned))) trees.Done)))) (stmts.Then (stmts.Return 53 (Some (trees.Constant 60 (literals.Integer 0 integers.Int)))) stmts.Empty)) ∷ Function (record { base = bases.Int; pointers = 0 }) (at 69 73) ([]) (stmts.Then (stmts.Evaluate (Some (trees.Call (at 81 108) (trees.Next (trees.Constant 109 (literals.Integer 1 integers.Int)) (trees.Next (trees.Variable (at 112 113)) trees.Done))))) (stmts.Then (stmts.TryExcept (stmts.Then (stmts.Evaluate (Some (trees.Call (at 123 137) (trees.Next (trees.Constant 138 (literals.Integer 3758096385 integers.Unsigned)) (trees.Next (trees.Constant 149 (literals.Integer 0 integers.Int)) (trees.Next (trees.Constant 151 (literals.Integer 0 integers.Int)) (trees.Next (trees.Constant 153 (literals.Integer 0 integers.Int)) trees.Done))))))) stmts.Empty) 159 (trees.Constant 168 (literals.Integer 2 integers.Int)) (stmts.Then (stmts.Evaluate (Some (trees.Call (at 172 175) (trees.Next (trees.Constant 176 (literals.Integer 3 integers.Int)) trees.Done)))) stmts.Empty)) (stmts.Then (stmts.Return 182 (Some (trees.Constant 189 (literals.Integer 0 integers.Int)))) stmts.Empty))) ∷ []
+
+abbrev pub vectored_handler_continues_text : List ℕ
+vectored_handler_continues_text =
+    codes "int v(unsigned c, unsigned f){ protect((void*)0x20000000,2); return -1; } "
+    ++ codes "int main(void){ AddVectoredExceptionHandler(1, v); put(*(int*)0x20000000); "
+    ++ codes "return 0; }"
+
+abbrev pub vectored_handler_continues : List ExternalDeclaration
+vectored_handler_continues = Function (record { base = bases.Int; pointers = 0 }) (at 4 5) (record { of = (record { base = bases.Unsigned; pointers = 0 }); name = (at 15 16) } ∷ record { of = (record { base = bases.Unsigned; pointers = 0 }); name = (at 27 28) } ∷ []) (stmts.Then (stmts.Evaluate (Some (trees.Call (at 31 38) (trees.Next (trees.Cast 39 (record { base = bases.Void; pointers = 1 }) (trees.Constant 46 (literals.Integer 536870912 integers.Int))) (trees.Next (trees.Constant 57 (literals.Integer 2 integers.Int)) trees.Done))))) (stmts.Then (stmts.Return 61 (Some (trees.Unary 68 unary.Minus (trees.Constant 69 (literals.Integer 1 integers.Int))))) stmts.Empty)) ∷ Function (record { base = bases.Int; pointers = 0 }) (at 78 82) ([]) (stmts.Then (stmts.Evaluate (Some (trees.Call (at 90 117) (trees.Next (trees.Constant 118 (literals.Integer 1 integers.Int)) (trees.Next (trees.Variable (at 121 122)) trees.Done))))) (stmts.Then (stmts.Evaluate (Some (trees.Call (at 125 128) (trees.Next (trees.Unary 129 unary.Indirection (trees.Cast 130 (record { base = bases.Int; pointers = 1 }) (trees.Constant 136 (literals.Integer 536870912 integers.Int)))) trees.Done)))) (stmts.Then (stmts.Return 149 (Some (trees.Constant 156 (literals.Integer 0 integers.Int)))) stmts.Empty))) ∷ []

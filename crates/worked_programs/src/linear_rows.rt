@@ -1,7 +1,7 @@
 //! What the linear code of worked programs shows.
 
 ghost use Rattle.worked_programs.specs.LeftActivations.{LeftActivations};
-ghost use Rattle.worked_programs.specs.LinearRows.{SumAndReturn, NullStoreCaught, FilterThenFinally, ContinueSameOperand, ReturnFlags, LeaveFlags, DivisionFaults, DivisionByZero, RaiseInFilter, RaiseInFinally, ContinueNoncontinuable, FilterAskedOnce, CollidedTwice, WalkInFilter, WalkAfterCollision, TargetInOuterActivation, TwoFilters, BreakThroughFinally, ReturnThroughTwo, StoreAcrossPages, FaultAddress, ReservedAccess, Conversions, Operators, SixArguments, Loops, DeepRecursion, EndlessRecursion, SumToArgument};
+ghost use Rattle.worked_programs.specs.LinearRows.{SumAndReturn, NullStoreCaught, FilterThenFinally, ContinueSameOperand, ReturnFlags, LeaveFlags, DivisionFaults, DivisionByZero, RaiseInFilter, RaiseInFinally, ContinueNoncontinuable, FilterAskedOnce, CollidedTwice, WalkInFilter, WalkAfterCollision, TargetInOuterActivation, TwoFilters, BreakThroughFinally, ReturnThroughTwo, StoreAcrossPages, FaultAddress, ReservedAccess, Conversions, Operators, SixArguments, Loops, DeepRecursion, EndlessRecursion, AskedFirst, HandlerContinues, AskedAgain, SumToArgument};
 
 /// Each program shows by its linear code, in three turns a step, what it means.
 pub fn rows()
@@ -33,6 +33,9 @@ pub fn rows()
     ensures loops { Loops }
     ensures deep_recursion { DeepRecursion }
     ensures endless_recursion { EndlessRecursion }
+    ensures asked_first { AskedFirst }
+    ensures handler_continues { HandlerContinues }
+    ensures asked_again { AskedAgain }
     ensures sum_to_argument { SumToArgument }
     ensures left_activations { LeftActivations }
 {}

@@ -5,3 +5,4 @@ pub mod Nearby
 pub mod Parts
 pub mod CheckStack
 pub mod StackWords
+pub mod Stubs

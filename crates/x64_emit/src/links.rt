@@ -8,6 +8,25 @@ ghost use Rattle.x64_emit.specs.Linking as spec;
 use c_operations::built_in::BuiltIn;
 use std::marker::Model;
 
+/// Where stubs are that call a service on a function, one for each function, relative to the image
+/// base.
+#[derive(Clone, Copy, Debug, PartialEq, Eq)]
+pub struct Stubs {
+    /// The stub of the first function.
+    pub first: u32,
+    /// How far apart they are.
+    pub step: u32,
+    /// How many functions have one.
+    pub count: u32,
+}
+
+/// Stubs of a program that has none.
+pub const NO_STUBS: Stubs = Stubs {
+    first: 0,
+    step: 0,
+    count: 0,
+};
+
 /// Where the thunks are through which services are called, relative to the image base.
 #[derive(Clone, Copy, Debug, PartialEq, Eq)]
 pub struct Thunks {
@@ -21,6 +40,10 @@ pub struct Thunks {
     pub local_unwind: u32,
     /// The thunk of `walk`, in a program that imports it.
     pub walk: u32,
+    /// The stubs that add a function to the vectored handlers, in a program that imports that.
+    pub adding: Stubs,
+    /// The stubs that take one out, in a program that imports that.
+    pub removing: Stubs,
 }
 
 /// Thunks of a program that has none.
@@ -30,6 +53,8 @@ pub const NO_THUNKS: Thunks = Thunks {
     raise_exception: 0,
     local_unwind: 0,
     walk: 0,
+    adding: NO_STUBS,
+    removing: NO_STUBS,
 };
 
 /// Where everything is that the code of a body refers to, relative to the image base.
@@ -74,6 +99,19 @@ fn address_or(addresses: &[u32], index: u64, other: u32) -> u64
     match addresses.get(index as usize) {
         Some(address) => u64::from(*address),
         None => u64::from(other),
+    }
+}
+
+/// The stub of the function of an index, or 0 where there is none.
+fn stub_of(stubs: Stubs, function: u64) -> u64
+    requires { spec.AreStubsNear stubs }
+    ensures value { result ≡ spec.stub_of stubs function }
+    ensures near { IsNear result }
+{
+    if function < u64::from(stubs.count) {
+        u64::from(stubs.first) + u64::from(stubs.step) * function
+    } else {
+        0
     }
 }
 
@@ -135,17 +173,19 @@ impl<'a> Links<'a> {
         address_or(self.funclets, index, 0)
     }
 
-    /// The thunk of what is called by name.
+    /// The thunk of what is called by name, or the stub of a service on a function.
     pub fn built_in(&self, function: BuiltIn) -> u64
         ensures value { result ≡ (spec.links_of self.now).known function }
         ensures near { IsNear result }
     {
-        u64::from(match function {
-            BuiltIn::Put => self.thunks.put,
-            BuiltIn::Protect => self.thunks.protect,
-            BuiltIn::RaiseException => self.thunks.raise_exception,
-            BuiltIn::Walk => self.thunks.walk,
-        })
+        match function {
+            BuiltIn::Put => u64::from(self.thunks.put),
+            BuiltIn::Protect => u64::from(self.thunks.protect),
+            BuiltIn::RaiseException => u64::from(self.thunks.raise_exception),
+            BuiltIn::Walk => u64::from(self.thunks.walk),
+            BuiltIn::AddVectored(function) => stub_of(self.thunks.adding, function),
+            BuiltIn::RemoveVectored(function) => stub_of(self.thunks.removing, function),
+        }
     }
 
     /// The thunk of `_local_unwind`.

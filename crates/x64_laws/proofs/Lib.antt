@@ -16,3 +16,4 @@ pub mod Addresses
 pub mod StackTop
 pub mod ReadOnlySpellings
 pub mod PushedNumbers
+pub mod HandlersKept

@@ -10,3 +10,4 @@ pub mod Addressing
 pub mod Stack
 pub mod ReadOnly
 pub mod PushedNumbers
+pub mod Handlers

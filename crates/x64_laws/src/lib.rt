@@ -7,7 +7,8 @@
 //! quotient and remainder of RDX and RAX together; `comparing` that after the effect of CMP each
 //! condition is the comparison of the two numbers; `addressing` that an address is a sum; `stack`
 //! what PUSH, POP, CALL and RET do to the stack's top; `spelling` that all that is spelled can be
-//! encoded, in at most 15 bytes, and how spellings are read that are never written.
+//! encoded, in at most 15 bytes, and how spellings are read that are never written; `handlers` that
+//! no instruction reads or writes the host's list of vectored handlers.
 //!
 //! Begin with `specs/Arithmetic.antt`.
 #![tactic(auto)]
@@ -16,6 +17,7 @@ pub mod addressing;
 pub mod arithmetic;
 pub mod comparing;
 pub mod dividing;
+pub mod handlers;
 pub mod logic;
 pub mod shifting;
 pub mod spelling;

@@ -1,11 +1,13 @@
 use Rattle.std.proofs.Common.{◌≡◌, ◌∙◌, ◌+◌, ◌++◌, ◌<◌, ◌≤◌, [], get_or, length, map, ap, sym, refl, subst, arith, rules, nat_eq, false, true, Some}
+use Rattle.std.proofs.lemmas.Bool.{eqb-true}
 use Rattle.std.proofs.lemmas.Result.{on_ok_weaker, IfOk-weaker}
 use Rattle.std.specs.Prelude.{option_map}
 use Rattle.c_expressions.proofs.Kept.{kept_more}
 use Rattle.c_expressions.proofs.Ruled.{two, three, assign_is}
+use Rattle.c_expressions.proofs.Naming.{one_more, naming_refused, naming_passed, last_named, naming_found}
 use Rattle.c_expressions.proofs.Calling.{StillToPass, none_passed, pass_next_to, all_passed_at, called_for, fused, same_counts, call_refused, call_passed, faults_on, allowed_found, allowed_kept}
 use Rattle.c_expressions.proofs.expressions.+expressions.Goals as goal
-use Rattle.c_expressions.specs.Words.{passed_of, resolved_all, least_of, kept, assigning_to, assigning_at, rule_of_two, names_of, wanted, ArgCount, CodeOutsideFilter, AbnormalOutsideFinally, resolve_expression, rule_2, rule_3, fault_at, faults_of, pass_all, call_with, call, CodeFunction, AbnormalFunction, unsigned, int, element_of, binary_of, comma_of, conditional_of, typed_node, Expression, node, expression, start}
+use Rattle.c_expressions.specs.Words.{passed_of, resolved_all, least_of, kept, assigning_to, assigning_at, rule_of_two, names_of, wanted, ArgCount, CodeOutsideFilter, AbnormalOutsideFinally, resolve_expression, rule_2, rule_3, fault_at, faults_of, pass_all, handler_after, call_with, call, CodeFunction, AbnormalFunction, unsigned, int, element_of, binary_of, comma_of, conditional_of, typed_node, Expression, node, expression, start}
 use denote.Hole.Carrier as Carrier
 use Rattle.c_checked.specs.Expression as nodes
 use Rattle.c_syntax.specs.declared.expression.Expr.TheFolds.{fold-roll-Expr}
@@ -241,6 +243,7 @@ pub pass_all-loop-e-init : goal.pass_all-loop-e-init
 pass_all-loop-e-init t c =
     let s = names_of c.args.context.now in (
       refl,
+      omega arith,
       subst (λ d. StillToPass s (least_of c.args.worst.now)
           (pass_all (map wanted c.args.wants.now) (resolved_all s c.args.given.now)) d
           (least_of c.args.worst.now) c.args.wants.now c.args.given.now)
@@ -281,15 +284,29 @@ pass_all-loop-e-preserved t c =
     let ws = c.args.wants.now in
     let es = c.args.given.now in
     let x = c.want_at-want.result in
-    let lw : i < length ws = omega (arith, c.loop-e-test.true, c.requires) in (
+    let lw : i < length ws = omega (arith, c.loop-e.invariant.0, c.loop-e.invariant.1, c.if-i-count.false)
+    in (
       ap (λ k. k + 1) c.loop-e.invariant.0,
+      omega (arith, lw, c.loop-e.invariant.0),
       pass_next_to s (least_of c.args.worst.now) (pass_all (map wanted ws) (resolved_all s es)) _ _
           _ _ _ ws es i x c.e-item.result _ _ c.in_ok-passed.ensures lw
           (c.want_at-want.ensures ∙ ap (λ k. get_or ws k x) c.loop-e.invariant.0) c.loop-e-test.true
           c.e-item.is
           c.in_ok-found.ensures.found c.in_ok-found.ensures.faults c.pass-one.ensures.passed
-          c.pass-one.ensures.faults c.loop-e.invariant.1,
+          c.pass-one.ensures.faults c.loop-e.invariant.2,
     )
+
+pub pass_all-returns-then-i-count-clause-found : goal.pass_all-returns-then-i-count-clause-found
+pass_all-returns-then-i-count-clause-found t c =
+    let s = names_of c.args.context.now in
+    let i = c.loop-e.e-index in
+    let ws = c.args.wants.now in
+    let es = c.args.given.now in
+    let past : length ws ≤ i = omega (arith, c.loop-e.invariant.0, c.if-i-count.true) in
+    let done = option_map (λ v. map nodes.expression v.items) c.loop-e.passed in
+    fused nodes.arguments (λ v. map nodes.expression v.items) c.loop-e.passed
+    ∙ (all_passed_at s (least_of c.args.worst.now) (pass_all (map wanted ws) (resolved_all s es))
+    done (least_of c.loop-e.worst) ws es i past c.loop-e.invariant.2).0
 
 pub pass_all-returns-clause-found : goal.pass_all-returns-clause-found
 pass_all-returns-clause-found t c =
@@ -302,7 +319,7 @@ pass_all-returns-clause-found t c =
     let done = option_map (λ v. map nodes.expression v.items) c.loop-e.passed in
     fused nodes.arguments (λ v. map nodes.expression v.items) c.loop-e.passed
     ∙ (all_passed_at s (least_of c.args.worst.now) (pass_all (map wanted ws) (resolved_all s es))
-    done (least_of c.loop-e.worst) ws es i past' past c.loop-e.invariant.1).0
+    done (least_of c.loop-e.worst) ws es i past' c.loop-e.invariant.2).0
 
 pub special_call-returns-in_ok-passed-in-Some-CodeFunction-clause-found :
     goal.special_call-returns-in_ok-passed-in-Some-CodeFunction-clause-found
@@ -364,3 +381,64 @@ special_call-returns-in_ok-passed-in-Some-AbnormalFunction-clause-faults t c =
     c.args.at AbnormalOutsideFinally j _ first _ _ found so_far
     c.only_where-in-Some-AbnormalFunction.ensures.faults in
     search (rules, told)
+
+pub call_naming-returns-then-has_one_more-clause-found :
+    goal.call_naming-returns-then-has_one_more-clause-found
+call_naming-returns-then-has_one_more-clause-found t c =
+    let s = names_of c.args.context.now in
+    let ws = map wanted c.args.wants.now in
+    let args = resolved_all s c.args.given.now in
+    let more = sym c.has_one_more.ensures ∙ c.if-has_one_more.true in
+    let same : nat_eq (length ws + 1) (length args)
+    ≡ true = one_more s c.args.wants.now c.args.given.now ∙ more in
+    let count : length c.args.wants.now + 1 ≡ length c.args.given.now = eqb-true _ _ more in
+    let lt : length c.args.wants.now < length c.args.given.now = omega (arith, count) in
+    let last = last_named s c.args.wants.now c.args.given.now c.index-given-count.result lt
+    c.index-given-count.is in
+    λ of. naming_found of c.naming.result _ _ (pass_all ws args) (handler_after ws args)
+    c.naming.ensures c.in_ok-passed.ensures.found
+    (c.in_ok-named.ensures.found ∙ ap (λ h. h.found) (sym last))
+    ∙ ap (λ j. j.found) (sym (naming_passed c.args.at ws of args same))
+
+pub call_naming-returns-then-has_one_more-clause-faults :
+    goal.call_naming-returns-then-has_one_more-clause-faults
+call_naming-returns-then-has_one_more-clause-faults t c =
+    let s = names_of c.args.context.now in
+    let ws = map wanted c.args.wants.now in
+    let args = resolved_all s c.args.given.now in
+    let more = sym c.has_one_more.ensures ∙ c.if-has_one_more.true in
+    let same : nat_eq (length ws + 1) (length args)
+    ≡ true = one_more s c.args.wants.now c.args.given.now ∙ more in
+    let count : length c.args.wants.now + 1 ≡ length c.args.given.now = eqb-true _ _ more in
+    let lt : length c.args.wants.now < length c.args.given.now = omega (arith, count) in
+    let last = last_named s c.args.wants.now c.args.given.now c.index-given-count.result lt
+    c.index-given-count.is in
+    λ of. kept_more (least_of c.args.worst.now) _ _ (pass_all ws args).faults
+    (handler_after ws args).faults c.in_ok-passed.ensures.faults
+    (c.in_ok-named.ensures.faults
+    ∙ ap (λ h. kept (least_of c.pass_all.new.worst) h.faults) (sym last))
+    ∙ ap (λ j. kept (least_of c.args.worst.now) j.faults)
+    (sym (naming_passed c.args.at ws of args same))
+
+pub call_naming-returns-clause-found : goal.call_naming-returns-clause-found
+call_naming-returns-clause-found t c =
+    let s = names_of c.args.context.now in
+    let ws = map wanted c.args.wants.now in
+    let args = resolved_all s c.args.given.now in
+    let differ : nat_eq (length ws + 1) (length args)
+    ≡ false = one_more s c.args.wants.now c.args.given.now ∙ sym c.has_one_more.ensures
+    ∙ c.if-has_one_more.false in
+    λ of. ap (λ j. j.found) (sym (naming_refused c.args.at ws of args differ))
+
+pub call_naming-returns-clause-faults : goal.call_naming-returns-clause-faults
+call_naming-returns-clause-faults t c =
+    let s = names_of c.args.context.now in
+    let ws = map wanted c.args.wants.now in
+    let args = resolved_all s c.args.given.now in
+    let differ : nat_eq (length ws + 1) (length args)
+    ≡ false = one_more s c.args.wants.now c.args.given.now ∙ sym c.has_one_more.ensures
+    ∙ c.if-has_one_more.false in
+    λ of. kept_more (least_of c.args.worst.now) _ _ (faults_of args)
+    (fault_at c.args.at ArgCount) c.in_ok-resolve_all.ensures c.add.ensures
+    ∙ ap (λ j. kept (least_of c.args.worst.now) j.faults)
+    (sym (naming_refused c.args.at ws of args differ))

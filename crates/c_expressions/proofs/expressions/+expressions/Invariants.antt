@@ -1,4 +1,4 @@
-use Rattle.std.proofs.Common.{◌≡◌, drop, map}
+use Rattle.std.proofs.Common.{◌≡◌, ◌≤◌, drop, length, map}
 use Rattle.std.specs.Prelude.{option_map}
 use Rattle.c_checked.specs.Expression as nodes
 use Rattle.c_expressions.proofs.Calling.{StillToPass}
@@ -7,7 +7,7 @@ use Rattle.c_expressions.specs.Words.{resolved_all, least_of, kept, names_of, wa
 
 abbrev pub invariant-pass_all-loop-e : goal.invariant-pass_all-loop-e
 invariant-pass_all-loop-e l =
-    (l.i ≡ l.e-index)
+    (l.i ≡ l.e-index) × (l.i ≤ length l.wants)
     × StillToPass (names_of l.context) (least_of l.initial.worst)
     (pass_all (map wanted l.wants) (resolved_all (names_of l.context) l.given))
     (option_map (λ v. map nodes.expression v.items) l.passed) (least_of l.worst)

@@ -1,4 +1,4 @@
-use Rattle.c_resolved.proofs.Rows.{char_and_int, pointer_and_index, pointer_and_zero, changes, calls, faults}
+use Rattle.c_resolved.proofs.Rows.{char_and_int, pointer_and_index, pointer_and_zero, changes, calls, handlers, address_of_local, faults}
 use Rattle.c_resolved.proofs.resolution_laws.rows.Goals as goal
 
 pub returns : goal.returns
@@ -8,5 +8,7 @@ returns c = record {
   pointer_and_zero = pointer_and_zero;
   changes = changes;
   calls = calls;
+  handlers = handlers;
+  address_of_local = address_of_local;
   faults = faults;
 }

@@ -6,16 +6,14 @@ use Rattle.pe_image.specs.Reading.{IsImage}
 use Rattle.pe_write.specs.Program as images
 use Rattle.pe_write.specs.Written.{written}
 use Rattle.image_link.specs.Words.{ImageContents, LinearProgram, LinearFunction, IrFunction, linear_program, linear_function, RoutineView, routines, IsRoutineNear, AreFew, HasNames, HasPlaces, calls_walk, named_if, named_functions}
-use Rattle.image_link.proofs.Front.{services_are, services_few}
+use Rattle.image_link.proofs.Front.{services_few}
 use Rattle.image_link.proofs.Nearness.{routines_near}
 use Rattle.image_link.proofs.Images.{has_places, has_names, linked_is}
 use Rattle.image_link.proofs.link.compile_program.Goals as goal
 
 pub image_of-requires-clause-imports : goal.image_of-requires-clause-imports
 image_of-requires-clause-imports c =
-    subst AreFew (sym (c.deref.ensures.value ∙ c.in_ok-imports.ensures
-    ∙ services_are (linear_program c.args.program.now) c.calls_walk-walks.result
-    c.calls_walk-walks.ensures))
+    subst AreFew (sym (c.deref.ensures.value ∙ c.in_ok-imports.ensures))
     (services_few (linear_program c.args.program.now))
 
 pub image_of-requires-clause-near : goal.image_of-requires-clause-near
@@ -48,8 +46,8 @@ image_of-requires-clause-names c =
     subst (λ (rs : List RoutineView). HasNames rs (map linear_function c.named_if.result.now))
     (sym (c.deref-3.ensures.value ∙ c.in_ok-routines.ensures))
     (subst (HasNames (routines p))
-    (sym (named_is p c.calls_walk-walks.result c.deref-4.result.now
-    c.args.program.now.functions.items _ c.calls_walk-walks.ensures c.deref-4.ensures.value refl
+    (sym (named_is p c.calls-walks.result c.deref-4.result.now
+    c.args.program.now.functions.items _ c.calls-walks.ensures c.deref-4.ensures.value refl
     c.named_if.ensures))
     (has_names p c.requires))
 
@@ -60,12 +58,11 @@ returns-clause-bytes c =
     let o = c.args.program.now.functions.ok in
     let same = linked_is p c.in_ok-image.image c.deref.result.now c.deref-2.result.now
     c.deref-3.result.now c.len-functions.result p.main _ c.in_ok-image.ensures
-    (c.deref.ensures.value ∙ c.in_ok-imports.ensures
-    ∙ services_are p c.calls_walk-walks.result c.calls_walk-walks.ensures) c.deref-2.ensures.value
+    (c.deref.ensures.value ∙ c.in_ok-imports.ensures) c.deref-2.ensures.value
     (c.deref-3.ensures.value ∙ c.in_ok-routines.ensures)
     (omega (arith, length-map c.args.program.now.functions.items linear_function)) refl
-    (named_is p c.calls_walk-walks.result c.deref-4.result.now c.args.program.now.functions.items
-    _ c.calls_walk-walks.ensures c.deref-4.ensures.value refl c.named_if.ensures) in
+    (named_is p c.calls-walks.result c.deref-4.result.now c.args.program.now.functions.items
+    _ c.calls-walks.ensures c.deref-4.ensures.value refl c.named_if.ensures) in
     subst (λ (x : ImageContents). IfOk c.write.result
     (λ bytes. bytes.items ≡ written (images.parts_of x))) same c.write.ensures.written
 
@@ -76,12 +73,11 @@ returns-clause-image c =
     let o = c.args.program.now.functions.ok in
     let same = linked_is p c.in_ok-image.image c.deref.result.now c.deref-2.result.now
     c.deref-3.result.now c.len-functions.result p.main _ c.in_ok-image.ensures
-    (c.deref.ensures.value ∙ c.in_ok-imports.ensures
-    ∙ services_are p c.calls_walk-walks.result c.calls_walk-walks.ensures) c.deref-2.ensures.value
+    (c.deref.ensures.value ∙ c.in_ok-imports.ensures) c.deref-2.ensures.value
     (c.deref-3.ensures.value ∙ c.in_ok-routines.ensures)
     (omega (arith, length-map c.args.program.now.functions.items linear_function)) refl
-    (named_is p c.calls_walk-walks.result c.deref-4.result.now c.args.program.now.functions.items
-    _ c.calls_walk-walks.ensures c.deref-4.ensures.value refl c.named_if.ensures) in
+    (named_is p c.calls-walks.result c.deref-4.result.now c.args.program.now.functions.items
+    _ c.calls-walks.ensures c.deref-4.ensures.value refl c.named_if.ensures) in
     subst (λ (x : ImageContents). IfOk c.write.result
     (λ bytes. IsImage bytes.items (images.image_of x))) same c.write.ensures.read_again
 
@@ -92,11 +88,10 @@ returns-clause-small c =
     let o = c.args.program.now.functions.ok in
     let same = linked_is p c.in_ok-image.image c.deref.result.now c.deref-2.result.now
     c.deref-3.result.now c.len-functions.result p.main _ c.in_ok-image.ensures
-    (c.deref.ensures.value ∙ c.in_ok-imports.ensures
-    ∙ services_are p c.calls_walk-walks.result c.calls_walk-walks.ensures) c.deref-2.ensures.value
+    (c.deref.ensures.value ∙ c.in_ok-imports.ensures) c.deref-2.ensures.value
     (c.deref-3.ensures.value ∙ c.in_ok-routines.ensures)
     (omega (arith, length-map c.args.program.now.functions.items linear_function)) refl
-    (named_is p c.calls_walk-walks.result c.deref-4.result.now c.args.program.now.functions.items
-    _ c.calls_walk-walks.ensures c.deref-4.ensures.value refl c.named_if.ensures) in
+    (named_is p c.calls-walks.result c.deref-4.result.now c.args.program.now.functions.items
+    _ c.calls-walks.ensures c.deref-4.ensures.value refl c.named_if.ensures) in
     subst (λ (x : ImageContents). IfOk c.write.result
     (λ bytes. length bytes.items ≤ images.end_at (images.sizes_of x))) same c.write.ensures.small

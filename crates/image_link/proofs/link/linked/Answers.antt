@@ -1,11 +1,49 @@
 use Rattle.std.proofs.Common.{◌≡◌, ℕ, ◌+◌, ◌-◌, ◌++◌, List, length, get_or, map, take, sym, ap, subst, ◌∙◌, arith}
 use Rattle.image_link.specs.Text as texts
-use Rattle.image_link.specs.Words.{linear_function, ImageContents, CanBeImage, SiteView, first, first_cold, first_routine_at, total, image_of, places_from, parts_of, function_rows, all_part_rows}
+use Rattle.image_link.specs.Words.{linear_function, ImportedService, Blocks, ImageContents, CanBeImage, SiteView, first, first_cold, first_routine_at, total, image_of, places_from, parts_of, function_rows, all_part_rows}
 use Rattle.std.proofs.lemmas.List.{length-map}
 use Rattle.image_link.proofs.Bounds.{count_small}
 use Rattle.image_link.proofs.Images.{if_ok, there, past, is_site_near, image_is, is_program, no_routine}
 use Rattle.image_link.proofs.Places.{places_count, parts_are}
 use Rattle.image_link.proofs.link.linked.Goals as goal
+
+-- the addresses that routines refer to, with the blocks as they are defined
+with_blocks : (s : SiteView) (imports : List ImportedService) (text rdata : ℕ)
+    (functions funclets : List ℕ) (b of : Blocks)
+    → s
+    ≡ record {
+      imports = imports;
+      text = text;
+      rdata = rdata;
+      functions = functions;
+      funclets = funclets;
+      blocks = b;
+    } → b ≡ of
+    → s
+    ≡ record {
+      imports = imports;
+      text = text;
+      rdata = rdata;
+      functions = functions;
+      funclets = funclets;
+      blocks = of;
+    }
+with_blocks s imports text rdata functions funclets b of e f =
+    e ∙ (λ i. record {
+      imports = imports;
+      text = text;
+      rdata = rdata;
+      functions = functions;
+      funclets = funclets;
+      blocks = f i;
+    })
+
+pub overflow_cast-functions : goal.overflow_cast-functions
+overflow_cast-functions c =
+    let fewer = c.requires.places.fewer in
+    let room = c.requires.places.room in
+    let few = count_small c.args.routines.now in
+    omega arith
 
 pub site_of-site-requires : goal.site_of-site-requires
 site_of-site-requires c =
@@ -18,14 +56,16 @@ pub text_of-requires-clause-site : goal.text_of-requires-clause-site
 text_of-requires-clause-site c =
     is_site_near c.args.imports.now c.args.globals.now c.deref.result.now c.args.routines.now
     c.args.functions c.placement_of-placement.result c.placement_of-placement.ensures.placed
-    (c.deref.ensures.value ∙ c.requires.bounds) _ c.site_of-site.ensures c.args.main
+    (c.deref.ensures.value ∙ c.requires.bounds) c.args.places.now.end c.requires.end _
+    (with_blocks _ _ _ _ _ _ _ _ c.site_of-site.ensures c.blocks_at-blocks.ensures) c.args.main
     c.requires.imports c.requires.globals c.requires.near c.requires.places
 
 pub tables_of-requires-clause-site : goal.tables_of-requires-clause-site
 tables_of-requires-clause-site c =
     is_site_near c.args.imports.now c.args.globals.now c.deref.result.now c.args.routines.now
     c.args.functions c.placement_of-placement.result c.placement_of-placement.ensures.placed
-    (c.deref.ensures.value ∙ c.requires.bounds) _ c.site_of-site.ensures c.args.main
+    (c.deref.ensures.value ∙ c.requires.bounds) c.args.places.now.end c.requires.end _
+    (with_blocks _ _ _ _ _ _ _ _ c.site_of-site.ensures c.blocks_at-blocks.ensures) c.args.main
     c.requires.imports c.requires.globals c.requires.near c.requires.places
 
 pub text_of-requires-clause-places : goal.text_of-requires-clause-places
@@ -105,8 +145,10 @@ image_with-requires c =
     ∙ ap (λ pss. function_rows 0 (texts.bounds at rs) named ++ all_part_rows 1 pss)
     (parts_are (length named) at cold rs) in
     let same = image_is imports g c.deref.result.now rs c.args.functions
-    c.placement_of-placement.result c.placement_of-placement.ensures.placed between _
-    c.site_of-site.ensures c.args.main c.offset_of-entry.result
+    c.placement_of-placement.result c.placement_of-placement.ensures.placed between
+    c.args.places.now.end c.requires.end _
+    (with_blocks _ _ _ _ _ _ _ _ c.site_of-site.ensures c.blocks_at-blocks.ensures) c.args.main
+    c.offset_of-entry.result
     (c.placement_of-placement.result.text + c.front_size.result) c.in_ok-code.code.items
     c.in_ok-tables.tables.xdata.items c.in_ok-tables.tables.pdata.items c.in_ok-names.names.items
     named entry
@@ -137,8 +179,10 @@ returns c =
     ∙ ap (λ pss. function_rows 0 (texts.bounds at rs) named ++ all_part_rows 1 pss)
     (parts_are (length named) at cold rs) in
     let same = image_is imports g c.deref.result.now rs c.args.functions
-    c.placement_of-placement.result c.placement_of-placement.ensures.placed between _
-    c.site_of-site.ensures c.args.main c.offset_of-entry.result
+    c.placement_of-placement.result c.placement_of-placement.ensures.placed between
+    c.args.places.now.end c.requires.end _
+    (with_blocks _ _ _ _ _ _ _ _ c.site_of-site.ensures c.blocks_at-blocks.ensures) c.args.main
+    c.offset_of-entry.result
     (c.placement_of-placement.result.text + c.front_size.result) c.in_ok-code.code.items
     c.in_ok-tables.tables.xdata.items c.in_ok-tables.tables.pdata.items c.in_ok-names.names.items
     named entry

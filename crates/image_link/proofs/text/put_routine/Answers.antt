@@ -49,7 +49,7 @@ links_are : (s t : SiteView) (at : ℕ) (r : RoutineView) (p q : PlaceView) (lab
       end = p.end;
       functions = s.functions;
       funclets = s.funclets;
-      thunks = thunks_at s.imports s.text;
+      thunks = thunks_at s.imports s.text s.blocks;
     } → a ≡ addresses t at q.cold r
 links_are s t at r p q labels a site placed same e =
     e ∙ (λ i. record {
@@ -57,7 +57,7 @@ links_are s t at r p q labels a site placed same e =
       end = (placed i).end;
       functions = (site i).functions;
       funclets = (site i).funclets;
-      thunks = thunks_at (site i).imports (site i).text;
+      thunks = thunks_at (site i).imports (site i).text (site i).blocks;
     })
 
 if_any : {A E : Type 0} (P : Type 0) (r : Result A E) → P → OnOk r P

@@ -7,4 +7,6 @@ returns c = record {
   puts = lemma.puts_are_matched;
   protects = lemma.protects_are_matched;
   walks = lemma.walks_are_matched;
+  adds = lemma.adds_are_matched;
+  removes = lemma.removes_are_matched;
 }

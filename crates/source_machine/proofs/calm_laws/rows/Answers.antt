@@ -10,6 +10,9 @@ returns-clause-plain c = rows.plain_rows
 pub returns-clause-raises_in_filters : goal.returns-clause-raises_in_filters
 returns-clause-raises_in_filters c = rows.raises_in_filters
 
+pub returns-clause-raises_in_vectored : goal.returns-clause-raises_in_vectored
+returns-clause-raises_in_vectored c = rows.raises_in_vectored
+
 pub returns-clause-raises_in_finallys : goal.returns-clause-raises_in_finallys
 returns-clause-raises_in_finallys c = rows.raises_in_finallys
 

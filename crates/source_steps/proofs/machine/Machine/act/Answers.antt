@@ -72,9 +72,22 @@ returns-in-Answer c = λ x es.
     ap (λ n. model.done (whole.program c.args._program.now) (machine_of c.args.self.now x es)
     (views.action_of n)) c.in-Answer.is ∙ c.answer.ensures (whole.program c.args._program.now) x es
 
+pub returns-in-LetGo : goal.returns-in-LetGo
+returns-in-LetGo c = λ x es.
+    ap (λ n. model.done (whole.program c.args._program.now) (machine_of c.args.self.now x es)
+    (views.action_of n)) c.in-LetGo.is ∙ c.let_go.ensures (whole.program c.args._program.now) x es
+
 pub returns-in-Search : goal.returns-in-Search
 returns-in-Search c =
     unshown (λ n m. model.done (whole.program c.args._program.now) m (views.action_of n))
     c.args.self.now c.search.new.self _ _ c.search.result
     c.silently-in-Search.result c.in-Search.is c.silently-in-Search.ensures
     c.search.ensures
+
+pub returns-in-OfVectored : goal.returns-in-OfVectored
+returns-in-OfVectored c =
+    let program = whole.program c.args._program.now in
+    unshown (λ n m. model.done program m (views.action_of n))
+    c.args.self.now c.act_vectored.new.self _ _ c.act_vectored.result
+    c.silently-in-OfVectored.result c.in-OfVectored.is c.silently-in-OfVectored.ensures
+    (c.act_vectored.ensures program)

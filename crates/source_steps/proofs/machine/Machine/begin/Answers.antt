@@ -2,6 +2,7 @@ use Rattle.std.proofs.Common.{ap, subst, sym, ◌∙◌, IfOk}
 use Rattle.source_machine.specs.Machine as model
 use Rattle.source_plans.specs.Views as views
 use Rattle.source_steps.specs.Machines.{machine_of, Showed}
+use Rattle.source_steps.proofs.Unshown.{unshown}
 use Rattle.source_steps.proofs.machine.Machine.begin.Goals as goal
 
 pub returns-in-Eval : goal.returns-in-Eval
@@ -26,3 +27,9 @@ returns-in-DoIteration c =
     (subst (λ q. IfOk c.planned-in-DoIteration.result
     (Showed c.args.self.now c.planned-in-DoIteration.new.self (λ m. model.follow m q)))
     c.do_plan.ensures c.planned-in-DoIteration.ensures)
+
+pub returns-in-AskVectored : goal.returns-in-AskVectored
+returns-in-AskVectored c =
+    unshown (λ t m. model.begun m (views.task_of t) (views.place_of c.args.place))
+    c.args.self.now c.ask_vectored.new.self _ _ c.ask_vectored.result
+    c.silently.result c.in-AskVectored.is c.silently.ensures c.ask_vectored.ensures
