@@ -12,7 +12,8 @@ use Rattle.c_resolved.proofs.TypeFacts.{pointer_scalar}
 -- ---- sizes and alignment
 
 pointers_scalar : (b : Base) (p : ℕ) → is_scalar (record { base = b; pointers = suc p }) ≡ true
-pointers_scalar b p = pointer_scalar (record { base = b; pointers = suc p }) (lt-ltb 0 (suc p) (omega arith))
+pointers_scalar b p = pointer_scalar (record { base = b; pointers = suc p })
+    (lt-ltb 0 (suc p) (omega arith))
 
 -- what a variable takes, also one of type void
 pub stored_is : (b : Base) (p : ℕ) → stored_bytes (record { base = b; pointers = p }) ≡ size b p
@@ -82,10 +83,6 @@ Holds n p l end = (from : ℕ) → room p.variables + from ≤ room n.variables 
 none_holds : (n : Numbering) → Holds n n 0 (λ at. at)
 none_holds n from = omega arith
 
-then_holds : (n m p : Numbering) (l r : ℕ) (e f : ℕ → ℕ) → Holds n m l e → Holds m p r f
-    → Holds n p (l + r) (λ at. f (e at))
-then_holds n m p l r e f h k from = let a = h from in let b = k (e from) in omega (arith, a, b)
-
 -- ---- declarations
 
 local_room : (b : Base) (p : ℕ) (l : Option Length) (from : ℕ)
@@ -134,9 +131,11 @@ mutual
       → Holds n (resolve_statement s a block n).counts (limits.locals s) (limits.end_of_arrays s)
   statement_holds (statements.Declare base ls) a block n from =
       declare_all_holds a base ls block n from
-  statement_holds (statements.Block ss) a block n from = statements_hold ss (inside a block) [] n from
+  statement_holds (statements.Block ss) a block n from = statements_hold ss (inside a block) [] n
+      from
   statement_holds (statements.Evaluate e) a block n from = none_holds n from
-  statement_holds (statements.If at c s) a block n from = statement_holds s (inside a block) [] n from
+  statement_holds (statements.If at c s) a block n from = statement_holds s (inside a block) [] n
+      from
   statement_holds (statements.IfElse at c s t) a block n from =
       let m = resolve_statement s (inside a block) [] n in
       let h = statement_holds s (inside a block) [] n from in

@@ -172,16 +172,19 @@ global_fits_after text base g file =
 below_top : (n : ℕ) → n ≤ 1048576 → nat_lt (first_data + n) (2 ^ 64) ≡ true
 below_top n h = lt-ltb (first_data + n) (2 ^ 64) (omega arith)
 
-global_entity_fits : (fs : List checked_program.Function) (zs : List Size) (layout : Layout) (t : CType) (n : ℕ)
+global_entity_fits : (fs : List checked_program.Function) (zs : List Size) (layout : Layout)
+    (t : CType) (n : ℕ)
     (l : Option Length) → n ≤ 1048576 → is_scalar t ≡ true
     → EntityFits fs zs layout (global_entity t (first_data + n) l)
 global_entity_fits fs zs layout t n None h s = (below_top n h, s)
 global_entity_fits fs zs layout t n (Some l) h s = tt
 
-global_fits : (fs : List checked_program.Function) (zs : List Size) (layout : Layout) (text : List ℕ) (base : Base)
+global_fits : (fs : List checked_program.Function) (zs : List Size) (layout : Layout)
+    (text : List ℕ) (base : Base)
     (g : Global) (file : File) → is_scalar (type_of_global base g) ≡ true
     → length (with_global text base g file).bytes ≤ 1048576
-    → ScopeFits fs zs layout file.scope → ScopeFits fs zs layout (with_global text base g file).scope
+    → ScopeFits fs zs layout file.scope → ScopeFits fs zs layout (with_global text base g
+    file).scope
 global_fits fs zs layout text base g file s h fit =
     let t = type_of_global base g in
     let n = length (padded (bytes_in t) file.bytes) in
@@ -218,10 +221,12 @@ globals_grow text base (g ∷ gs) file =
     let c = globals_grow text base gs (with_global text base g file) in
     omega arith
 
-globals_fit : (fs : List checked_program.Function) (zs : List Size) (layout : Layout) (text : List ℕ) (base : Base)
+globals_fit : (fs : List checked_program.Function) (zs : List Size) (layout : Layout)
+    (text : List ℕ) (base : Base)
     (gs : List Global) (file : File) → (with_globals text base gs file).faults ≡ []
     → length (with_globals text base gs file).bytes ≤ 1048576
-    → ScopeFits fs zs layout file.scope → ScopeFits fs zs layout (with_globals text base gs file).scope
+    → ScopeFits fs zs layout file.scope → ScopeFits fs zs layout (with_globals text base gs
+    file).scope
 globals_fit fs zs layout text base [] file none h fit = fit
 globals_fit fs zs layout text base (g ∷ gs) file none h fit =
     let next = with_global text base g file in
@@ -278,7 +283,8 @@ FunctionsFrom fs k (Globals base gs ∷ xs) = FunctionsFrom fs k xs
 FunctionsFrom fs k (Function t n ps body ∷ xs) = FunctionFits fs k t (parameter_types ps)
     × FunctionsFrom fs (k + 1) xs
 
-pub file_fits : (fs : List checked_program.Function) (zs : List Size) (layout : Layout) (text : List ℕ)
+pub file_fits : (fs : List checked_program.Function) (zs : List Size) (layout : Layout)
+    (text : List ℕ)
     (xs : List ExternalDeclaration) (file : File) → (file_of text xs file).faults ≡ []
     → length (file_of text xs file).bytes ≤ 1048576
     → FunctionsFrom fs file.functions xs → ScopeFits fs zs layout file.scope
@@ -291,7 +297,8 @@ file_fits fs zs layout text (Globals base gs ∷ xs) file none h from fit =
     (sym (same_functions text base gs file)) from)
     (globals_fit fs zs layout text base gs file (file_before text xs next none) (omega arith) fit)
 file_fits fs zs layout text (Function t n ps body ∷ xs) file none h from fit =
-    file_fits fs zs layout text xs (with_external_declaration text (Function t n ps body) file) none h
+    file_fits fs zs layout text xs (with_external_declaration text (Function t n ps body) file) none
+    h
     from.1
     (with_name_fits fs zs layout file.scope (spelled text n)
     (UserFunction file.functions t (parameter_types ps)) fit from.0)

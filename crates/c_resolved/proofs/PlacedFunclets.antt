@@ -4,7 +4,8 @@ use Rattle.std.specs.Prelude.{◌∷◌, ◌++◌}
 use Rattle.c_checked.specs.Statement as checked
 use Rattle.c_resolved.specs.Words.{Layout, place_filter, place_statement, place_statements, filter_funclet, funclets_in, funclets}
 
-same_filter : (l : Layout) (f : checked.Filter) → filter_funclet (place_filter l f) ≡ filter_funclet f
+same_filter : (l : Layout) (f : checked.Filter) → filter_funclet (place_filter l f) ≡ filter_funclet
+    f
 same_filter l checked.Always = refl
 same_filter l (checked.Funclet k e) = refl
 

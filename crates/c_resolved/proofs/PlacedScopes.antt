@@ -63,8 +63,10 @@ module _ (l : Layout) (a b : SeenNames) (r : Follows l a b) where
         (expression_follows e (both_right (lvalue_within a p) (expression_within a e) h))
     node_follows (nodes.Increment m p before o n after) h = lvalue_follows p h
     node_follows (nodes.Unary o e) h = expression_follows e h
-    node_follows (nodes.Binary o e f) h = both_follow (expression_follows e) (expression_follows f) h
-    node_follows (nodes.PointerDifference n e f) h = both_follow (expression_follows e) (expression_follows f) h
+    node_follows (nodes.Binary o e f) h = both_follow (expression_follows e) (expression_follows f)
+        h
+    node_follows (nodes.PointerDifference n e f) h = both_follow (expression_follows e)
+        (expression_follows f) h
     node_follows (nodes.Not e) h = expression_follows e h
     node_follows (nodes.And e f) h = both_follow (expression_follows e) (expression_follows f) h
     node_follows (nodes.Or e f) h = both_follow (expression_follows e) (expression_follows f) h
@@ -87,7 +89,8 @@ module _ (l : Layout) (a b : SeenNames) (r : Follows l a b) where
     lvalue_follows (nodes.Stacked access x offset) h = variable_within b l.base x (place_of l x)
         (r.seen x h)
     lvalue_follows (nodes.Indirection access e) h = expression_follows e h
-    lvalue_follows (nodes.Element access e i) h = both_follow (expression_follows e) (expression_follows i) h
+    lvalue_follows (nodes.Element access e i) h = both_follow (expression_follows e)
+        (expression_follows i) h
 
     arguments_follow : (es : Arguments) → arguments_within a es ≡ true
         → arguments_within b (place_arguments l es) ≡ true

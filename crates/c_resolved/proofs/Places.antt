@@ -164,7 +164,8 @@ frame_sound true count xs l e small below =
     (eq-eqb l.base (count + (length (xs ++ sizes.Long ∷ []) - 1)) (omega (arith, e, last))))
     (ap (is_size sizes.Long) got))
     (lt-ltb l.size (2 ^ 21) small))
-    (le-leb (length (stacked_parameters 0 (take count l.places))) count (omega (arith, few, taken))))
+    (le-leb (length (stacked_parameters 0 (take count l.places))) count
+    (omega (arith, few, taken))))
     (sound_parameters count 0 (take count l.places) (omega (arith, taken))
     (take_below (2 ^ 32 - 1) count l.places below))
 

@@ -39,7 +39,8 @@ draft_within text file known t ps body number =
 
 -- ---- the base is seen from the beginning on
 
-base_first : (total count : ℕ) (l : Layout) (p : Option Place) → (is_placed p ≡ true → l.needed ≡ true)
+base_first : (total count : ℕ) (l : Layout) (p : Option Place) → (is_placed p ≡ true → l.needed
+    ≡ true)
     → BaseSeen (first_seen total (data_frame_of count l)) l.base p
 base_first total count l None h = tt
 base_first total count l (Some p) h = subst

@@ -68,7 +68,8 @@ array_placed S t n None g = (refl, refl)
 array_placed S t n (Some p) g =
     (and_true g.0 (lt-ltb p.offset (2 ^ 32) (omega (arith, g.3))), refl)
 
-name_settled : (S : Setting) (at : ℕ) (e : Option Entity) → MeaningFits S.around.functions S.around.sizes S.layout e
+name_settled : (S : Setting) (at : ℕ) (e : Option Entity) → MeaningFits S.around.functions
+    S.around.sizes S.layout e
     → IsSettled S (name at e)
 name_settled S at (Some (LocalVariable x t)) h =
     let v = variable_placed S x t (place_of S.layout x) h.0 h.1 in

@@ -259,7 +259,8 @@ with_handler_settled S at ws of args g go =
     (pass_all_settled S ws args enough g) (handler_after_settled S ws args same g) go
 
 pub call_settled : (S : Setting) (s : Names) → NamesFit S s
-    → (at : ℕ) (e : Option Entity) (args : List Argument) → MeaningFits S.around.functions S.around.sizes S.layout e
+    → (at : ℕ) (e : Option Entity) (args : List Argument) → MeaningFits S.around.functions
+    S.around.sizes S.layout e
     → AllSettled S args → IsSettled S (call s at e args)
 call_settled S s fit at (Some (UserFunction f t ps)) args h g = call_with_settled S at
     (map OfType ps) t (nodes.Call f) args g (λ es p q. user_good S f t ps es h p q)

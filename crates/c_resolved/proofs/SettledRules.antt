@@ -119,7 +119,8 @@ MeaningFits fs zs l (Some e) = EntityFits fs zs l e
 
 -- what names mean fits the scope of the checked program
 pub record NamesFit (S : Setting) (s : Names) : Type 0 where
-  pub entities : (n : Identifier) → MeaningFits S.around.functions S.around.sizes S.layout (s.entity n)
+  pub entities : (n : Identifier) → MeaningFits S.around.functions S.around.sizes S.layout
+      (s.entity n)
   pub code : s.code ≡ true → S.around.code ≡ true
   pub information : s.information ≡ true → S.around.information ≡ true
   pub abnormal : s.abnormal ≡ true → S.around.abnormal ≡ true

@@ -48,25 +48,31 @@ abbrev pub ScopeFits : List Function → List Size → Layout → Scope → Type
 ScopeFits fs zs layout [] = Unit {0}
 ScopeFits fs zs layout (x ∷ rest) = EntityFits fs zs layout x.1 × ScopeFits fs zs layout rest
 
-pub fits_append : (fs : List Function) (zs : List Size) (layout : Layout) (a b : Scope) → ScopeFits fs zs layout a
+pub fits_append : (fs : List Function) (zs : List Size) (layout : Layout) (a b : Scope) → ScopeFits
+    fs zs layout a
     → ScopeFits fs zs layout b → ScopeFits fs zs layout (a ++ b)
 fits_append fs zs layout [] b h k = k
 fits_append fs zs layout (x ∷ a) b h k = (h.0, fits_append fs zs layout a b h.1 k)
 
-built_ins_fit : (fs : List Function) (zs : List Size) (layout : Layout) → ScopeFits fs zs layout built_ins
+built_ins_fit : (fs : List Function) (zs : List Size) (layout : Layout) → ScopeFits fs zs layout
+    built_ins
 built_ins_fit fs zs layout =
     (refl, (refl, (refl, (refl, (tt, (tt, (tt, (tt, (tt, (tt, (tt, tt)))))))))))
 
-pub meaning_fits : (fs : List Function) (zs : List Size) (layout : Layout) (scope : Scope) → ScopeFits fs zs layout scope
+pub meaning_fits : (fs : List Function) (zs : List Size) (layout : Layout) (scope : Scope)
+    → ScopeFits fs zs layout scope
     → (name : List ℕ) → MeaningFits fs zs layout (meaning_in scope name)
 meaning_fits fs zs layout [] h name = tt
-meaning_fits fs zs layout (x ∷ rest) h name = if_both (MeaningFits fs zs layout) (same_bytes x.0 name) (Some x.1)
+meaning_fits fs zs layout (x ∷ rest) h name = if_both (MeaningFits fs zs layout)
+    (same_bytes x.0 name) (Some x.1)
     (meaning_in rest name) (λ e. h.0) (λ e. meaning_fits fs zs layout rest h.1 name)
 
-pub with_name_fits : (fs : List Function) (zs : List Size) (layout : Layout) (block : Scope) (name : List ℕ)
+pub with_name_fits : (fs : List Function) (zs : List Size) (layout : Layout) (block : Scope)
+    (name : List ℕ)
     (e : Entity) → ScopeFits fs zs layout block → EntityFits fs zs layout e
     → ScopeFits fs zs layout (with_name block name e)
-with_name_fits fs zs layout block name e h k = if_both (ScopeFits fs zs layout) (is_taken block name) block
+with_name_fits fs zs layout block name e h k = if_both (ScopeFits fs zs layout)
+    (is_taken block name) block
     ((name, e) ∷ block) (λ t. h) (λ t. (k, h))
 
 -- ---- where a statement is
@@ -107,20 +113,23 @@ filter_scope fs zs layout a = record {
   layout = layout;
 }
 
-pub names_fit : (fs : List Function) (zs : List Size) (layout : Layout) (a : Environment) (block : Scope)
+pub names_fit : (fs : List Function) (zs : List Size) (layout : Layout) (a : Environment)
+    (block : Scope)
     → ScopeFits fs zs layout block → ScopeFits fs zs layout a.outer
     → NamesFit (scope_of fs zs layout a) (names_at a block)
 names_fit fs zs layout a block h k =
     record {
       entities = λ n. meaning_fits fs zs layout (built_ins ++ block ++ a.outer)
           (fits_append fs zs layout (built_ins ++ block) a.outer
-          (fits_append fs zs layout built_ins block (built_ins_fit fs zs layout) h) k) (spelled a.text n);
+          (fits_append fs zs layout built_ins block (built_ins_fit fs zs layout) h) k)
+          (spelled a.text n);
       code = λ c. c;
       information = λ c. c;
       abnormal = λ c. c;
     }
 
-pub filter_names_fit : (fs : List Function) (zs : List Size) (layout : Layout) (a : Environment) (block : Scope)
+pub filter_names_fit : (fs : List Function) (zs : List Size) (layout : Layout) (a : Environment)
+    (block : Scope)
     → ScopeFits fs zs layout block → ScopeFits fs zs layout a.outer
     → NamesFit (filter_scope fs zs layout a) (filter_names a block)
 filter_names_fit fs zs layout a block h k = record {
@@ -292,7 +301,8 @@ declare_resolves fs zs layout a base l block n h k front none =
     let variable = variable_of type (elements_of l.length) in
     let size = front_get n.sizes (size_of type) zs front.0 in
     let counted = declare_all_counted a base (l ∷ []) block n in
-    let before = reaches_through n (declare a base l block n).counts zs layout counted.grows front in
+    let before = reaches_through n (declare a base l block n).counts zs layout counted.grows front
+    in
     let own : slice_get (n.variables ++ variable ∷ []) number ≡ Some variable =
     ap (slice_get (n.variables ++ variable ∷ [])) before.1
     ∙ front_get n.variables variable (n.variables ++ variable ∷ [])
@@ -320,12 +330,18 @@ declare_resolves fs zs layout a base l block n h k front none =
       block = fit;
     }
 
-pub declare_all_resolves : (fs : List Function) (zs : List Size) (layout : Layout) (a : Environment) (base : Base)
+pub declare_all_resolves : (fs : List Function) (zs : List Size) (layout : Layout) (a : Environment)
+    (base : Base)
     (ls : List Local) (block : Scope) (n : Numbering) → ScopeFits fs zs layout block
     → ScopeFits fs zs layout a.outer
     → Reaches (declare_all a base ls block n).counts zs layout
-    → (declare_all a base ls block n).faults ≡ [] → Resolves fs zs layout a (declare_all a base ls block n)
-declare_all_resolves fs zs layout a base [] block n h k front none = record { sound = refl; block = h }
+    → (declare_all a base ls block n).faults ≡ [] → Resolves fs zs layout a
+    (declare_all a base ls block n)
+declare_all_resolves fs zs layout a base [] block n h k front none = record {
+  sound = refl;
+  block =
+      h;
+}
 declare_all_resolves fs zs layout a base (l ∷ ls) block n h k front none =
     let m = declare a base l block n in
     let rest = declare_all a base ls m.block m.counts in
@@ -333,7 +349,8 @@ declare_all_resolves fs zs layout a base (l ∷ ls) block n h k front none =
     let grown = (declare_all_counted a base ls m.block m.counts).grows in
     let first = declare_resolves fs zs layout a base l block n h k
     (reaches_through m.counts rest.counts zs layout grown front) apart.0 in
-    follow_resolves fs zs layout a m rest first (declare_all_resolves fs zs layout a base ls m.block m.counts
+    follow_resolves fs zs layout a m rest first (declare_all_resolves fs zs layout a base ls m.block
+    m.counts
     first.block k front apart.1)
 
 -- ---- what a `for` does first
@@ -343,18 +360,21 @@ names_only_sound : (i : Inside) (ss : List checked.Statement)
     → all_declared_sound (scope_in i) (names_only ss) ≡ true
 names_only_sound i [] h = refl
 names_only_sound i (checked.Declare d ∷ ss) h =
-    let p = and_parts (declared_sound (scope_in i) d) (statements_sound i (checked.statements ss)) h in
+    let p = and_parts (declared_sound (scope_in i) d) (statements_sound i (checked.statements ss)) h
+    in
     and_true p.0 (names_only_sound i ss p.1)
 names_only_sound i (s ∷ ss) h = names_only_sound i ss
     (and_parts (statement_sound i s) (statements_sound i (checked.statements ss)) h).1
 
-pub record ForInitialiserResolves (fs : List Function) (zs : List Size) (layout : Layout) (a : Environment)
+pub record ForInitialiserResolves (fs : List Function) (zs : List Size) (layout : Layout)
+    (a : Environment)
     (b : ResolvedForInitialiser) : Type 0 where
   pub declared : all_declared_sound (scope_of fs zs layout a) b.declared ≡ true
   pub first : optional_sound (scope_of fs zs layout a) b.first.value ≡ true
   pub block : ScopeFits fs zs layout b.resolved.block
 
-pub for_initialiser_resolves : (fs : List Function) (zs : List Size) (layout : Layout) (a : Environment)
+pub for_initialiser_resolves : (fs : List Function) (zs : List Size) (layout : Layout)
+    (a : Environment)
     (f : ForInitialiser) (n : Numbering) → ScopeFits fs zs layout a.outer
     → Reaches (resolve_for_initialiser a f n).resolved.counts zs layout
     → (resolve_for_initialiser a f n).resolved.faults ≡ []

@@ -288,7 +288,8 @@ record FunctionsHold (fs : List checked_program.Function) (text : List ℕ)
     within : length (all_funclets done) ≤ length (limits.funclets_in text xs)
 
 functions_hold : (fs : List checked_program.Function) (text : List ℕ) (file : Scope)
-    → ((zs : List Size) (layout : Layout) → ScopeFits fs zs layout file) → (xs : List ExternalDeclaration) (number : ℕ)
+    → ((zs : List Size) (layout : Layout) → ScopeFits fs zs layout file)
+    → (xs : List ExternalDeclaration) (number : ℕ)
     → EachWithinFirst every_limit xs
     → (functions_of text file xs number).faults ≡ []
     → FunctionsHold fs text xs number (functions_of text file xs number).done
@@ -361,7 +362,8 @@ main_takes (t ∷ []) h = ap (λ u. are_sizes [] (some_sizes (map size_of (u ∷
 main_takes (t ∷ u ∷ ps) h = absurd (cc)
 
 main_holds : (fs : List checked_program.Function) (zs : List Size) (layout : Layout)
-    (xs : List ExternalDeclaration) (e : Option Entity) → MeaningFits fs zs layout e → (main_of xs e).faults ≡ []
+    (xs : List ExternalDeclaration) (e : Option Entity) → MeaningFits fs zs layout e
+    → (main_of xs e).faults ≡ []
     → main_sound (slice_get fs (main_of xs e).number) ≡ true
 main_holds fs zs layout xs (Some (UserFunction k t ps)) fit none =
     let h = and_parts (same_type t int) (are_main_parameters ps)
@@ -387,7 +389,8 @@ accepted_is_sound text xs within none =
     let most_bytes = within.bytes (omega arith) in
     let few : length file.bytes ≤ 1048576 = omega (arith, bytes, most_bytes) in
     let fit : (zs : List Size) (layout : Layout) → ScopeFits fs zs layout file.scope =
-    λ zs layout. file_fits fs zs layout text xs empty_file first.1 few (functions_from text file.scope xs 1 []) tt in
+    λ zs layout. file_fits fs zs layout text xs empty_file first.1 few
+    (functions_from text file.scope xs 1 []) tt in
     let r = functions_hold fs text file.scope fit xs 1 within.each apart.1 in
     let nowhere : Layout = record { base = 0; places = []; size = 0; needed = false } in
     let main_fits = main_holds fs [] nowhere xs (meaning_in file.scope main_name)

@@ -26,8 +26,10 @@ past_not_near Nowhere = refl
 past_not_near Beyond = refl
 past_not_near Near = refl
 
-returned_sound : (fs : List Function) (zs : List Size) (layout : Layout) (a : Environment) (block : Scope)
-    → ScopeFits fs zs layout block → ScopeFits fs zs layout a.outer → (at : ℕ) (o : Option Expression)
+returned_sound : (fs : List Function) (zs : List Size) (layout : Layout) (a : Environment)
+    (block : Scope)
+    → ScopeFits fs zs layout block → ScopeFits fs zs layout a.outer → (at : ℕ)
+    (o : Option Expression)
     → (returned a block at o).faults ≡ []
     → result_sound (inside_of fs zs layout a) (returned a block at o).value ≡ true
 returned_sound fs zs layout a block h k at None none = ap (same_sizes None)
@@ -63,12 +65,14 @@ returned_sound fs zs layout a block h k at (Some e) none = by_void (is_void a.re
         (alike_sizes (expression_size S (to_type a.returns (start e) j).value)
         (result_size a.returns) (size_of a.returns) r.0.size size)
 
-filter_resolves : (fs : List Function) (zs : List Size) (layout : Layout) (a : Environment) (block : Scope)
+filter_resolves : (fs : List Function) (zs : List Size) (layout : Layout) (a : Environment)
+    (block : Scope)
     → ScopeFits fs zs layout block → ScopeFits fs zs layout a.outer → (e : Expression) (number : ℕ)
     → (resolve_filter a block e number).faults ≡ []
     → filter_sound (scope_of fs zs layout a) (resolve_filter a block e number).filter ≡ true
 filter_resolves fs zs layout a block h k e number none = if_both {A = ResolvedFilter}
-    (λ r. r.faults ≡ [] → filter_sound (scope_of fs zs layout a) r.filter ≡ true) (always a block e) _ _
+    (λ r. r.faults ≡ [] → filter_sound (scope_of fs zs layout a) r.filter ≡ true) (always a block e)
+    _ _
     (λ t none. refl) (λ t none. asked none) none
   where
     S : Setting
@@ -88,13 +92,25 @@ filter_resolves fs zs layout a block h k e number none = if_both {A = ResolvedFi
 -- ---- statements
 
 -- one statement, in a block of its own
-one_resolves : (fs : List Function) (zs : List Size) (layout : Layout) (a : Environment) (block : Scope)
-    (s : checked.Statement) (counts : Numbering) (faults : List FaultAt) → ScopeFits fs zs layout block
+one_resolves : (fs : List Function) (zs : List Size) (layout : Layout) (a : Environment)
+    (block : Scope)
+    (s : checked.Statement) (counts : Numbering) (faults : List FaultAt) → ScopeFits fs zs layout
+    block
     → statement_sound (inside_of fs zs layout a) s ≡ true
-    → Resolves fs zs layout a (record { done = s ∷ []; counts = counts; block = block; faults = faults })
-one_resolves fs zs layout a block s counts faults h e = record { sound = and_true e refl; block = h }
+    → Resolves fs zs layout a (record {
+      done = s ∷ [];
+      counts = counts;
+      block = block;
+      faults =
+          faults;
+    })
+one_resolves fs zs layout a block s counts faults h e = record {
+  sound = and_true e refl;
+  block = h;
+}
 
-condition_resolves : (fs : List Function) (zs : List Size) (layout : Layout) (a : Environment) (block : Scope)
+condition_resolves : (fs : List Function) (zs : List Size) (layout : Layout) (a : Environment)
+    (block : Scope)
     → ScopeFits fs zs layout block → ScopeFits fs zs layout a.outer → (at : ℕ) (c : Expression)
     → (condition at (resolve_expression (names_at a block) c)).faults ≡ []
     → condition_sound (scope_of fs zs layout a) (condition at
@@ -102,7 +118,8 @@ condition_resolves : (fs : List Function) (zs : List Size) (layout : Layout) (a 
 condition_resolves fs zs layout a block h k at c none =
     let j = resolve_expression (names_at a block) c in
     condition_holds (scope_of fs zs layout a) at j.found j.faults
-    (settled (scope_of fs zs layout a) (names_at a block) (names_fit fs zs layout a block h k) c) none
+    (settled (scope_of fs zs layout a) (names_at a block) (names_fit fs zs layout a block h k) c)
+    none
 
 -- a `__finally` block is left by no jump
 last_sound : (fs : List Function) (zs : List Size) (layout : Layout) (a : Environment)
@@ -142,8 +159,10 @@ last_sound fs zs layout a last h =
     (past_not_near a.loop) h)
 
 mutual
-  pub statement_resolves : (fs : List Function) (zs : List Size) (layout : Layout) (s : Statement) (a : Environment)
-      (block : Scope) (n : Numbering) → ScopeFits fs zs layout block → ScopeFits fs zs layout a.outer
+  pub statement_resolves : (fs : List Function) (zs : List Size) (layout : Layout) (s : Statement)
+      (a : Environment)
+      (block : Scope) (n : Numbering) → ScopeFits fs zs layout block → ScopeFits fs zs layout
+      a.outer
       → Reaches (resolve_statement s a block n).counts zs layout
       → (resolve_statement s a block n).faults ≡ []
       → Resolves fs zs layout a (resolve_statement s a block n)
@@ -153,7 +172,8 @@ mutual
       let r = statements_resolve fs zs layout ss (inside a block) [] n tt
       (fits_append fs zs layout block a.outer h k) front none in
       one_resolves fs zs layout a block _ _ _ h r.sound
-  statement_resolves fs zs layout (statements.Evaluate e) a block n h k front none = one_resolves fs zs layout a
+  statement_resolves fs zs layout (statements.Evaluate e) a block n h k front none = one_resolves fs
+      zs layout a
       block _ _ _ h (optional_any (scope_of fs zs layout a) (names_at a block)
       (names_fit fs zs layout a block h k) e none)
   statement_resolves fs zs layout (statements.If at c s) a block n h k front none =
@@ -161,7 +181,8 @@ mutual
       let m = resolve_statement s here [] n in
       let v = condition at (resolve_expression (names_at a block) c) in
       let apart = none_in_both v.faults m.faults none in
-      let r = statement_resolves fs zs layout s here [] n tt (fits_append fs zs layout block a.outer h k) front
+      let r = statement_resolves fs zs layout s here [] n tt (fits_append fs zs layout block a.outer
+      h k) front
       apart.1 in
       one_resolves fs zs layout a block _ _ _ h (and_true
       (condition_resolves fs zs layout a block h k at c apart.0)
@@ -187,7 +208,8 @@ mutual
       let m = resolve_statement s here [] n in
       let v = condition at (resolve_expression (names_at a block) c) in
       let apart = none_in_both v.faults m.faults none in
-      let r = statement_resolves fs zs layout s here [] n tt (fits_append fs zs layout block a.outer h k) front
+      let r = statement_resolves fs zs layout s here [] n tt (fits_append fs zs layout block a.outer
+      h k) front
       apart.1 in
       one_resolves fs zs layout a block _ _ _ h (and_true
       (and_true (condition_resolves fs zs layout a block h k at c apart.0) refl)
@@ -197,7 +219,8 @@ mutual
       let m = resolve_statement s here [] n in
       let v = condition at (resolve_expression (names_at a block) c) in
       let apart = none_in_both v.faults m.faults none in
-      let r = statement_resolves fs zs layout s here [] n tt (fits_append fs zs layout block a.outer h k) front
+      let r = statement_resolves fs zs layout s here [] n tt (fits_append fs zs layout block a.outer
+      h k) front
       apart.1 in
       one_resolves fs zs layout a block _ _ _ h (and_true
       (condition_resolves fs zs layout a block h k at c apart.0)
@@ -232,15 +255,20 @@ mutual
   statement_resolves fs zs layout (statements.Return at e) a block n h k front none =
       let apart = none_in_both (jump a.function JumpOutOfFinally at) (returned a block at e).faults
       none in
-      one_resolves fs zs layout a block _ _ _ h (and_true (near a.function JumpOutOfFinally at apart.0)
+      one_resolves fs zs layout a block _ _ _ h
+      (and_true (near a.function JumpOutOfFinally at apart.0)
       (returned_sound fs zs layout a block h k at e apart.1))
-  statement_resolves fs zs layout (statements.Break at) a block n h k front none = one_resolves fs zs layout a
+  statement_resolves fs zs layout (statements.Break at) a block n h k front none = one_resolves fs
+      zs layout a
       block _ _ _ h (near a.loop JumpOutsideLoop at none)
-  statement_resolves fs zs layout (statements.Continue at) a block n h k front none = one_resolves fs zs layout a
+  statement_resolves fs zs layout (statements.Continue at) a block n h k front none = one_resolves
+      fs zs layout a
       block _ _ _ h (near a.loop JumpOutsideLoop at none)
-  statement_resolves fs zs layout (statements.Leave at) a block n h k front none = one_resolves fs zs layout a
+  statement_resolves fs zs layout (statements.Leave at) a block n h k front none = one_resolves fs
+      zs layout a
       block _ _ _ h (near a.body LeaveOutsideTry at none)
-  statement_resolves fs zs layout (statements.TryExcept body at f handler) a block n h k front none =
+  statement_resolves fs zs layout (statements.TryExcept body at f handler) a block n h k front none
+      =
       let out = inside a block in
       let m = resolve_statements body (record out { body = Near }) [] n in
       let q = resolve_filter a block f m.counts.number in
@@ -252,10 +280,12 @@ mutual
       let grown = (statements_counted handler (record out { code = true }) [] after).grows in
       let r = statements_resolve fs zs layout body (record out { body = Near }) [] n tt fit
       (reaches_through m.counts o.counts zs layout grown front) inner.0 in
-      let p = statements_resolve fs zs layout handler (record out { code = true }) [] after tt fit front
+      let p = statements_resolve fs zs layout handler (record out { code = true }) [] after tt fit
+      front
       inner.1 in
       one_resolves fs zs layout a block _ _ _ h (and_true
-      (and_true r.sound (filter_resolves fs zs layout a block h k f m.counts.number apart.0)) p.sound)
+      (and_true r.sound (filter_resolves fs zs layout a block h k f m.counts.number apart.0))
+      p.sound)
   statement_resolves fs zs layout (statements.TryFinally body at last) a block n h k front none =
       let out = inside a block in
       let m = resolve_statements body (record out { body = Near }) [] n in
@@ -276,8 +306,10 @@ mutual
       one_resolves fs zs layout a block _ _ _ h (and_true r.sound
       (last_sound fs zs layout a (checked.statements o.done) p.sound))
 
-  pub statements_resolve : (fs : List Function) (zs : List Size) (layout : Layout) (ss : Statements) (a : Environment)
-      (block : Scope) (n : Numbering) → ScopeFits fs zs layout block → ScopeFits fs zs layout a.outer
+  pub statements_resolve : (fs : List Function) (zs : List Size) (layout : Layout) (ss : Statements)
+      (a : Environment)
+      (block : Scope) (n : Numbering) → ScopeFits fs zs layout block → ScopeFits fs zs layout
+      a.outer
       → Reaches (resolve_statements ss a block n).counts zs layout
       → (resolve_statements ss a block n).faults ≡ []
       → Resolves fs zs layout a (resolve_statements ss a block n)
@@ -290,5 +322,6 @@ mutual
       let grown = (statements_counted ss a m.block m.counts).grows in
       let r = statement_resolves fs zs layout s a block n h k
       (reaches_through m.counts rest.counts zs layout grown front) apart.0 in
-      follow_resolves fs zs layout a m rest r (statements_resolve fs zs layout ss a m.block m.counts r.block k
+      follow_resolves fs zs layout a m rest r (statements_resolve fs zs layout ss a m.block m.counts
+      r.block k
       front apart.1)

@@ -104,7 +104,8 @@ if_placed l c c' b b' t t' s is p q r =
     ∙ (λ i. choice (p i) (q i) (r i))
     ∙ ap (choice (place_expression l (expression c)) (place_statement l (statement b.value)))
     (mapped_twice (λ (x : Box Stmt Global). statement x.value) (place_statement l) t)
-    ∙ choice_placed l (expression c) (statement b.value) (option_map (λ (x : Box Stmt Global). statement x.value) t)
+    ∙ choice_placed l (expression c) (statement b.value)
+    (option_map (λ (x : Box Stmt Global). statement x.value) t)
     ∙ sym (ap (place_statement l) (ap statement is ∙ if_is c b t))
 
 pub for_placed : (l : Layout) (ds : _) (ds' : List Declared) (first first' c c' next next' : Option

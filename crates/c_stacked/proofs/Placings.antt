@@ -10,61 +10,12 @@ use Rattle.c_resolved.specs.Layout.{is_addressable, place_from, end_of, places_f
 use Rattle.c_stacked.specs.declared.layout.Placing.{Placing}
 use Rattle.c_stacked.specs.Placings.{PlacesOne, IsPlacing}
 
--- a variable, and those after it
-one_more : (v : Variable) (mark : Bool) (vs : List Variable) (marks : List Bool) (at : ℕ)
-    → places_from (v ∷ vs) (mark ∷ marks) at ≡ places_from (v ∷ []) (mark ∷ []) at
-    ++ places_from vs marks (end_of_all (v ∷ []) (mark ∷ []) at)
-one_more v mark vs marks at = of (is_addressable v mark)
-  where
-    of : (b : Bool) → (if b then Some (place_from v at) ∷ places_from vs marks (end_of v at)
-        else None ∷ places_from vs marks at)
-        ≡ (if b then Some (place_from v at) ∷ [] else None ∷ [])
-        ++ places_from vs marks (if b then end_of v at else at)
-    of true = refl
-    of false = refl
-
-one_end : (v : Variable) (mark : Bool) (vs : List Variable) (marks : List Bool) (at : ℕ)
-    → end_of_all (v ∷ vs) (mark ∷ marks) at
-    ≡ end_of_all vs marks (end_of_all (v ∷ []) (mark ∷ []) at)
-one_end v mark vs marks at = of (is_addressable v mark)
-  where
-    of : (b : Bool) → (if b then end_of_all vs marks (end_of v at) else end_of_all vs marks at)
-        ≡ end_of_all vs marks (if b then end_of v at else at)
-    of true = refl
-    of false = refl
-
 -- the places so far with those of the other variables are all
 pub record StillToPlace (vs : List Variable) (marks : List Bool) (i : ℕ) (p : Placing) : Type 0
   where
     pub places : p.places.items ++ places_from (drop i vs) (drop i marks) p.end
         ≡ places_from vs marks 0
     pub end : end_of_all (drop i vs) (drop i marks) p.end ≡ end_of_all vs marks 0
-
-pub one_placed : (vs : List Variable) (marks : List Bool) (i : ℕ) (v : Variable) (mark : Bool)
-    (p q : Placing) → i < length vs → v ≡ get_or vs i v → i < length marks
-    → mark ≡ get_or marks i mark → PlacesOne v mark p q → StillToPlace vs marks i p
-    → StillToPlace vs marks (i + 1) q
-one_placed vs marks i v mark p q lt is mark_lt mark_is one h =
-    let vs' = drop (i + 1) vs in
-    let marks' = drop (i + 1) marks in
-    let nexts = next_of vs i v lt is in
-    let next_marks = next_of marks i mark mark_lt mark_is in
-    record {
-      places = ap (λ at. q.places.items ++ places_from vs' marks' at) one.end
-          ∙ ap (λ w. w ++ places_from vs' marks' (end_of_all (v ∷ []) (mark ∷ []) p.end))
-          one.places
-          ∙ append_assoc p.places.items (places_from (v ∷ []) (mark ∷ []) p.end)
-          (places_from vs' marks' (end_of_all (v ∷ []) (mark ∷ []) p.end))
-          ∙ ap (λ w. p.places.items ++ w) (sym (one_more v mark vs' marks' p.end))
-          ∙ ap (λ w. p.places.items ++ places_from w (mark ∷ marks') p.end) (sym nexts)
-          ∙ ap (λ w. p.places.items ++ places_from (drop i vs) w p.end) (sym next_marks)
-          ∙ h.places;
-      end = ap (λ at. end_of_all vs' marks' at) one.end
-          ∙ sym (one_end v mark vs' marks' p.end)
-          ∙ ap (λ w. end_of_all w (mark ∷ marks') p.end) (sym nexts)
-          ∙ ap (λ w. end_of_all (drop i vs) w p.end) (sym next_marks)
-          ∙ h.end;
-    }
 
 none_without_marks : (vs : List Variable) (at : ℕ) → places_from vs [] at ≡ []
 none_without_marks [] at = refl
@@ -116,16 +67,6 @@ pub none_left : (ps : List (Option Place)) (i : ℕ) → length ps ≤ i → Any
 none_left ps i past = ap any_placed (drop_all i ps past)
 
 -- ---- parameters that are placed
-
-pub next_parameter : (ps : List (Option Place)) (i : ℕ) (p : Option Place) → i < length ps
-    → p ≡ get_or ps i p
-    → stacked_parameters i (drop i ps)
-    ≡ with_parameter i p (stacked_parameters (i + 1) (drop (i + 1) ps))
-next_parameter ps i p lt is = ap (stacked_parameters i) (next_of ps i p lt is)
-
-pub no_parameter : (ps : List (Option Place)) (i : ℕ) → length ps ≤ i
-    → stacked_parameters i (drop i ps) ≡ []
-no_parameter ps i past = ap (stacked_parameters i) (drop_all i ps past)
 
 some_placed : (p : Option Place) → is_some p ≡ is_placed p
 some_placed None = refl

@@ -156,7 +156,8 @@ pub next_unvisited : {A : Type 0} (xs ys : List A) (i : ℕ) (x' : A) → AreUnv
     → AreUnvisited (i + 1) (slice_set xs i x') ys
 next_unvisited xs ys i x' h = (
   set_length xs i x' ∙ h.0,
-  λ k d le. set_other xs i k x' d (λ e. absurd (omega (arith, le, e))) ∙ h.1 k d (omega (arith, le)),
+  λ k d le. set_other xs i k x' d (λ e. absurd (omega (arith, le, e))) ∙ h.1 k d
+      (omega (arith, le)),
 )
 
 lower : (k i : ℕ) → k < i + 1 → (k ≡ i → ⊥) → k < i

@@ -114,7 +114,8 @@ module _ (program : LinearProgram) (c : HasWholeImage program) where
       let code = apart_code s x.begin x.cold x.routine in
       let room = h.cold_room in
       let small = cold_small x.routine h.near in
-      let wide = body_sizes (links program x) x.routine.layout x.cold (parts.cold_code x.routine.body)
+      let wide = body_sizes (links program x) x.routine.layout x.cold
+      (parts.cold_code x.routine.body)
       in
       subst (HasCode m (image_base + x.cold)) (sym (cold_same program c name b is'))
       (code_is x.cold h.ahead h.behind code h.apart h.apart_here (omega arith))
@@ -123,9 +124,6 @@ module _ (program : LinearProgram) (c : HasWholeImage program) where
 
   abbrev t : ImportedService → List ℕ
   t v = chosen (service_thunk s.imports s.text s.rdata v)
-
-  six : (v : ImportedService) → length (t v) ≡ 6
-  six v = ap length (thunk_bytes _)
 
   abbrev front : List ℕ
   front = spelled (front_code s.imports s.text s.rdata)

@@ -97,9 +97,6 @@ module _ (program : LinearProgram) (c : HasWholeImage program) (m : Memory) wher
 -- ---- all of it
 
 module _ (program : LinearProgram) (c : HasWholeImage program) where
-  abbrev places : Thunks
-  places = thunks_of program
-
   -- in the thunk of a service
   service_found : (m : Memory) (v : ImportedService)
       → FindsReturn (functions_of program) m

@@ -166,7 +166,8 @@ module _ (program : LinearProgram) (c : HasWholeImage program) (name : BodyName)
           (λ z. (let q : t ≡ label = z in omega arith))
       | inr le' ↦
           let same : t ≡ label = omega arith in
-          eq-eqb (L t) (T label) (at_label program c name b is t ∙ ap T same) ∙ sym (eq-eqb t label same)
+          eq-eqb (L t) (T label) (at_label program c name b is t ∙ ap T same) ∙ sym
+          (eq-eqb t label same)
     ]
   ]
 
@@ -214,7 +215,8 @@ module _ (program : LinearProgram) (c : HasWholeImage program) (name : BodyName)
   ended label r range of lt =
       let e = away (T label) (small program c name b is label) in
       or_both _ _ (linear.holds label r) (leads_to r.kind label)
-      (held label (distance image_base (address_of program name label)) (at_itself program c name b is label lt) r
+      (held label (distance image_base (address_of program name label)) (at_itself program c name b
+      is label lt) r
       range)
       (ap (λ (n : ℕ). not ((row r).jump_target == 0) && ((row r).jump_target == n)) e
       ∙ leads r r.kind range of.kind label lt)
@@ -296,7 +298,8 @@ module _ (program : LinearProgram) (c : HasWholeImage program) (name : BodyName)
       → IsRegion (functions_of program) (funclets_of program) program (plan_of program) name (row r)
       r
   region_is r range of = record {
-    holds = λ label rip i. held label (distance image_base rip) (within program c name b is label rip i) r range;
+    holds = λ label rip i. held label (distance image_base rip) (within program c name b is label
+        rip i) r range;
     ends = λ label lands. ended label r range of (ltb-true label (length code) lands);
     kind = kind_is r r.kind refl of.kind;
   }

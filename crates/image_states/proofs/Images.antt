@@ -136,7 +136,8 @@ module _ (program : LinearProgram) (c : HasWholeImage program) (name : BodyName)
       let one : suc label ≡ label + 1 = omega arith in
       let side = ap (is_cold r.body.cold) one
       ∙ same_side r.body label i (own_cold program c name b is) at falls in
-      let next = label_next r.layout (body_begin x) x.cold r.body.cold r.body.code label i got.0 side
+      let next = label_next r.layout (body_begin x) x.cold r.body.cold r.body.code label i got.0
+      side
       in
       let size = ap (template_size r.layout) got.1 in
       let own = ap (size_of r.layout) at in

@@ -1,4 +1,5 @@
--- Where the labels of a body are: those that aren't cold one after another, and before the cold ones.
+-- Where the labels of a body are: those that aren't cold one after another, and before the cold
+-- ones.
 use Rattle.std.proofs.Common.{◌≡◌, ℕ, ◌+◌, ◌-◌, ◌^◌, ◌<◌, ◌≤◌, Bool, true, false, List, length, Option, Some, None, refl, ap, sym, ◌∙◌, arith}
 use Rattle.std.specs.Prelude.{slice_get, if◌then◌else◌, take}
 use Rattle.linear_code.specs.declared.program.LabelRange.{LabelRange}

@@ -14,7 +14,8 @@ use Rattle.image_states.proofs.Lemmas.{test_small, arguments_small, passing_smal
 
 -- ---- distances
 
-pub away : (base next to next' to' : ℕ) → next' ≡ base + next → to' ≡ base + to → base + next ≤ 2 ^ 64
+pub away : (base next to next' to' : ℕ) → next' ≡ base + next → to' ≡ base + to → base + next ≤ 2 ^
+    64
     → distance next' to' ≡ distance next to
 away base next to next' to' e f le = omega arith
 

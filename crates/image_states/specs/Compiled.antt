@@ -27,7 +27,8 @@ pub record IsFuncletSized (program : LinearProgram) (f : LinearFunclet) : Type 0
   pub words : f.body.passed + f.body.temporaries ≤ 500
 
 -- it can be linked, into an image within its limit; its regions are ranges, which name each
--- funclet once; its cold parts can stand apart; its funclets name no local that stands in a register
+-- funclet once; its cold parts can stand apart; its funclets name no local that stands in a
+-- register
 pub record HasWholeImage (program : LinearProgram) : Type 0 where
   pub fits : FitsProgram program
   pub small : end_at (sizes_of (linked program)) ≤ MOST_IMAGE

@@ -268,7 +268,8 @@ part_found p index n x f q rva fits regions e framed part le lt small =
     ∙ parts_are_held p index n x f q rva fits e framed part le lt
 
 -- what a frame needs of the entry that an address is in
-pub record HasEntry (p : LinearProgram) (x : Placed) (f : FrameLayout) (rva : ℕ) (e : Entry) : Type 0
+pub record HasEntry (p : LinearProgram) (x : Placed) (f : FrameLayout) (rva : ℕ) (e : Entry) : Type
+    0
   where
     pub found : entry_of (functions_in (image_of (linked p))) (image_base + rva) ≡ Some e
     pub past : e.info.prologue_size + e.range.begin ≤ rva

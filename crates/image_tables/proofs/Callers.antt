@@ -184,7 +184,8 @@ module _ (p : LinearProgram) (index : ℕ) (x : Placed) (f : FrameLayout) (e s :
       let room = h.room in
       let small = routine_small x.routine h.near in
       let lt = part_inside g (parts p x f) g.rest e s st.past begin to s.memory has st.is_there in
-      let found = (parts_find_callers g (parts p x f) g.rest (fragment_info g.info) e s begin st.past
+      let found = (parts_find_callers g (parts p x f) g.rest (fragment_info g.info) e s begin
+      st.past
       to ok (all_keep p index x f framed) (rest_keeps p index x f framed)
       (record { codes = refl; prologue = refl; register = refl; offset = refl }) entry has
       (omega arith) (let z : s.cpu.rip ≡ begin + st.past = omega arith in z) st.is_there).1 in

@@ -297,7 +297,10 @@ pub get_is : (is : List Instruction) (number : ℕ) (i : Instruction) → slice_
     → (number < length is) × (get_or is number i ≡ i)
 get_is [] number i e = absurd (none_some e)
 get_is (j ∷ is) zero i e = (omega arith, some_same e)
-get_is (j ∷ is) (suc number) i e = let r = get_is is number i e in (let lt = r.0 in omega arith, r.1)
+get_is (j ∷ is) (suc number) i e = let r = get_is is number i e in (
+  let lt = r.0 in omega arith,
+  r.1,
+)
 
 -- on its side
 pub template_there : (k : Links) (y : Layout) (hot cold : ℕ) (rs : List LabelRange)

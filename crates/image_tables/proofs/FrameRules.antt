@@ -173,7 +173,8 @@ module _ (p : LinearProgram) (index : ℕ) (x : Placed) (f : FrameLayout)
       ∙ body_sizes (links p x) x.routine.layout q.begin
       (part_code x.routine.body.code q.labels) in
       let few = code_in_room x.routine.layout (part_code x.routine.body.code q.labels)
-      (all_between (IsInstructionNear x.routine.layout) q.labels.begin q.labels.end x.routine.body.code
+      (all_between (IsInstructionNear x.routine.layout) q.labels.begin q.labels.end
+      x.routine.body.code
       here.near.code) in
       let size = own.size in
       let has = items_are_at m at code (own_part n q e).encodable (omega arith)

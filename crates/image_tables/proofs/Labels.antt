@@ -121,7 +121,8 @@ module _ (y : Layout) (rs : List LabelRange) (c : Bool) where
   -- in front of an instruction, by whether it is of the side
   before : (b : Bool) (x : Instruction) (front back : List Instruction) (k : ℕ)
       → body_size y front + k ≤ body_size y back
-      → body_size y (if b then x ∷ front else front) + k ≤ body_size y (if b then x ∷ back else back)
+      → body_size y (if b then x ∷ front else front) + k ≤ body_size y (if b then x ∷ back else
+      back)
   before true x front back k le = omega arith
   before false x front back k le = le
 
@@ -233,13 +234,6 @@ address_from y rs from hot cold (b ∷ body) (suc i) end e past =
 
 module _ (y : Layout) (rs : List LabelRange) (hot cold : ℕ) (body : List Instruction)
     (parts : AreParts 0 rs (length body)) where
-  -- where the code ends that isn't cold, and where the cold parts end
-  abbrev hot_end : ℕ
-  hot_end = hot + body_size y (side_from rs false 0 body)
-
-  abbrev cold_end : ℕ
-  cold_end = cold + body_size y (side_from rs true 0 body)
-
   -- the address of a label, past the last instruction too
   pub label_is : (i end : ℕ) → end ≡ hot + body_size y (side_from rs false 0 body)
       → address_or (label_list y rs 0 hot cold body) i end ≡ label_at y hot cold rs body i

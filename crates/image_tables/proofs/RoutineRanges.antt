@@ -28,7 +28,8 @@ funclets_have : (p : LinearProgram) (fs : List LinearFunclet)
 funclets_have p [] all = tt
 funclets_have p (f ∷ fs) all = (all.0, funclets_have p fs all.1)
 
-pub routines_have : (p : LinearProgram) → HasRegions p → AllByRecursion RoutineHasRanges (routines p)
+pub routines_have : (p : LinearProgram) → HasRegions p → AllByRecursion RoutineHasRanges
+    (routines p)
 routines_have p h =
     all_append RoutineHasRanges (functions_from p.main 0 p.functions)
     (map (funclet p) p.funclets) (functions_have p.main 0 p.functions h.functions)

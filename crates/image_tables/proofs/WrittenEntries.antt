@@ -168,7 +168,8 @@ parts_small_if s x (Some f) others near lt lt' more =
     parts_small_from s x f x.routine.layout x.routine.body.code x.cold x.chained
     x.routine.body.cold others (omega arith) (omega arith) more
 
-pub parts_small : (s : SiteView) (c : Cursor) (rs : List RoutineView) → AllByRecursion IsRoutineNear rs
+pub parts_small : (s : SiteView) (c : Cursor) (rs : List RoutineView) → AllByRecursion IsRoutineNear
+    rs
     → c.cold + cold_total rs < 2 ^ 32
     → c.chained + CHAINED_SIZE * length (fragments s c.info c.begin c.cold rs) < 2 ^ 32
     → AllByRecursion IsRuntimeFunction (ranges_of (parts_written s (placed_from s c rs)))
@@ -187,7 +188,8 @@ fragments_few : (o : Option FrameLayout) (parent : RuntimeFunction) (x : Placed)
 fragments_few None parent x = omega arith
 fragments_few (Some f) parent x = let n = fragments_count parent x f in omega arith
 
-pub infos_few : (s : SiteView) (c : Cursor) (rs : List RoutineView) → AllByRecursion IsRoutineNear rs
+pub infos_few : (s : SiteView) (c : Cursor) (rs : List RoutineView) → AllByRecursion IsRoutineNear
+    rs
     → length (infos s c.begin c.cold rs)
     + CHAINED_SIZE * length (fragments s c.info c.begin c.cold rs) ≤ infos_room rs
 infos_few s c [] near = omega arith

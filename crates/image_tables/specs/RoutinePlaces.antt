@@ -76,7 +76,8 @@ pub record PlacedPart : Type 0 where
   pub info : ℕ
 
 -- those of code, one after another
-abbrev pub parts_from : Layout → (at info : ℕ) → List LabelRange → List Instruction → List PlacedPart
+abbrev pub parts_from : Layout → (at info : ℕ) → List LabelRange → List Instruction → List
+    PlacedPart
 parts_from y at info [] code = []
 parts_from y at info (r ∷ rs) code =
     let end = at + body_size y (part_code code r) in

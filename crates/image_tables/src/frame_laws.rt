@@ -10,8 +10,8 @@ pub fn text()
 
 /// At each instruction of its body a routine's frame is there where memory is as its unwind codes
 /// tell: the function table has its entry there, or in a cold part one that is chained to it, and
-/// RIP is past its prologue and in no epilogue. A leaf function has no entry, and its return address
-/// at RSP.
+/// RIP is past its prologue and in no epilogue. A leaf function has no entry, and its return
+/// address at RSP.
 pub fn bodies()
     ensures framed { BodiesHaveFrames }
     ensures leaves { LeavesHaveReturns }

@@ -16,8 +16,8 @@ pub fn flags()
     ensures parts { PartsArePassedOver }
 {}
 
-/// No frame of a function takes more than `FRAME_BY_WEIGHT` for each 1 that the function weighs, and
-/// none of a filter or a `__finally` block more than that.
+/// No frame of a function takes more than `FRAME_BY_WEIGHT` for each 1 that the function weighs,
+/// and none of a filter or a `__finally` block more than that.
 pub fn sizes()
     ensures { FramesAreSmall }
 {}

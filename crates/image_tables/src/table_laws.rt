@@ -4,8 +4,8 @@ ghost use Rattle.image_tables.specs.NameLaws.{NamesAreRead, FunctionsHaveNames};
 ghost use Rattle.image_tables.specs.TableLaws.{TablesAreRead, EntriesAreHeld, PartsAreHeld, LeavesAreHeldByNone, ThunksAreHeldByNone, JumpsAreSpelled};
 
 /// The function table of a program's image is that of its routines: each that has a frame has an
-/// entry, with its unwind info and its scope records; and each of its cold parts one that is chained
-/// to it.
+/// entry, with its unwind info and its scope records; and each of its cold parts one that is
+/// chained to it.
 pub fn tables()
     ensures { TablesAreRead }
 {}

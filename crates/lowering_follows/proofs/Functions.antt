@@ -171,20 +171,6 @@ module _ (program : Program) (linear : LinearProgram) (rate body : ℕ) where
           },
         )
 
-    ended_reaches : (s t : Part) (st mid : State) (r e d : ℕ) → Reaches linear rate s t st mid r e d
-        → Reaches linear rate s t st (ended mid) r e d
-    ended_reaches s t st mid r e d p = record {
-      cost = p.cost;
-      credit = p.credit;
-      paid = p.paid;
-      most = p.most;
-      least = p.least;
-      low = p.low;
-      grows = p.grows;
-      prior = p.prior;
-      by = p.by;
-    }
-
     last_turn : (v done : ℕ) (mid : State) (after : Store) (j : ℕ)
         → HasAt linear (FunctionBody k) [] done (instructions.Return (Temporary 0) ∷ [])
         → exec linear (suc j) (conf callee csite done (v ∷ []) mid after)

@@ -79,7 +79,8 @@ module _ (program : Program) (own : ℕ) where
     of_filter = λ owner names m e o n f. tt;
     of_block = λ owner names m last o le n h. all_append IsBlind
         (finally_begin names.part names.free)
-        (statements_code (finally_scope names) last 3 ++ instructions.Return (Local names.free) ∷ [])
+        (statements_code (finally_scope names) last 3 ++ instructions.Return (Local names.free)
+        ∷ [])
         (begin_blind names.part names.free)
         (all_append IsBlind (statements_code (finally_scope names) last 3)
         (instructions.Return (Local names.free) ∷ [])

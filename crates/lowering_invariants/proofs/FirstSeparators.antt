@@ -52,7 +52,8 @@ pub begin_every : (P : Instruction → Type 0) → P Separator → (f : Function
 begin_every P h f opens =
     all_append P (first_separators f) (open_code f.data_frame) (first_every P h f) opens
 
-pub end_every : (P : Instruction → Type 0) → P (constant 0 0) → ((base : ℕ) → P (set_pointer base 0))
+pub end_every : (P : Instruction → Type 0) → P (constant 0 0)
+    → ((base : ℕ) → P (set_pointer base 0))
     → P (Return (Temporary 0)) → (f : Function) → AllByRecursion P (function_end f)
 end_every P c s r f = (c, of f.data_frame)
   where

@@ -191,7 +191,8 @@ module _ (most n : ℕ) where
           → AllGood (locate_code names p d at)
       locate_good (nodes.Local x) d at f le r = tt
       locate_good (Global access a) d at f le r = (constant_good d a (omega arith), tt)
-      locate_good (Stacked access base offset) d at f le r = stacked_good d base offset f (omega arith)
+      locate_good (Stacked access base offset) d at f le r = stacked_good d base offset f
+          (omega arith)
       locate_good (Indirection access e) d at f le r = expression_good e d at f (omega arith) r
       locate_good (Element access e i) d at f le r =
           let code = expression_code names i (d + 1) (at + expression_size e) in

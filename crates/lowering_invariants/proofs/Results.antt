@@ -120,19 +120,23 @@ placed_small (Some a) v m lt = tt
 pub outcome_small : (reserved : ℕ → Bool) (o : Operation) (a b : ℕ) (m : Memory) → a < 2 ^ 64
     → b < 2 ^ 64 → HasSmallPointer m → IsSmallOutcome (performed reserved o a b m)
 outcome_small reserved (operations.Pure p) a b m la lb lp = result_small p a b la
-outcome_small reserved (operations.Divide Signed z) a b m la lb lp = signed_small (λ x. x.0) (width z)
+outcome_small reserved (operations.Divide Signed z) a b m la lb lp = signed_small (λ x. x.0)
+    (width z)
     m (divided_signed (width z) (signed (width z) a) (signed (width z) b))
 outcome_small reserved (operations.Divide Unsigned z) a b m la lb lp = unsigned_small (λ x. x.0) m
     (divided_unsigned (width z) (low (width z) a) (low (width z) b)) (quotient_small (width z) a b)
 outcome_small reserved (operations.Remainder Signed z) a b m la lb lp = signed_small (λ x. x.1)
     (width z) m (divided_signed (width z) (signed (width z) a) (signed (width z) b))
-outcome_small reserved (operations.Remainder Unsigned z) a b m la lb lp = unsigned_small (λ x. x.1) m
+outcome_small reserved (operations.Remainder Unsigned z) a b m la lb lp = unsigned_small
+    (λ x. x.1) m
     (divided_unsigned (width z) (low (width z) a) (low (width z) b)) (remainder_small (width z) a b)
-outcome_small reserved (operations.Load w) a b m la lb lp = accessed_small reserved false (may_read m)
+outcome_small reserved (operations.Load w) a b m la lb lp = accessed_small reserved false
+    (may_read m)
     (bytes_of w) a (Gives (low w (number_at m.byte (bytes_of w) a)) m) la
     (of_width w (low w (number_at m.byte (bytes_of w) a))
     (low_below w (number_at m.byte (bytes_of w) a)))
-outcome_small reserved (operations.Store w) a b m la lb lp = accessed_small reserved true (may_write m)
+outcome_small reserved (operations.Store w) a b m la lb lp = accessed_small reserved true
+    (may_write m)
     (bytes_of w) a (Gives b (with_bytes m (with_number m.byte (bytes_of w) a (low w b)))) la lb
 outcome_small reserved (operations.Allocate n) a b m la lb lp =
     few_bits m.byte 8 DATA_STACK_START (omega arith) lp

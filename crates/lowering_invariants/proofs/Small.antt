@@ -150,7 +150,8 @@ module _ (program : Program) (h : functions_sound program.functions program.func
       let begins = begin_every (Good 456 n) (omega arith, omega arith, tt) fn
       (open_good (length fn.parameters) fn.locals fn.data_frame n (omega arith)
       (both_right _ _ ok)) in
-      let good = (statements_good program 456 n own w.wide (omega arith) few fn.body (scope_of fn) at
+      let good = (statements_good program 456 n own w.wide (omega arith) few fn.body
+      (scope_of fn) at
       (statements_notes fn.body) (omega arith) (w.named, w.free) (values_fit fn ok shallow)) in
       let ends = close_good fn.data_frame n w.named.part in
       record {

@@ -294,7 +294,8 @@ module _ (L : ℕ → Type 0) where
           (filters_spare filter owner names o n (filter_keeps filter
           (left (λ x. naming.filter_names x filter) (λ x. statements_share x block) others)))
           (statements_spare block owner (except_names names) o
-          (except_known names 1 0 (omega arith) (record { has = n.has; free = n.free; part = n.part }))
+          (except_known names 1 0 (omega arith)
+          (record { has = n.has; free = n.free; part = n.part }))
           (right (λ x. naming.filter_names x filter) (λ x. statements_share x block) others)))
       statement_spares (TryFinally body k last) owner names o n h =
           let inner = in_funclet (k - 1) owner in

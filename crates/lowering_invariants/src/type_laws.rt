@@ -40,7 +40,8 @@ pub fn reached_has_activations()
     ensures activations { ReachedHasActivations }
 {}
 
-/// Every number that is kept is one of 64 bits, and the vectored handlers are at most 16, each once.
+/// Every number that is kept is one of 64 bits, and the vectored handlers are at most 16, each
+/// once.
 pub fn reached_is_small()
     ensures small { ReachedIsSmall }
 {}

@@ -32,7 +32,8 @@ use Rattle.match_bodies.proofs.OwedCallers.{base_is, returns_alone, at_return, I
 use Rattle.match_bodies.proofs.LocalRegisters.{SavesLocals, told_kept, all_kept, local_beside_frame, not_in_register, leaf_in_none}
 
 -- the caller's registers are small where all are
-pub small_others : {handlers : List ℕ} (s : State) → IsWellFormed handlers s → AllSmall (others_of s.cpu.registers)
+pub small_others : {handlers : List ℕ} (s : State) → IsWellFormed handlers s → AllSmall
+    (others_of s.cpu.registers)
 small_others s w k lt =
     (wide_of s.cpu w.count w.small).each (suc k) (let e : suc k < 9 = omega arith in e)
 

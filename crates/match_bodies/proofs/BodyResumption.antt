@@ -64,7 +64,8 @@ module _ (t : Functions) (fs : List Funclet) (program : LinearProgram) (p : Imag
       where
         by_funclet : (f : Option LinearFunclet) (below : List Item)
             → FuncletIsAbove t fs program p k b f below → FuncletIsAbove t fs program p k b' f below
-        by_funclet (Some f) (Searches exception resumption (FilterOf asked rest) ∷ Waits w ∷ below) h =
+        by_funclet (Some f) (Searches exception resumption (FilterOf asked rest) ∷ Waits w ∷ below)
+            h =
             let alike = h.1 in (h.0, (alike.0, e ∙ alike.1))
         by_funclet (Some f) (Unwinds rest target ∷ Waits w ∷ below) h = h
         by_funclet (Some f) (Waits w ∷ below) h = h

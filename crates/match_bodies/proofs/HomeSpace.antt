@@ -85,7 +85,8 @@ module _ (m m' : Memory) (t : Functions) (fs : List Funclet) (program : LinearPr
     home_is_free (Unwinding d ∷ is) [] acts o s = absurd s.linked
     home_is_free is (Waits b ∷ below) acts o s = outgoing_is_free m m' t fs program p layouts 32 c
         keeps start is b below acts (λ code e. omega arith) o s
-    home_is_free (Searching d ∷ is) (Searches exception resumption (VectoredAt place) ∷ below) acts o
+    home_is_free (Searching d ∷ is) (Searches exception resumption (VectoredAt place) ∷ below) acts
+        o
         s = under_record d is exception resumption place below acts s
     home_is_free [] (Searches exception resumption (VectoredAt place) ∷ below) acts o s =
         absurd s.linked
@@ -95,5 +96,6 @@ module _ (m m' : Memory) (t : Functions) (fs : List Funclet) (program : LinearPr
         s = absurd s.linked
     home_is_free (Unwinding d ∷ is) (Searches exception resumption (VectoredAt place) ∷ below) acts
         o s = absurd s.linked
-    home_is_free is (Searches exception resumption (FilterOf asked rest) ∷ below) acts o s = absurd o
+    home_is_free is (Searches exception resumption (FilterOf asked rest) ∷ below) acts o s = absurd
+        o
     home_is_free is (Unwinds rest target ∷ below) acts o s = absurd o

@@ -80,8 +80,9 @@ module _ (m m' : Memory) (t : Functions) (fs : List Funclet) (program : LinearPr
       (later_changes a outer k values (is_lower outer k base distance register i))
   below_passed acts (FuncletBody j) i = refl
 
-  abbrev body_passed : (c : Context) (now : ℕ → ℕ) (size end : ℕ) (b : Frame) (acts : List Activation)
-      → passes acts b.body → BodyWaits t fs program p m' c now size end b acts
+  abbrev body_passed : (c : Context) (now : ℕ → ℕ) (size end : ℕ) (b : Frame)
+      (acts : List Activation) → passes acts b.body
+      → BodyWaits t fs program p m' c now size end b acts
       → BodyWaits t fs program p m' c now size end b (with_values acts k values)
   body_passed c now size end b acts i h = record {
     code = h.code;
@@ -166,9 +167,9 @@ module _ (m m' : Memory) (t : Functions) (fs : List Funclet) (program : LinearPr
             (subst (λ (r : ℕ → Option ℕ). LeavesRegisters r 0 a.values values) same left) le;
       }
 
-  abbrev own_body : (c : Context) (size end f : ℕ) (b : Frame) (a : Activation) (outer : List Activation)
-      → b.body ≡ FunctionBody f → ActivationHasBase k base distance register a outer
-      → to ≤ rsp c + size
+  abbrev own_body : (c : Context) (size end f : ℕ) (b : Frame) (a : Activation)
+      (outer : List Activation) → b.body ≡ FunctionBody f
+      → ActivationHasBase k base distance register a outer → to ≤ rsp c + size
       → FrameWords m' register 0 from to values → LeavesRegisters register 0 a.values values
       → HoldsLocals m (get c) (p.register b.body) (p.layout b.body) (rsp c) size b.activation a
       outer

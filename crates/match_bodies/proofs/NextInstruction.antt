@@ -156,7 +156,8 @@ module _ (setting : Setting) where
             let weight = weight_of (slice_get program.functions f.plan.funclet.function) in
             let function_layout : IsFunctionLayout weight
             (p.layout (FunctionBody f.plan.funclet.function)) f.plan.function =
-            subst (λ l. IsLayoutIf program p weight (p.layout (FunctionBody f.plan.funclet.function))
+            subst (λ l. IsLayoutIf program p weight
+            (p.layout (FunctionBody f.plan.funclet.function))
             f.plan.function l) f.plan.function_framed
             (image.laid_out (FunctionBody f.plan.funclet.function) f.plan.function
             f.plan.function_there) in
@@ -198,7 +199,8 @@ module _ (setting : Setting) where
 
       module _ (label : ℕ) (landed : Option ℕ) (events : List Event)
           (rip : u.cpu.rip ≡ p.address c.frame.body label) (inside : label < length code.code)
-          (well_formed : IsWellFormed (host_list p c.store) u) (result : (value : ℕ) → landed ≡ Some value
+          (well_formed : IsWellFormed (host_list p c.store) u) (result : (value : ℕ) → landed ≡ Some
+          value
           → register u.cpu Rax ≡ value)
           (caller : p.leaf c.frame.body ≡ true → CallerHasFrame p c.below)
           (owner : (k : ℕ) → c.frame.body ≡ FuncletBody k

@@ -88,7 +88,8 @@ own_placed m now register Reached y temporaries sp size k f room a outer none h 
 
 pub function_placed : (m : Memory) (now : ℕ → ℕ) (register : ℕ → Option ℕ) (Reached : ℕ → Type 0)
     (y : Layout) (b : LinearBody) (sp k f : ℕ)
-    (acts : List Activation) (weight : ℕ) → IsFunctionLayout weight y b → STACK_START ≤ sp → sp + y.frame ≤ STACK_END
+    (acts : List Activation) (weight : ℕ) → IsFunctionLayout weight y b → STACK_START ≤ sp → sp +
+    y.frame ≤ STACK_END
     → HasActivation m now register y sp y.slots k acts (FunctionBody f)
     → LocalsPlaced m now register Reached y b.temporaries sp k acts
 function_placed m now register Reached y b sp k f [] weight l low high h = absurd h

@@ -50,7 +50,8 @@ flag_is (suc zero) b lt e = ap not e
 flag_is (suc (suc n)) b lt e = absurd (omega arith)
 
 fits_new : (handlers : List ℕ) (s : State) (kind : Kind) (code : Code) (flags : ℕ)
-    (access : Option (Bool × ℕ)) (saved : Cpu) → IsWellFormed handlers (record s { cpu = saved }) → code.0 < 2 ^ 32 → flags < 2
+    (access : Option (Bool × ℕ)) (saved : Cpu) → IsWellFormed handlers (record s { cpu = saved })
+    → code.0 < 2 ^ 32 → flags < 2
     → AllSmall (parameters access) → RecordFits (new_record kind code flags access saved)
 fits_new handlers s kind code flags access saved well_formed a b c = record {
   frame = none_small;
@@ -129,7 +130,8 @@ fits_again r f = record {
   kept_small = (wide_of r.saved f.registers f.registers_small).each;
 }
 
-pub placed_room : (m : Memory) (at : ℕ) (r : DispatchRecord) (above : ℕ) → RecordHasRoom m at r above
+pub placed_room : (m : Memory) (at : ℕ) (r : DispatchRecord) (above : ℕ) → RecordHasRoom m at r
+    above
     → RecordHasRoom (placed m at r) at r above
 placed_room m at r above room = record {
   fits = room.fits;
@@ -168,13 +170,15 @@ module _ (t : Functions) (fs : List Funclet) (program : LinearProgram) (p : Imag
 
   near_of : (s : State) (saved : Cpu) (is : List StackItem) (items : List Item)
       (acts : List Activation) (handlers : List ℕ)
-      → AsksHost t fs program p s saved is items acts handlers → rsp (context_of saved) ≤ place_of saved + record_room
+      → AsksHost t fs program p s saved is items acts handlers → rsp (context_of saved) ≤ place_of
+      saved + record_room
   near_of s saved is items acts handlers a = let n = a.well_formed_saved.count in
       place_near (rsp (context_of saved)) a.low (a.well_formed_saved.small 4 (omega arith))
 
   room_of : (s : State) (saved : Cpu) (is : List StackItem) (items : List Item)
       (acts : List Activation) (handlers : List ℕ) (r : DispatchRecord)
-      → AsksHost t fs program p s saved is items acts handlers → RecordFits r → RecordHasRoom s.memory (place_of saved) r (rsp (context_of saved))
+      → AsksHost t fs program p s saved is items acts handlers → RecordFits r → RecordHasRoom
+      s.memory (place_of saved) r (rsp (context_of saved))
   room_of s saved is items acts handlers r a fits =
       let n = a.well_formed_saved.count in
       let small : rsp (context_of saved) < 2 ^ 64 = a.well_formed_saved.small 4 (omega arith) in
@@ -230,7 +234,8 @@ local_unwind_unwinds t fs program p s frame address saved is acts depth label f 
     let at = place_of saved in
     let r : DispatchRecord = to_target saved frame address in
     let fits : RecordFits r = fits_targeted (new_record LocalUnwind (record { 0 = 0 }) 0 None saved)
-    frame address (fits_new (host_list p source) s LocalUnwind (record { 0 = 0 }) 0 None saved a.well_formed_saved
+    frame address (fits_new (host_list p source) s LocalUnwind (record { 0 = 0 }) 0 None saved
+    a.well_formed_saved
     (let e : 0 < 2 ^ 32 = omega arith in e) (let e : 0 < 2 = omega arith in e)
     (λ j l. zeros_small 15 j)) frame_small address_small in
     let room : RecordHasRoom s.memory at r (rsp (context_of saved)) = room_of t fs program p s saved
@@ -269,7 +274,8 @@ acceptance_unwinds t fs program p s at r frame address is acts exception found h
       turns = ap (λ (o : Option ℕ). if_placed s at new (λ u. unwinds_on t u at new) o) a.room.room;
       unwinding = record {
         gives = a.gives;
-        well_formed = well_formed_with (host_list p c.store) s (placed s.memory at new) a.well_formed;
+        well_formed = well_formed_with (host_list p c.store) s (placed s.memory at new)
+            a.well_formed;
         on = record_leaves_the_list t fs program p s.memory at new (context_of r.saved) is
             (Waits c.frame ∷ c.below) acts a.on room;
         kind = refl;
@@ -321,7 +327,8 @@ answers_continue t fs program p s r is acts exception resumption asked rest c h 
           ∙ ap (accepted t s at r r.frame) waits.asks.before.target;
       frame_small = waits.own.fits.frame;
       address_small = subst (λ a. a < 2 ^ 64) waits.asks.before.target
-          (let a : (t.base + waits.asks.before.row.jump_target) % 2 ^ 64 < 2 ^ 64 = omega arith in a);
+          (let a : (t.base + waits.asks.before.row.jump_target) % 2 ^ 64 < 2 ^ 64 = omega arith
+          in a);
       aimed = waits.asks.aimed;
       raises = refl;
       asks_anew = record {

@@ -123,18 +123,21 @@ module _ (t : Functions) (fs : List Funclet) (program : LinearProgram) (p : Imag
   unfoldable pub arrives : (s : State) (at : ℕ) (r : DispatchRecord)
       (back first frame above k activation : ℕ) (name : BodyName) (is : List StackItem)
       (items : List Item) (acts : List Activation) (handlers : List ℕ)
-      → IsWellFormed handlers s → IsData s.memory → RecordHasRoom s.memory at r above → above ≤ frame
+      → IsWellFormed handlers s → IsData s.memory → RecordHasRoom s.memory at r above → above
+      ≤ frame
       → frame < 2 ^ 64 → back < 2 ^ 64 → first < 2 ^ 64 → IsFunclet t fs program p name k
       → Reaches t fs program p s.memory name frame activation acts
       → ((others : List ℕ) → On t fs program p (pushed s.memory at r back)
       (context_below back at others) is items acts)
       → Arrives t fs program p (entered (with_record s at r) at back (p.funclet k) first frame) k
       activation first items acts handlers
-  arrives s at r back first frame above k activation name is items acts handlers well_formed d room le
+  arrives s at r back first frame above k activation name is items acts handlers well_formed d room
+      le
       frame_small
       back_small first_small funclet reach on =
       let old : State = with_record s at r in
-      let well_formed_old : IsWellFormed handlers old = well_formed_with handlers s (placed s.memory at r)
+      let well_formed_old : IsWellFormed handlers old = well_formed_with handlers s
+      (placed s.memory at r)
       well_formed in
       let new : State = entered old at back (p.funclet k) first frame in
       let stack_is = entered_stack handlers old at back (p.funclet k) first frame well_formed_old
@@ -152,7 +155,8 @@ module _ (t : Functions) (fs : List Funclet) (program : LinearProgram) (p : Imag
         rip = refl;
         name = name;
         funclet = funclet;
-        argument = entered_first handlers old at back (p.funclet k) first frame well_formed_old funclet.small
+        argument = entered_first handlers old at back (p.funclet k) first frame well_formed_old
+            funclet.small
             first_small frame_small;
         reaches =
             subst (λ x. Reaches t fs program p new.memory name x activation acts) (sym frame_is)
@@ -172,7 +176,8 @@ module _ (t : Functions) (fs : List Funclet) (program : LinearProgram) (p : Imag
             ∙ word_pushed s.memory at r back above d room back_small;
         is = is;
         on = on;
-        well_formed = entered_well_formed handlers old at back (p.funclet k) first frame well_formed_old
+        well_formed = entered_well_formed handlers old at back (p.funclet k) first frame
+            well_formed_old
             funclet.small first_small
             frame_small;
       }

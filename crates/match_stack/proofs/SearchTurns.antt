@@ -31,13 +31,15 @@ module _ (t : Functions) (fs : List Funclet) (program : LinearProgram) (p : Imag
       (p.funclet k) ((at + 80) % 2 ^ 64) frame).cpu in register cpu Rcx ≡ register cpu Rsp + 88
   pointers_above hand room frame k handler_small frame_small =
       let old : State = with_record t fs program p s at hand in
-      let well_formed : IsWellFormed handlers old = well_formed_with handlers s (placed s.memory at hand)
+      let well_formed : IsWellFormed handlers old = well_formed_with handlers s
+      (placed s.memory at hand)
       h.well_formed in
       let b = room.below in
       let small = room.small in
       let place : IsPlace at = place_of s.memory at (omega arith) room.room in
       let l : 0x70000008 ≤ at = place.low in
-      let first = entered_first handlers old at filter_return (p.funclet k) ((at + 80) % 2 ^ 64) frame
+      let first = entered_first handlers old at filter_return (p.funclet k) ((at + 80) % 2 ^ 64)
+      frame
       well_formed
       handler_small (omega arith) frame_small in
       let sp = entered_stack handlers old at filter_return (p.funclet k) ((at + 80) % 2 ^ 64) frame
@@ -83,7 +85,8 @@ module _ (t : Functions) (fs : List Funclet) (program : LinearProgram) (p : Imag
         goes = λ next. ap (λ (o : Option ℕ). consult program o f rest exception resumption next c)
             e;
         arrives = arrives t fs program p s at hand filter_return ((at + 80) % 2 ^ 64) a.frame above
-            k f.activation a.name (Searching hand ∷ is) (Searches exception resumption (FilterOf f rest) ∷
+            k f.activation a.name (Searching hand ∷ is) (Searches exception resumption
+            (FilterOf f rest) ∷
             items)
             acts handlers
             h.well_formed h.on.data_alone room le frame_small (omega arith) (omega arith) a.funclet

@@ -11,7 +11,8 @@ locals_length [] = refl
 locals_length (a ∷ outer) = let e = locals_length outer in
     omega (arith, length-append (locals_of outer) (a.values ∷ []))
 
-pub left_activations : (m : Memory) (source : Store) (y : Layout) (sp size k : ℕ) (acts : List Activation)
+pub left_activations : (m : Memory) (source : Store) (y : Layout) (sp size k : ℕ)
+    (acts : List Activation)
     (name : BodyName) (now : ℕ → ℕ) (register : ℕ → Option ℕ)
     → HasActivation m now register y sp size k acts name
     → left_store name k (store_of source acts) ≡ store_of source (activations_below name acts)

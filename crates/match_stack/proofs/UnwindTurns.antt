@@ -65,7 +65,8 @@ module _ (t : Functions) (fs : List Funclet) (program : LinearProgram) (p : Imag
       let new : State = entered (with_record t fs program p s at hand) at finally_return
       (p.funclet a.block) 1 (rsp a.to) in
       let first = entered_first handlers (with_record t fs program p s at hand) at finally_return
-      (p.funclet a.block) 1 (rsp a.to) (well_formed_with handlers s (placed s.memory at hand) h.well_formed)
+      (p.funclet a.block) 1 (rsp a.to) (well_formed_with handlers s (placed s.memory at hand)
+      h.well_formed)
       a.funclet.small (omega arith) frame_small in
       record {
         block = a.block;
@@ -88,7 +89,8 @@ module _ (t : Functions) (fs : List Funclet) (program : LinearProgram) (p : Imag
         arrives = arrives t fs program p s at hand finally_return 1 (rsp a.to) above a.block
             a.body.activation a.body.body (Unwinding hand ∷ a.is)
             (Unwinds a.left (record w.target { held = a.held }) ∷ Waits a.body ∷ a.below) a.acts
-            handlers h.well_formed h.on.data_alone room le frame_small (omega arith) (omega arith) a.funclet
+            handlers h.well_formed h.on.data_alone room le frame_small (omega arith) (omega arith)
+            a.funclet
             a.reaches
             (λ others. unwinding_is_one_more t fs program p s.memory at hand a.is
             (Waits a.body ∷ a.below) a.acts a.left (record w.target { held = a.held }) others

@@ -32,20 +32,21 @@ abbrev pub HandlersAreSmall : ImagePlan → Type 0
 HandlersAreSmall p = (f : ℕ) → p.handler f < 2 ^ 64
 
 module _ (t : Functions) (fs : List Funclet) (program : LinearProgram) (p : ImagePlan) where
-  -- a record represents the exception of a body that waits, and the vectored handlers are asked from
-  -- a place of their list on
+  -- a record represents the exception of a body that waits, and the vectored handlers are asked
+  -- from a place of their list on
   pub record IsAsking (s : State) (at : ℕ) (r : DispatchRecord) (is : List StackItem)
-      (acts : List Activation) (exception : Exception) (place : ℕ) (c : Configuration) : Type 0 where
-    pub gives : Gives t fs program p
-    pub well_formed : IsWellFormed (host_list p c.store) s
-    pub handlers : HandlersAreSmall p
-    pub on : On t fs program p s.memory (context_of r.saved) is (Waits c.frame ∷ c.below) acts
-    pub kind : r.kind ≡ Vectored
-    pub room : RecordHasRoom s.memory at r (rsp (context_of r.saved))
-    pub carries : HasException t fs program p r exception
-    pub row : r.row ≡ place
-    pub walk : r.walk ≡ context_of r.saved
-    pub near : rsp (context_of r.saved) ≤ at + record_room
+      (acts : List Activation) (exception : Exception) (place : ℕ) (c : Configuration) : Type 0
+    where
+      pub gives : Gives t fs program p
+      pub well_formed : IsWellFormed (host_list p c.store) s
+      pub handlers : HandlersAreSmall p
+      pub on : On t fs program p s.memory (context_of r.saved) is (Waits c.frame ∷ c.below) acts
+      pub kind : r.kind ≡ Vectored
+      pub room : RecordHasRoom s.memory at r (rsp (context_of r.saved))
+      pub carries : HasException t fs program p r exception
+      pub row : r.row ≡ place
+      pub walk : r.walk ≡ context_of r.saved
+      pub near : rsp (context_of r.saved) ≤ at + record_room
 
   -- the one at that place is called: RCX is the address of EXCEPTION_POINTERS in the record above
   -- its return address, from which the list is there, with the search that waits

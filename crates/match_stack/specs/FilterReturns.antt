@@ -46,7 +46,8 @@ answered s c =
 abbrev pub linear_answer : LinearProgram → State → Exception → Resumption → Handler → List Handler
     → Configuration → Next → Seen
 linear_answer program s exception resumption asked rest c next =
-    answer program next (eax s) (Searches exception resumption (FilterOf asked rest) ∷ Waits c.frame ∷ c.below)
+    answer program next (eax s) (Searches exception resumption (FilterOf asked rest) ∷ Waits c.frame
+    ∷ c.below)
     c.events c.store
 
 -- 0: the next handler

@@ -46,7 +46,8 @@ module _ (setting : Setting) (fits : FlagsFit setting.program) where
         (λ next. search program next found exception resumption c)
         (λ next. ask_from program next place exception resumption c) c.events (turns_left c)
         (live_from (context_of r.saved) is) (ap (arrived t fs) a.turns) a.goes
-        (searched setting fits u at new is acts exception found c a.searches memory' store resumption
+        (searched setting fits u at new is acts exception found c a.searches memory' store
+        resumption
         resumes (subst HasRule (a.goes (exec program zero)) rule)))
 
     pub asked : (resumption : Resumption) → ResumesFrom p resumption c.frame acts r.saved

@@ -31,7 +31,8 @@ module _ (t : Functions) (fs : List Funclet) (program : LinearProgram) (p : Imag
         by_funclet : (f : Option LinearFunclet) (below : List Item)
             → FuncletIsAbove t fs program p k b f below
             → FuncletIsAbove t fs program p k (record b { temporaries = ts }) f below
-        by_funclet (Some f) (Searches exception resumption (FilterOf asked rest) ∷ Waits w ∷ below) h = h
+        by_funclet (Some f) (Searches exception resumption (FilterOf asked rest) ∷ Waits w ∷ below)
+            h = h
         by_funclet (Some f) (Unwinds rest target ∷ Waits w ∷ below) h = h
         by_funclet (Some f) (Waits w ∷ below) h = h
         by_funclet f below h = absurd h

@@ -114,7 +114,8 @@ module _ (setting : Setting) (made : IsWellMade setting.program setting.plan) wh
         let acts = returning.outer setting made.room s c b counted f function from
         here value.0 value.1 w items e body.0 body.1 f by.0 by.1 calls within held
         waits.0.landed has_frame in
-        there (inl (returning.moves setting made.room s c b counted f function from here value.0 value.1 w
+        there (inl (returning.moves setting made.room s c b counted f function from here value.0
+        value.1 w
         items e body.0 body.1 f by.0 by.1 calls within held waits.0.landed
         has_frame (counted_here setting made next_one known_next)
         (surrounded next_one known_next body.0 body.1 (length acts) (sym (locals_count acts)))))

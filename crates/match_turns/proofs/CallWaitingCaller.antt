@@ -131,7 +131,8 @@ module _ {setting : Setting} (at_call : AtCall setting) where
       by_funclet : (o : Option LinearFunclet) (items : List Item)
           → FuncletIsAbove t fs program p k c.frame o items
           → FuncletIsAbove t fs program p k (waiting c first).frame o items
-      by_funclet (Some g) (Searches exception resumption (FilterOf asked rest) ∷ Waits w ∷ below) h = h
+      by_funclet (Some g) (Searches exception resumption (FilterOf asked rest) ∷ Waits w ∷ below)
+          h = h
       by_funclet (Some g) (Unwinds rest target ∷ Waits w ∷ below) h = h
       by_funclet (Some g) (Waits w ∷ below) h = h
       by_funclet o items h = absurd h

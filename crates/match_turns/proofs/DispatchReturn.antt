@@ -197,7 +197,8 @@ module _ (setting : Setting) (fits : FlagsFit setting.program) where
   pub finally_ended : (s : State) (r : DispatchRecord) (is : List StackItem)
       (acts : List Activation) (rest : List Region) (target : Target) (f : Frame)
       (below : List Item) (c : Configuration)
-      → IsWellFormed (host_list p c.store) s → On t fs program p s.memory (context_of s.cpu) (Unwinding r ∷ is)
+      → IsWellFormed (host_list p c.store) s → On t fs program p s.memory (context_of s.cpu)
+      (Unwinding r ∷ is)
       (Unwinds rest target ∷ Waits f ∷ below) acts
       → IsMachineMemory setting s.memory c.store.memory
       → c.store.activations ≡ locals_of acts → c.below ≡ Unwinds rest target ∷ Waits f ∷ below

@@ -19,7 +19,8 @@ module _ (setting : Setting) (fits : FlagsFit setting.program) where
       → (exception : Exception) (resumption : Resumption) (asked : Handler) (rest : List Handler)
       (w : Frame) (below : List Item)
       → Comes t fs k s [] u → k ≤ 6 → u.cpu.rip ≡ filter_return
-      → c.below ≡ Searches exception resumption (FilterOf asked rest) ∷ Waits w ∷ below → NoneLanded c.below
+      → c.below ≡ Searches exception resumption (FilterOf asked rest) ∷ Waits w ∷ below → NoneLanded
+      c.below
       → SearchIsAnswered t fs program p u r is acts exception resumption asked rest
       (waiting_below c w below)
       → IsMachineMemory setting u.memory c.store.memory → c.store.activations ≡ locals_of acts
@@ -51,7 +52,8 @@ module _ (setting : Setting) (fits : FlagsFit setting.program) where
       (target : Target) (f : Frame) (below : List Item)
       → Comes t fs k s [] u → k ≤ 6 → u.cpu.rip ≡ finally_return
       → c.below ≡ Unwinds rest target ∷ Waits f ∷ below → NoneLanded c.below
-      → IsWellFormed (host_list p c.store) u → On t fs program p u.memory (context_of u.cpu) (Unwinding r ∷ is)
+      → IsWellFormed (host_list p c.store) u → On t fs program p u.memory (context_of u.cpu)
+      (Unwinding r ∷ is)
       (Unwinds rest target ∷ Waits f ∷ below) acts
       → IsMachineMemory setting u.memory c.store.memory → c.store.activations ≡ locals_of acts
       → ((next : Next) → act program i next c ≡ end_finally program next c.below c.events c.store)

@@ -42,7 +42,8 @@ module _ (setting : Setting) where
           (λ leaf. absurd (let no : true ≡ false = sym leaf ∙ framed in cc))
 
   funclet_gives : (u : State) (k activation first : ℕ) (items : List Item) (acts : List Activation)
-      (handlers : List ℕ) (a : Arrives t fs program p u k activation first items acts handlers) (cs : List Context)
+      (handlers : List ℕ) (a : Arrives t fs program p u k activation first items acts handlers)
+      (cs : List Context)
       → ((others : List ℕ) → callers (context_below a.back a.at others) a.is ≡ cs)
       → WalkGives t u (caller_at u ∷ cs)
   funclet_gives u k activation first items acts handlers a cs same =

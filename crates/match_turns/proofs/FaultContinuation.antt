@@ -55,7 +55,8 @@ module _ (setting : Setting) (made : IsWellMade setting.program setting.plan)
   in_body : InBody setting u c
   in_body =
       subst (λ (xs : List (List ℕ)). InBody setting u
-      (record c { store = record c.store { memory = c.store.memory; activations = xs } })) (sym store)
+      (record c { store = record c.store { memory = c.store.memory; activations = xs } }))
+      (sym store)
       (waits_in_body t fs program p q image u (context_of saved) is c.frame c.below acts
       c.frame.next c.frame.temporaries c.frame.landed c.store c.events on refl inside
       well_formed (all_front s.memory c.frame.temporaries) again.locals)

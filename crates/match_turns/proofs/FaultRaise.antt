@@ -141,7 +141,8 @@ module _ (setting : Setting) (made : IsWellMade setting.program setting.plan)
           (leaf_values (p.leaf c.frame.body) c.frame.body w.body.acts) s.cpu).says w.again)
           (subst HasRule
           (acts (exec program zero)) rule)
-          (askable_here program c.store.vectored made.whole known.stacked.handlers) (register s.cpu Rsp)
+          (askable_here program c.store.vectored made.whole known.stacked.handlers)
+          (register s.cpu Rsp)
           (let n = w.well_formed.count in
           let low = place_low (register s.cpu Rsp) asks.asks.low
           (w.well_formed.small 4 (omega arith)) in omega arith)

@@ -32,8 +32,10 @@ by_low program next exception resumption h rest f below es store l =
 pub answer_low : (program : LinearProgram) (next : Next) (v : ℕ) (exception : Exception)
     (resumption : Resumption) (h : Handler) (rest : List Handler) (f : Frame) (below : List Item)
     (es : List Event) (store : Store)
-    → answer program next v (Searches exception resumption (FilterOf h rest) ∷ Waits f ∷ below) es store
-    ≡ answer program next (low W32 v) (Searches exception resumption (FilterOf h rest) ∷ Waits f ∷ below) es
+    → answer program next v (Searches exception resumption (FilterOf h rest) ∷ Waits f ∷ below) es
+    store
+    ≡ answer program next (low W32 v) (Searches exception resumption (FilterOf h rest) ∷ Waits f
+    ∷ below) es
     store
 answer_low program next v exception resumption h rest f below es store = ap
     (by_low program next exception resumption h rest f below es store) (sym (low_twice v))

@@ -57,7 +57,8 @@ module _ (setting : Setting) where
     items = Searches exception resumption (FilterOf handler rest) ∷ Waits c.frame ∷ c.below
 
     abbrev w : ArrivesBelow t fs program p s k handler.activation argument items acts
-    w = arrives_below t fs program p s k handler.activation argument items acts (host_list p c.store)
+    w = arrives_below t fs program p s k handler.activation argument items acts
+        (host_list p c.store)
         a tt
 
     abbrev known : IsFilterOfSome program k

@@ -27,7 +27,8 @@ module _ (t : Functions) (fs : List Funclet) (program : LinearProgram) (p : Imag
   filter_is_asked : (k : ℕ) (b : Frame) (f : LinearFunclet) (items : List Item)
       → f.kind ≡ funclets.Filter → FuncletIsAbove t fs program p k b (Some f) items
       → IsAsked b.exception items
-  filter_is_asked k b f (Searches exception resumption (FilterOf asked rest) ∷ Waits w ∷ below) e h =
+  filter_is_asked k b f (Searches exception resumption (FilterOf asked rest) ∷ Waits w ∷ below) e h
+      =
       let alike = h.1 in record {
         searched = exception;
         resumption = resumption;

@@ -33,7 +33,8 @@ module _ (setting : Setting) where
       (flagged : flag_of (slice_get program.funclets k) ≡ Some flag) (fits : FlagsFit program)
       (memory : IsMachineMemory setting s.memory store.memory) (stored : store.activations ≡
       locals_of acts) (listed : a.handlers ≡ host_list p store)
-      (space : STACK_END ≤ a.at + (below_end + record_room) + FRAME_BY_WEIGHT * (length acts + held))
+      (space : STACK_END ≤ a.at + (below_end + record_room) + FRAME_BY_WEIGHT *
+      (length acts + held))
       (few : length acts + held + 2 ≤ 1000)
       (pointers : (m : Memory) (sp size : ℕ) → HasPointers t fs program p m
       (p.layout (FuncletBody k)) sp size items)
@@ -167,7 +168,8 @@ module _ (setting : Setting) where
 
     abbrev b1 : RepresentsAt setting s1 c1
     b1 = begins setting s s1 k (of_test abnormal) activation items acts l a frame_1 no_exception
-        (held + 2) store events memory stored listed (let h = e.top in let z = e.sp_is in let w = a.stack
+        (held + 2) store events memory stored listed (let h = e.top in let z = e.sp_is in let w =
+        a.stack
         in omega arith) some
         (subst (λ r. HasSpace r below_end (length acts + (held + 2))) (sym stack_1) space_1)
         (above f kind_is)

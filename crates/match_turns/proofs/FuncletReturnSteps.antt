@@ -38,7 +38,8 @@ module _ (setting : Setting) (made : IsWellMade setting.program setting.plan)
           filter_returns setting made.room s c b (counted_here setting made c known) k name from
           (code_at setting made s c b known (instructions.Return from) at) value.0 value.1 g there
           rule after fits continues h.0 exception resumption asked rest w below e
-          known.stacked.below (askable_here program c.store.vectored made.whole known.stacked.handlers)
+          known.stacked.below (askable_here program c.store.vectored made.whole
+          known.stacked.handlers)
       by_list (Unwinds rest target ∷ []) e h = absurd h
       by_list (Unwinds rest target ∷ Searches x y z ∷ below) e h = absurd h
       by_list (Unwinds rest target ∷ Unwinds x y ∷ below) e h = absurd h

@@ -40,8 +40,8 @@ use Rattle.match_stack.specs.ListLaws.{KeepsStack}
 use Rattle.match_stack.specs.ItemMatches.{FunctionIsAbove, ReturnsTo, HasSpace, below_end}
 use Rattle.match_turns.proofs.Lemmas.{kept_by_other_memories, stack_is_hidden}
 
--- turns that show nothing lead to its first instruction: the arguments are its first locals, and what
--- the stack or a register held is in the others, which linear code begins with 0
+-- turns that show nothing lead to its first instruction: the arguments are its first locals, and
+-- what the stack or a register held is in the others, which linear code begins with 0
 pub record FunctionStarts (t : Functions) (fs : List Funclet) (program : LinearProgram)
     (p : ImagePlan) (q : Sites) (s : State) (f : ℕ) (fn : LinearFunction) (arguments : List ℕ)
     (held : ℕ) (items : List Item) (store : Store) (es : List Event) : Type 0 where
@@ -192,7 +192,8 @@ module _ (t : Functions) (fs : List Funclet) (program : LinearProgram) (p : Imag
   kept = others_of first.cpu.registers
 
   small_there : AllSmall kept
-  small_there = small_registers first (subst (IsWellFormed (host_list p store)) first_is well_formed)
+  small_there = small_registers first (subst (IsWellFormed (host_list p store)) first_is
+      well_formed)
 
   entry_run : EntryRan t fs program p q image (FunctionBody f) o there some top (top + 40) back
       kept is inside.turns first after (arguments_code program p (FunctionBody f))
@@ -232,7 +233,8 @@ module _ (t : Functions) (fs : List Funclet) (program : LinearProgram) (p : Imag
 
   well_formed_after : IsWellFormed (host_list p store) after
   well_formed_after =
-      stays_well_formed first after keeps rip_small (subst (IsWellFormed (host_list p store)) first_is well_formed)
+      stays_well_formed first after keeps rip_small (subst (IsWellFormed (host_list p store))
+      first_is well_formed)
 
   abbrev registers : LocalRegisters
   registers = local_registers after.cpu.registers
@@ -268,7 +270,8 @@ module _ (t : Functions) (fs : List Funclet) (program : LinearProgram) (p : Imag
   }
 
   memory : IsMachineMemory t fs program p q after.memory store.memory
-  memory = memory_stays t fs program p q image s.memory after.memory store.memory store.memory image_kept
+  memory = memory_stays t fs program p q image s.memory after.memory store.memory store.memory
+      image_kept
       inside.bytes protection_same inside.agrees h.memory
 
   -- ---- the frame
@@ -277,7 +280,8 @@ module _ (t : Functions) (fs : List Funclet) (program : LinearProgram) (p : Imag
       × (inside.sp + slots_end layout leaf ≤ STACK_END)
   slots_fit true l = let e = l.frame in let a = l.locals in let k = l.temporaries in
       let n = l.few in let z = inside.place in let hi = h.high in (omega arith, omega arith)
-  slots_fit false l = let a = l.locals in let w = l.within in let z = inside.place in let hi = h.high in
+  slots_fit false l = let a = l.locals in let w = l.within in let z = inside.place in let hi =
+      h.high in
       (omega arith, omega arith)
 
   at_home : (leaf : Bool) → HasPlan leaf → leaf ≡ true → inside.sp + home_end ≤ STACK_END

@@ -55,7 +55,8 @@ module _ (setting : Setting) (fits : FlagsFit setting.program) where
               (or_asks_by t fs program p q x
               (λ next. ask_from program next (place + 1) exception resumption c) seen c.events
               (turns_left c) (turns_left c + 3) (register s.cpu Rsp) live a.goes (omega arith)
-              (ask.asked setting fits s at (at_next r) is acts exception (place + 1) c a.asking memory
+              (ask.asked setting fits s at (at_next r) is acts exception (place + 1) c a.asking
+              memory
               store (register s.cpu Rsp) at_itself listed resumption outcome.resumes
               (subst HasRule (a.goes (exec program zero)) rule)));
         }

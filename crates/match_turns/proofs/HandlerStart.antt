@@ -114,7 +114,8 @@ module _ (setting : Setting) where
 
     few : space + 2 + depth_weight fn ≤ 1000
     few =
-        let z = shallow_is (length c.store.activations + c.frame.held + (2 + depth_weight fn)) shallow
+        let z = shallow_is (length c.store.activations + c.frame.held + (2 + depth_weight fn))
+        shallow
         in
         omega (arith, ap length store, locals_count acts)
 
@@ -370,7 +371,8 @@ module _ (setting : Setting) where
         let g = frame_fits in
         record { space = omega arith; shallow = omega arith }
 
-    function_starts : FunctionStarts t fs program p q entered f fn (handler_arguments exception) held
+    function_starts : FunctionStarts t fs program p q entered f fn (handler_arguments exception)
+        held
         items c.store c.events
     function_starts = starting.started t fs program p q image entered c.store f fn top
         (argument_of exception third fourth) called some well_formed vectored_return a.returns

@@ -38,7 +38,8 @@ module _ (setting : Setting) where
         let others = others_of x.cpu.registers in
         let here : sp + 0 ≡ sp = omega arith in
         let flat : sp + 8 ≡ sp + 0 + 8 = omega arith in
-        let found = finds_return t v.memory rip finds (context_of x.cpu) back refl refl (omega arith)
+        let found = finds_return t v.memory rip finds (context_of x.cpu) back refl refl
+        (omega arith)
         (ap (word v.memory) here ∙ returns) in
         let above = subst (λ n. GivesCallers t v.memory (state (context_below back n others) 0) cs)
         flat (below others) in
@@ -47,7 +48,8 @@ module _ (setting : Setting) where
         ap (λ n. context_below back n others) (sym flat)
         ∙ ap (λ y. context_below y (sp + 8) others) (sym number) in
         subst (λ (k : Context). WalkGives t x (k ∷ cs)) same
-        (gives_caller t v.memory (context_of x.cpu) (caller_above (context_of x.cpu) 0 back) cs found
+        (gives_caller t v.memory (context_of x.cpu) (caller_above (context_of x.cpu) 0 back) cs
+        found
         above)
 
     one : (s u : State) (i : Instr) → Reaches 1 s u → is_encodable i ≡ true

@@ -102,7 +102,8 @@ funclet_room weight y f b g l m same =
 module _ (t : Functions) (fs : List Funclet) (program : LinearProgram) (p : ImagePlan) (q : Sites)
     (image : IsProgramImage t fs program p q) where
   by_leaf : (f : ℕ) (b : LinearBody) (leaf : Bool)
-      → IsLayoutIf program p (weight_of (slice_get program.functions f)) (p.layout (FunctionBody f)) b leaf
+      → IsLayoutIf program p (weight_of (slice_get program.functions f)) (p.layout (FunctionBody f))
+      b leaf
       → HasRoomSomewhere (p.layout (FunctionBody f)) (counts_of b)
   by_leaf f b true l = leaf_room (p.layout (FunctionBody f)) b l
   by_leaf f b false l = function_room (weight_of (slice_get program.functions f))
@@ -118,7 +119,8 @@ module _ (t : Functions) (fs : List Funclet) (program : LinearProgram) (p : Imag
       funclet_room weight (p.layout (FuncletBody k)) (p.layout (FunctionBody l.funclet.function)) b
       l.function l.layout
       (subst (λ (leaf : Bool). IsLayoutIf program p weight
-      (p.layout (FunctionBody l.funclet.function)) l.function leaf) l.function_framed g) l.same_locals
+      (p.layout (FunctionBody l.funclet.function)) l.function leaf) l.function_framed g)
+      l.same_locals
 
   -- ---- code
 

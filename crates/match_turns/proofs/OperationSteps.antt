@@ -98,7 +98,8 @@ module _ (setting : Setting) (made : IsWellMade setting.program setting.plan)
         e in
         let few = l.few in
         taken_slower t fs program p q (l.turns + 7) turns_per_step s c i (omega arith)
-        (taken_after t fs program p q l.turns 7 s l.state c i l.comes (faults_within l.state c i code access l.is_there known e h rule next))
+        (taken_after t fs program p q l.turns 7 s l.state c i l.comes (faults_within l.state c i
+        code access l.is_there known e h rule next))
 
     from_beginning : (first second : Slot) (x : OperationResult)
         → ComesTo program c o first second x → instruction_at program c

@@ -20,9 +20,11 @@ host_step RaiseException s e = ap (λ b. if in_host_page b then Err (hosted b (s
     else execute s (leading (executable s.memory 15 s.cpu.rip))) e
 host_step Walk s e = ap (λ b. if in_host_page b then Err (hosted b (service_at b)) else execute s
     (leading (executable s.memory 15 s.cpu.rip))) e
-host_step (AddVectored f) s e = ap (λ b. if in_host_page b then Err (hosted b (service_at b)) else execute s
+host_step (AddVectored f) s e = ap (λ b. if in_host_page b then Err (hosted b (service_at b)) else
+    execute s
     (leading (executable s.memory 15 s.cpu.rip))) e
-host_step (RemoveVectored f) s e = ap (λ b. if in_host_page b then Err (hosted b (service_at b)) else execute s
+host_step (RemoveVectored f) s e = ap (λ b. if in_host_page b then Err (hosted b (service_at b))
+    else execute s
     (leading (executable s.memory 15 s.cpu.rip))) e
 
 -- the service's own call is dropped

@@ -38,7 +38,8 @@ module _ (setting : Setting) (fits : FlagsFit setting.program) where
         let c = on_top b.body b.below w.source b.outer w.shown in
         let under = Unwinds b.rest target ∷ Waits b.body ∷ b.below in
         let d = begin_finally b.block flag true b.held under c in
-        let memory' = memory_untouched t fs program p q s.memory b.state.memory w.source.memory b.untouched
+        let memory' = memory_untouched t fs program p q s.memory b.state.memory w.source.memory
+        b.untouched
         memory (b.arrives.on []).data_alone in
         let goes = λ (next : Next). b.goes next
         ∙ ap (λ (o : Option ℕ). with_some w.shown o

@@ -47,7 +47,8 @@ module _ (t : Functions) (fs : List Funclet) (program : LinearProgram) (p : Imag
       (s : State) (k argument : ℕ) (handler : Handler) (rest : List Handler) (exception : Exception)
       (resumption : Resumption) (c : Configuration) (acts : List Activation)
       → Arrives t fs program p s k handler.activation argument
-      (Searches exception resumption (FilterOf handler rest) ∷ Waits c.frame ∷ c.below) acts (host_list p c.store)
+      (Searches exception resumption (FilterOf handler rest) ∷ Waits c.frame ∷ c.below) acts
+      (host_list p c.store)
       → register s.cpu Rcx ≡ register s.cpu Rsp + 88 → handler.filter ≡ Some k
       → IsMachineMemory t fs program p q s.memory c.store.memory
       → c.store.activations ≡ locals_of acts

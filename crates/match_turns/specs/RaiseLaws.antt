@@ -32,8 +32,8 @@ use Rattle.match_turns.specs.AskOutcome.{IsMatchedOrAsks}
 use Rattle.match_turns.specs.ExceptionContinuation.{Continuations}
 use Rattle.match_turns.specs.LocalUnwindPlaces.{AreFollowed, StayInside}
 
--- a call of RaiseException: its event is shown, and a vectored handler, a filter or a `__finally` block begins, a
--- handler takes over, or nobody does
+-- a call of RaiseException: its event is shown, and a vectored handler, a filter or a `__finally`
+-- block begins, a handler takes over, or nobody does
 abbrev pub RaisesAreMatched : Type 0
 RaisesAreMatched =
     (t : Functions) (fs : List Funclet) (program : LinearProgram) (p : ImagePlan) (q : Sites)

@@ -63,7 +63,8 @@ FilterAnswersAreMatched =
     (exception : Exception) (resumption : Resumption) (asked : Handler) (rest : List Handler)
     (w : Frame) (below : List Item)
     → Comes t fs k s [] u → k ≤ 6 → u.cpu.rip ≡ filter_return
-    → c.below ≡ Searches exception resumption (FilterOf asked rest) ∷ Waits w ∷ below → NoneLanded c.below
+    → c.below ≡ Searches exception resumption (FilterOf asked rest) ∷ Waits w ∷ below → NoneLanded
+    c.below
     → SearchIsAnswered t fs program p u r is acts exception resumption asked rest
     (waiting_below c w below)
     → IsMachineMemory t fs program p q u.memory c.store.memory
@@ -83,7 +84,8 @@ FinallyReturnsAreMatched =
     (f : Frame) (below : List Item)
     → Comes t fs k s [] u → k ≤ 6 → u.cpu.rip ≡ finally_return
     → c.below ≡ Unwinds rest target ∷ Waits f ∷ below → NoneLanded c.below
-    → IsWellFormed (host_list p c.store) u → On t fs program p u.memory (context_of u.cpu) (Unwinding r ∷ is)
+    → IsWellFormed (host_list p c.store) u → On t fs program p u.memory (context_of u.cpu)
+    (Unwinding r ∷ is)
     (Unwinds rest target ∷ Waits f ∷ below) acts
     → IsMachineMemory t fs program p q u.memory c.store.memory
     → c.store.activations ≡ locals_of acts

@@ -42,8 +42,8 @@ int main(void){ int x; & &x; return 0; } => NotLvalue 25
 int main(void){ int *p; int **q = &p; *q = *&p; return 0; } => accepted
 ";
 
-/// Local arrays: their names are pointers and no lvalues, they have no initialiser, and an element or
-/// more (C11, 6.3.2.1 p3, 6.7.6.2 and 6.7.9).
+/// Local arrays: their names are pointers and no lvalues, they have no initialiser, and an element
+/// or more (C11, 6.3.2.1 p3, 6.7.6.2 and 6.7.9).
 const LOCAL_ARRAYS: &str = r"
 int main(void){ int a[4]; a[1] = 5; *a = 6; int *p = a; p = &a[2]; p = a + 1; return a[3]; } => accepted
 int main(void){ int a[4], b, *c[2], **d = c; c[0] = &b; return a == &b; } => accepted

@@ -65,9 +65,9 @@ fn scope_records(rt: HostRuntime) {
     assert!(rt; shown.ends_with("\nentries 3\n"), "{shown}");
 }
 
-/// Where a `__try` is the first statement, its range begins past the prologue (4 bytes, from 2047 to
-/// 204A), what keeps the data stack's pointer (a load of 8 bytes, a number of 10, an addition of 8, a
-/// store of 5), and the `nop`.
+/// Where a `__try` is the first statement, its range begins past the prologue (4 bytes, from 2047
+/// to 204A), what keeps the data stack's pointer (a load of 8 bytes, a number of 10, an addition of
+/// 8, a store of 5), and the `nop`.
 #[test]
 fn ranges_begin_past_the_prologue(rt: HostRuntime) {
     let text = "int main(void){ __try{ *(int*)0 = 1; } __except(1){ put(1); } return 0; }";

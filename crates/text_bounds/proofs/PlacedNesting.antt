@@ -142,7 +142,8 @@ module _ (l : Layout) where
     declared_most : (ds : List Declared)
         → most_of_declared f (place_all_declared l ds) ≤ most_of_declared f ds
     declared_most [] = omega arith
-    declared_most (d ∷ ds) = let h = optional_most d.value in let i = declared_most ds in omega arith
+    declared_most (d ∷ ds) = let h = optional_most d.value in let i = declared_most ds
+        in omega arith
 
     filter_most : (x : Filter) → most_of_filter f (place_filter l x) ≤ most_of_filter f x
     filter_most checked.Always = omega arith

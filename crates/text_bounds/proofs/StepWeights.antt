@@ -11,7 +11,8 @@ use Rattle.text_bounds.proofs.StatementWeights.{weight_is_bounded}
 use Rattle.text_bounds.proofs.DataWeights.{HasLightData, resolved_data}
 use Rattle.lowering_follows.specs.Weights.{expression_weight, node_weight, arguments_weight, optional_weight, all_declared_weight, statement_weight, statements_weight}
 
--- of all functions together, what their parts of the data stack count for each of their locals alone
+-- of all functions together, what their parts of the data stack count for each of their locals
+-- alone
 abbrev own_weight : List Function → ℕ
 own_weight [] = 0
 own_weight (f ∷ fs) =

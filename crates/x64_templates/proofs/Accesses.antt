@@ -89,7 +89,8 @@ modes_agree : (reserved : ℕ → Bool) (m source : Memory) → Agrees reserved 
 modes_agree reserved m source agrees a r = ap (λ (x : Protection). is_readable x.rights)
     (agrees.protection a r)
 
-pub write_modes_agree : (reserved : ℕ → Bool) (m source : Memory) → Agrees reserved m source → (a : ℕ)
+pub write_modes_agree : (reserved : ℕ → Bool) (m source : Memory) → Agrees reserved m source
+    → (a : ℕ)
     → reserved a ≡ false → may_write m a ≡ may_write source a
 write_modes_agree reserved m source agrees a r = ap (λ (x : Protection). is_writable x.rights)
     (agrees.protection a r)

@@ -24,7 +24,8 @@ place_block_or_if-returns t c =
       | place_block_or_if-in-Block w ↦ ap statement w.t-11-is
           ∙ block_placed l w.in-Block.stmts w.place_statements.new.stmts s (was ∙ w.in-Block.is)
           (w.place_statements.auto.stmts ∙ w.deref_mut.ensures.len)
-          (all_placed_at l w.deref_mut.result.now w.in-Block.stmts.items w.place_statements.new.stmts
+          (all_placed_at l w.deref_mut.result.now w.in-Block.stmts.items
+          w.place_statements.new.stmts
           w.deref_mut.ensures.value w.place_statements.ensures)
       | place_block_or_if-in-If w ↦ ap statement w.t-11-is
           ∙ if_placed l w.in-If.condition w.place_expression.new.expr w.in-If.then
