@@ -1,6 +1,6 @@
 -- The trailing parts of a legal epilogue, as the machine fetches them, and what they do to a
 -- context (Microsoft x64 ABI, "Prolog and epilog").
-use Rattle.std.specs.Prelude.{ℕ, zero, suc, ◌+◌, ◌/◌, ◌%◌, ◌^◌, Bool, true, false, ◌==◌, if◌then◌else◌, List, [], ◌∷◌, Option, Some, None, Ok, slice_index}
+use Rattle.std.specs.Prelude.{◌≡◌, ◌<◌, ℕ, zero, suc, ◌+◌, ◌/◌, ◌%◌, ◌^◌, Bool, true, false, ◌==◌, if◌then◌else◌, List, [], ◌∷◌, Option, Some, None, Ok, slice_index}
 use Rattle.seh_num.specs.declared.width.Width.TheVariants.{W64}
 use Rattle.seh_num.specs.declared.size.TheConstants.{LONGEST_INSTRUCTION}
 use Rattle.flat_memory.specs.Memory.{Memory, executable}
@@ -49,6 +49,15 @@ item_of bytes (Some x) = Some (record { instr = x.0; size = x.1; plain = is_plai
 unfoldable pub fetched_at : Memory → ℕ → Option FetchedInstr
 fetched_at m at =
     item_of (executable m LONGEST_INSTRUCTION at) (leading (executable m LONGEST_INSTRUCTION at))
+
+-- bytes that begin with an opcode below 40, of a register and a register or memory
+pub record IsPlainArithmetic (bytes : List ℕ) : Type 0 where
+  pub first : ℕ
+  pub rest : List ℕ
+  pub is : bytes ≡ first ∷ rest
+  pub low : first < 64
+  pub form : first % 8 < 4
+  pub one : first == 0x0F ≡ false
 
 -- ---- what an instruction is to an epilogue
 

@@ -63,3 +63,27 @@ pub fn rsp_raised(context: &Context, by: u64) -> Context
 {
     with_rsp(context, rsp(context).wrapping_add(by))
 }
+
+/// Sets a register, where it is nonvolatile.
+pub fn set(context: &mut Context, register: u8, value: u64)
+    ensures { context.new ≡ spec.set context.old register value }
+{
+    if let Some(k) = kept_index(register) {
+        context.kept[k] = value;
+    }
+}
+
+/// Sets RSP.
+pub fn set_rsp(context: &mut Context, value: u64)
+    ensures { context.new ≡ spec.with_rsp context.old value }
+{
+    context.kept[0] = value;
+}
+
+/// Raises RSP.
+pub fn raise_rsp(context: &mut Context, by: u64)
+    ensures { context.new ≡ spec.rsp_raised context.old by }
+{
+    let rsp = context.kept[0];
+    context.kept[0] = rsp.wrapping_add(by);
+}

@@ -1,6 +1,6 @@
 //! The trailing parts of a legal epilogue (Microsoft x64 ABI, "Prolog and epilog").
 
-ghost use Rattle.std.specs.Prelude.{◌≡◌, Ok, slice_index};
+ghost use Rattle.std.specs.Prelude.{◌≡◌, true, Ok, slice_index};
 ghost use Rattle.seh_num.specs.Answers as answers;
 ghost use Rattle.virtual_unwind.specs.Tail as spec;
 ghost use Rattle.virtual_unwind.specs.After as parts;
@@ -136,11 +136,22 @@ fn part_of(
     }
 }
 
+/// Whether bytes begin with an operation on a register and a register or memory, in one byte of
+/// opcode with no prefix.
+fn is_plain_arithmetic(bytes: &[u8]) -> bool
+    ensures { result ≡ true → spec.IsPlainArithmetic bytes.now }
+{
+    match bytes {
+        [] => false,
+        [first, ..] => *first < 64 && *first % 8 < 4 && *first != 0x0F,
+    }
+}
+
 /// The part of an epilogue at an address, as the machine fetches it: its instruction, its length in
 /// bytes, and whether it ends the epilogue. None where no instruction is there, or one that belongs
 /// to no epilogue, or a rise of RSP that isn't `first`. `register` is the number of the frame
 /// register, 0 where there is none.
-#[tactic(auto, unfolding(crate::specs::Tail::fetched_at))]
+#[tactic(auto, using(crate::proofs::Early::no_item), unfolding(crate::specs::Tail::fetched_at))]
 pub fn part<S: CodeSpace>(
     space: &S,
     register: u8,
@@ -152,6 +163,9 @@ pub fn part<S: CodeSpace>(
     let mut bytes = [0; LONGEST_INSTRUCTION];
     let count = space.fetch(at, &mut bytes);
     let fetched = &bytes[..count];
+    if is_plain_arithmetic(fetched) {
+        return None;
+    }
     match decode(fetched) {
         None => None,
         Some((instr, len)) => {

@@ -1,11 +1,11 @@
 //! Codes undone.
 
-ghost use Rattle.std.specs.Prelude.{◌≡◌};
+ghost use Rattle.std.specs.Prelude.{◌≡◌, Ok, Err, IfOk, IfErr};
 ghost use Rattle.virtual_unwind.specs.CallerOf as cases;
 ghost use Rattle.virtual_unwind.specs.Undone as spec;
-ghost use Rattle.virtual_unwind.specs.Views.{undo_of, undone_answer};
+ghost use Rattle.virtual_unwind.specs.Views.{undo_of};
 
-use crate::kept::{get, rsp, rsp_raised, with, with_rsp};
+use crate::kept::{get, raise_rsp, rsp, set, set_rsp};
 use crate::refusal::UnwindErr;
 use crate::word::word;
 use eh_tables::{Codes, Info, UnwindOperation};
@@ -28,86 +28,99 @@ pub fn below_frame(info: &Info, context: &Context) -> u64
     get(context, info.frame_register()).wrapping_sub(info.frame_offset() as u64)
 }
 
-/// One code undone.
-fn undone_one<S: ReadSpace>(
+/// Undoes one code; what is left where it is refused isn't said.
+fn undo_one<S: ReadSpace>(
     space: &S,
     base: u64,
     info: &Info,
-    undo: Undo,
+    undo: &mut Undo,
     operation: UnwindOperation,
-) -> Result<Undo, UnwindErr>
-    ensures { undone_answer result
-        ≡ spec.undone_one (S.memory space.now) base info.now (undo_of undo) operation }
+) -> Result<(), UnwindErr>
+    ensures done { IfOk result (λ u. spec.undone_one (S.memory space.now) base info.now
+        (undo_of undo.old) operation ≡ Ok (undo_of undo.new)) }
+    ensures refused { IfErr result (λ e. spec.undone_one (S.memory space.now) base info.now
+        (undo_of undo.old) operation ≡ Err e) }
 {
-    let mut after = undo;
     match operation {
         UnwindOperation::Push { register } => {
             let value = word(space, rsp(&undo.context))?;
-            after.context = rsp_raised(&with(&undo.context, register, value), 8);
-            Ok(after)
+            set(&mut undo.context, register, value);
+            raise_rsp(&mut undo.context, 8);
+            Ok(())
         }
         UnwindOperation::Allocate { size } => {
-            after.context = rsp_raised(&undo.context, size as u64);
-            Ok(after)
+            raise_rsp(&mut undo.context, size as u64);
+            Ok(())
         }
         UnwindOperation::SetFrame => {
-            after.context = with_rsp(&undo.context, below_frame(info, &undo.context));
-            Ok(after)
+            let below = below_frame(info, &undo.context);
+            set_rsp(&mut undo.context, below);
+            Ok(())
         }
         UnwindOperation::Save { register, offset } => {
             let value = word(space, base.wrapping_add(offset as u64))?;
-            after.context = with(&undo.context, register, value);
-            Ok(after)
+            set(&mut undo.context, register, value);
+            Ok(())
         }
-        UnwindOperation::SaveVector { .. } => Ok(undo),
+        UnwindOperation::SaveVector { .. } => Ok(()),
         UnwindOperation::MachineFrame { info } => {
             let at = rsp(&undo.context).wrapping_add(8 * info as u64);
-            after.context.rip = word(space, at)?;
-            after.context = with_rsp(&after.context, word(space, at.wrapping_add(24))?);
-            after.is_returned = true;
-            Ok(after)
+            let rip = word(space, at)?;
+            let stack = word(space, at.wrapping_add(24))?;
+            undo.context.rip = rip;
+            set_rsp(&mut undo.context, stack);
+            undo.is_returned = true;
+            Ok(())
         }
     }
 }
 
-/// Codes undone, the first one first.
+/// Undoes codes, the first one first.
 pub fn undone<S: ReadSpace>(
     space: &S,
     base: u64,
     info: &Info,
     codes: Codes,
-    start: Undo,
-) -> Result<Undo, UnwindErr>
-    ensures { undone_answer result ≡ spec.undone (S.memory space.now) base info.now
-        (spec.operations codes.entry) (undo_of start) }
+    undo: &mut Undo,
+) -> Result<(), UnwindErr>
+    ensures done { IfOk result (λ u. spec.undone (S.memory space.now) base info.now
+        (spec.operations codes.entry) (undo_of undo.old) ≡ Ok (undo_of undo.new)) }
+    ensures refused { IfErr result (λ e. spec.undone (S.memory space.now) base info.now
+        (spec.operations codes.entry) (undo_of undo.old) ≡ Err e) }
 {
-    let mut undo = start;
     for code in codes {
-        undo = undone_one(space, base, info, undo, code.operation)?;
+        if let Err(e) = undo_one(space, base, info, undo, code.operation) {
+            return Err(e);
+        }
     }
-    Ok(undo)
+    Ok(())
 }
 
-/// The codes undone of the instructions that have been run at a distance from the begin.
+/// Undoes the codes of the instructions that have been run at a distance from the begin.
 pub fn undone_by<S: ReadSpace>(
     space: &S,
     base: u64,
     info: &Info,
     distance: u64,
     codes: Codes,
-    start: Undo,
-) -> Result<Undo, UnwindErr>
-    ensures { undone_answer result ≡ spec.undone (S.memory space.now) base info.now
-        (spec.operations (cases.run_by distance codes.entry)) (undo_of start) }
+    undo: &mut Undo,
+) -> Result<(), UnwindErr>
+    ensures done { IfOk result (λ u. spec.undone (S.memory space.now) base info.now
+        (spec.operations (cases.run_by distance codes.entry)) (undo_of undo.old)
+        ≡ Ok (undo_of undo.new)) }
+    ensures refused { IfErr result (λ e. spec.undone (S.memory space.now) base info.now
+        (spec.operations (cases.run_by distance codes.entry)) (undo_of undo.old) ≡ Err e) }
 {
     let mut left = codes;
     while let Some(code) = left.next() {
         if code.offset as u64 <= distance {
-            let undo = undone_one(space, base, info, start, code.operation)?;
+            if let Err(e) = undo_one(space, base, info, undo, code.operation) {
+                return Err(e);
+            }
             return undone(space, base, info, left, undo);
         }
     }
-    Ok(start)
+    Ok(())
 }
 
 /// Whether the frame register is set by an instruction.
@@ -145,20 +158,24 @@ pub fn sets_frame_by(distance: u64, codes: Codes) -> bool
     false
 }
 
-/// The parents' codes whole, from the same base.
+/// Undoes the parents' codes whole, from the same base.
 pub fn all_undone<S: ReadSpace>(
     space: &S,
     base: u64,
     parents: &[Info],
-    start: Undo,
-) -> Result<Undo, UnwindErr>
-    ensures { undone_answer result
-        ≡ spec.all_undone (S.memory space.now) base parents.now (undo_of start) }
+    undo: &mut Undo,
+) -> Result<(), UnwindErr>
+    ensures done { IfOk result (λ u. spec.all_undone (S.memory space.now) base parents.now
+        (undo_of undo.old) ≡ Ok (undo_of undo.new)) }
+    ensures refused { IfErr result (λ e. spec.all_undone (S.memory space.now) base parents.now
+        (undo_of undo.old) ≡ Err e) }
 {
     match parents {
-        [] => Ok(start),
+        [] => Ok(()),
         [first, rest @ ..] => {
-            let undo = undone(space, base, first, first.codes(), start)?;
+            if let Err(e) = undone(space, base, first, first.codes(), undo) {
+                return Err(e);
+            }
             all_undone(space, base, rest, undo)
         }
     }

@@ -50,13 +50,13 @@ fn unwound<S: ReadSpace>(
     ensures { result ≡ spec.unwound (S.memory space.now) base info.now parents.now
         (undone.operations info.now.codes) context.now }
 {
-    let start = Undo {
+    let mut undo = Undo {
         context: *context,
         is_returned: false,
     };
-    let own = undone(space, base, info, info.codes(), start)?;
-    let all = all_undone(space, base, parents, own)?;
-    returned(space, all)
+    undone(space, base, info, info.codes(), &mut undo)?;
+    all_undone(space, base, parents, &mut undo)?;
+    returned(space, undo)
 }
 
 fn unwound_by<S: ReadSpace>(
@@ -70,13 +70,13 @@ fn unwound_by<S: ReadSpace>(
     ensures { result ≡ spec.unwound (S.memory space.now) base info.now parents.now
         (undone.operations (spec.run_by distance info.now.codes)) context.now }
 {
-    let start = Undo {
+    let mut undo = Undo {
         context: *context,
         is_returned: false,
     };
-    let own = undone_by(space, base, info, distance, info.codes(), start)?;
-    let all = all_undone(space, base, parents, own)?;
-    returned(space, all)
+    undone_by(space, base, info, distance, info.codes(), &mut undo)?;
+    all_undone(space, base, parents, &mut undo)?;
+    returned(space, undo)
 }
 
 fn leaf<S: ReadSpace>(space: &S, context: &Context) -> Result<Caller, UnwindErr>

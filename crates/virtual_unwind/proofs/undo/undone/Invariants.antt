@@ -10,5 +10,5 @@ invariant-loop-code g l =
       can : (goal.iterator-loop-code g).can_next l.code-iterator;
       ends : (goal.iterator-loop-code g).is_finite l.code-iterator;
       rest : undone m l.base l.info (operations l.code-iterator) (undo_of l.undo)
-          ≡ undone m l.base l.info (operations l.fn.codes) (undo_of l.fn.start);
+          ≡ undone m l.base l.info (operations l.fn.codes) (undo_of l.initial.undo);
     }
