@@ -1,6 +1,8 @@
 -- What holds of an accepted program beside its shape: numbers name what is there, each operand has
 -- the size that its operator takes, jumps and the names of exceptions are where they mean
 -- something, filters and `__finally` blocks are numbered in their order.
+--
+-- The main definition: `is_sound`.
 use Rattle.std.specs.Prelude.{◌≡◌, ℕ, ◌+◌, ◌-◌, ◌^◌, Bool, true, false, ◌&&◌, ◌||◌, nat_lt, nat_le}
 use Rattle.std.specs.Prelude.{nat_eq, if◌then◌else◌, List, [], ◌∷◌, ◌++◌, length, slice_get, Option}
 use Rattle.std.specs.Prelude.{Some, None}
@@ -473,6 +475,11 @@ main_sound (Some f) =
     (are_sizes [] (some_sizes f.parameters) || are_sizes (Long ∷ []) (some_sizes f.parameters)) &&
     is_size Int f.returns
 
+-- numbers name what is there, each operand has the size that its operator takes, and constants and
+-- the amounts of increments are numbers of their size. Jumps and the names of exceptions are where
+-- they mean something. A function that is named as a vectored handler takes a code and flags, and
+-- gives an answer. Filters and `__finally` blocks are numbered from 1 in the order of their
+-- keywords.
 abbrev pub is_sound : Program → Bool
 is_sound p =
     functions_sound p.functions p.functions && main_sound

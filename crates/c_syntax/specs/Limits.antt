@@ -1,4 +1,10 @@
 -- What is counted of a program, and the limits of the counts.
+--
+-- `Limit`, `order`, `IsInForce`: the limits, nesting and the numbers of what can be counted
+-- (`Count`), in the order nesting, locals of a function, parameters, functions, bytes of globals,
+-- numbered filters and `finally` blocks (own). The first n of them are in force.
+--
+-- The main definitions: `Within`, `WithinFirst`.
 use Rattle.std.specs.Prelude.{◌≤◌, ℕ, zero, suc, ◌+◌, ◌*◌, ◌/◌, max, Bool, false, cond, nat_eq}
 use Rattle.std.specs.Prelude.{List, [], ◌∷◌, ◌++◌, length, Option, Some, None, codes, slice_range}
 use Rattle.std.specs.Str.{bytes_eq}
@@ -325,7 +331,7 @@ EachWithinFirst n (Globals base gs ∷ xs) = EachWithinFirst n xs
 EachWithinFirst n (Function returns name ps body ∷ xs) =
     FunctionWithinFirst n ps body × EachWithinFirst n xs
 
--- A program is within the first n limits.
+-- the bounds of the limits in force alone; `Within` is this with all of them
 pub record WithinFirst (n : ℕ) (text : List ℕ) (program : List ExternalDeclaration) : Type 0 where
   pub each : EachWithinFirst n program
   pub functions : IsInForce (Number counts.Functions) n → functions program ≤ MOST_FUNCTIONS
@@ -333,6 +339,8 @@ pub record WithinFirst (n : ℕ) (text : List ℕ) (program : List ExternalDecla
   pub numbered : IsInForce (Number counts.Funclets) n
       → length (funclets_in text program) ≤ MOST_FUNCLETS
 
--- A program is within all limits.
+-- the limits of nesting, parameters, locals, functions, numbered handlers and bytes of globals
+-- (own). `parse` answers a program exactly where one within them derives the tokens, unless memory
+-- runs out
 abbrev pub Within : List ℕ → List ExternalDeclaration → Type 0
 Within text program = WithinFirst every_limit text program

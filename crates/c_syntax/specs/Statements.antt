@@ -1,5 +1,8 @@
 -- The grammar of statements, one case for each production (C11, 6.8 and annex A.2.3; Microsoft C
 -- reference, "try-except statement", "try-finally statement").
+--
+-- `IsBlockItem`, `IsExternalDeclaration`, `IsProgram`: a case for each production (C11, annexes
+-- A.2.2 to A.2.4; Microsoft C reference, "try-except statement", "try-finally statement").
 use Rattle.std.specs.Prelude.{◌≡◌, ℕ, Bool, true, false, List, Option, Some, None, IsFalse}
 use Rattle.c_lex.specs.declared.keyword.Keyword.{Keyword}
 use Rattle.c_lex.specs.declared.keyword.Keyword.TheVariants as keywords

@@ -1,4 +1,6 @@
 -- Where routines are placed.
+--
+-- The main definition: `parts_at`.
 use Rattle.std.specs.Prelude.{ℕ, ◌+◌, List, [], ◌∷◌}
 use Rattle.x64_emit.specs.declared.body.CodeRange.{CodeRange}
 use Rattle.x64_emit.specs.Bodies.{part_ranges}

@@ -1,5 +1,7 @@
 -- The services that the image of a program imports. Those on vectored handlers and `walk` are
 -- imported only where a body of the program calls them.
+--
+-- The main definition: `services_of`.
 use Rattle.std.specs.Prelude.{◌≡◌, ℕ, ◌==◌, Bool, true, false, ◌||◌, nat_lt, List, [], ◌∷◌, ◌++◌, length}
 use Rattle.host_layout.specs.declared.imported.ImportedService.{ImportedService}
 use Rattle.host_layout.specs.declared.imported.ImportedService.TheVariants as imports
@@ -61,7 +63,9 @@ services_if adds removes walks =
     ++ (imports.CSpecificHandler ∷ imports.LocalUnwind ∷ imports.Protect ∷ imports.Put
     ∷ service_if walks imports.Walk)))
 
--- the services that a program imports
+-- the services that a program imports, in the order of their slots and thunks: five always, and
+-- `AddVectoredExceptionHandler`, `RemoveVectoredExceptionHandler` and `walk` each where a body
+-- calls it (`calls`, `calls_walk`)
 unfoldable pub services_of : LinearProgram → List ImportedService
 services_of p =
     services_if (calls imports.AddVectored p) (calls imports.RemoveVectored p)

@@ -1,5 +1,8 @@
 -- The text of a program: the thunks of its services, `__chkstk`, its routines, their cold parts,
 -- and the blocks of its functions for vectored handlers, where it has any.
+--
+-- The main definitions: `routine_code`, `text_bytes`, `front_size`, `bounds`, `cold_size`,
+-- `apart_code`.
 use Rattle.std.specs.Prelude.{ℕ, ◌+◌, ◌*◌, List, [], ◌∷◌, ◌++◌, length, map, take, Option, Some, None}
 use Rattle.seh_num.specs.declared.width.Width.TheVariants.{W32}
 use Rattle.x64_instr.specs.declared.register.Reg.TheVariants.{Rax, Rcx}
@@ -163,6 +166,8 @@ abbrev pub code_at : ℕ → Links → ℕ → RoutineView → List Instr
 code_at check links at r =
     entry_code at check r ++ code_from links r.layout (at + entry_size r) (hot_code r.body)
 
+-- the code of a routine at an address: its prologue, what it does with its arguments or keeps of
+-- RCX and RDX, and its body
 abbrev pub routine_code : SiteView → (at cold : ℕ) → RoutineView → List Instr
 routine_code s at cold r =
     code_at (check_stack_at s.imports s.text) (links_of (addresses s at cold r)) at r

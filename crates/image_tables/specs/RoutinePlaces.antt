@@ -1,6 +1,8 @@
 -- The routines of a program where they are: its functions, and then its funclets, by their
 -- numbers; behind all of them their cold parts; and then the blocks of functions for vectored
 -- handlers, where there are any.
+--
+-- The main definition: `placed`.
 use Rattle.std.specs.Prelude.{ℕ, ◌+◌, ◌*◌, List, [], ◌∷◌, length}
 use Rattle.host_layout.specs.declared.imported.ImportedService.{ImportedService}
 use Rattle.linear_code.specs.declared.instruction.Instruction.{Instruction}
@@ -131,5 +133,6 @@ first_cursor p = record {
   chained = chained_begin p;
 }
 
+-- the routines of a linked program, functions and then funclets, with where each begins
 abbrev pub placed : LinearProgram → List Placed
 placed p = placed_from (site_of p) (first_cursor p) (routines p)

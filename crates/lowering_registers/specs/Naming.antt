@@ -1,4 +1,8 @@
 -- A part of a checked program names a local.
+--
+-- `statements_name`, `statements_share`: statements name a local; a filter or a `__finally` block
+-- in them names it. A declaration names what it declares, and the base of what stands on the data
+-- stack.
 use Rattle.std.specs.Prelude.{ℕ, Bool, false, ◌||◌, nat_eq, List, [], ◌∷◌, Option, Some, None}
 use Rattle.c_checked.specs.declared.statement.StackedVariable.{StackedVariable}
 use Rattle.c_checked.specs.Expression as nodes

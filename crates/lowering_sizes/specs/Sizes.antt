@@ -1,4 +1,7 @@
 -- How many instructions a part of a program is lowered to.
+--
+-- `expression_size`, `statement_size`: how many instructions a part is lowered to; no size depends
+-- on what is around the part.
 use Rattle.std.specs.Prelude.{ℕ, ◌+◌, max, List, [], ◌∷◌, Option, None, Some}
 use Rattle.c_operations.specs.declared.operation.Pure.{Pure}
 use Rattle.c_operations.specs.declared.operation.Pure.TheVariants.{First}

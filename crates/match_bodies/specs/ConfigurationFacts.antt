@@ -1,4 +1,7 @@
 -- What is known of a program of linear code, and of a configuration that it comes to.
+--
+-- `IsKnown`, `KnownNext`: what is known of a configuration (crate
+-- `lowering_invariants` has each part), and that it is known of the next one too.
 use Rattle.std.specs.Prelude.{◌≡◌, ℕ, ◌<◌, ◌≤◌, true, false, List, slice_get, Some}
 use Rattle.std.specs.List.{AllByRecursion}
 use Rattle.linear_code.specs.declared.instruction.Instruction.{Instruction}

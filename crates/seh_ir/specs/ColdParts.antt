@@ -1,6 +1,12 @@
 -- The cold parts of a function: `else` branches that stand apart from it in the image (own). One is
 -- cold where it holds a call and no `__try`, and stands in no `__try` statement and in no other
 -- cold part.
+--
+-- `is_cold`, `statement_cold`: an `else` branch is a cold part where it holds a call and no
+-- `__try`, and stands in no `__try` statement and no other cold part (own). The second has the
+-- labels of a part's cold parts. `HasColdParts` of a body: they rise and are apart, and inside the
+-- code. Nothing falls into one or out of it, each holds a call, no region holds an instruction of
+-- one, and no local unwind leads there. A function has an instruction before its first one.
 use Rattle.std.specs.Prelude.{ℕ, ◌+◌, Bool, true, false, not, ◌&&◌, ◌||◌, if◌then◌else◌, List, [], ◌∷◌, ◌++◌, Option, Some, None}
 use Rattle.c_checked.specs.declared.statement.StackedVariable.{StackedVariable}
 use Rattle.c_checked.specs.Expression as nodes

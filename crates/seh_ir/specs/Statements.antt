@@ -1,4 +1,6 @@
 -- The code of statements. No temporary is used across them.
+--
+-- The main definitions: `reset_code`, `put_code`, `clear_code`.
 use Rattle.std.specs.Prelude.{ℕ, ◌+◌, ◌-◌, ◌*◌, List, [], ◌∷◌, ◌++◌, Option, None, Some}
 use Rattle.seh_num.specs.Widths.{bytes_of}
 use Rattle.c_operations.specs.declared.operation.Operation.TheVariants.{Pure, SetPointer, Place, Clear}
