@@ -3,8 +3,9 @@
 -- through which the host calls the function as a handler, and has a stub for each such service that
 -- the program imports, through which its code calls the service on the function.
 --
--- `Blocks`, `blocks_at`: a program that imports one of these services has a block for each function
--- behind all cold parts. That is its name thunk, and a stub for each of the two that is imported.
+-- `HandlerBlocks`, `blocks_at`: a program that imports one of these services has a block for each
+-- function behind all cold parts. That is its name thunk, and a stub for each of the two that is
+-- imported.
 use Rattle.std.specs.Prelude.{ℕ, ◌+◌, ◌*◌, Bool, true, false, ◌||◌, if◌then◌else◌, List, [], ◌∷◌, ◌++◌}
 use Rattle.x64_instr.specs.declared.instruction.Instr.{Instr}
 use Rattle.host_layout.specs.declared.imported.ImportedService.{ImportedService}
