@@ -131,8 +131,8 @@ abbrev mutual
   statement_within seen Leave = true
   statement_within seen (TryExcept body filter block) =
       statements_within seen body && filter_within seen filter && statements_within seen block
-  statement_within seen (TryFinally body k last) =
-      statements_within seen body && statements_within seen last
+  statement_within seen (TryFinally body k finally_block) =
+      statements_within seen body && statements_within seen finally_block
 
   pub statements_within : SeenNames → Statements → Bool
   statements_within seen Empty = true

@@ -380,7 +380,7 @@ abbrev mutual
       statements_sound (record i { body = true }) body && filter_sound i.scope filter &&
       statements_sound (record i { scope = record i.scope { code = true } }) block
   -- no jump out of a `__finally` block
-  statement_sound i (TryFinally body k last) =
+  statement_sound i (TryFinally body k finally_block) =
       statements_sound (record i { body = true }) body
       && statements_sound (record {
         scope = record i.scope { abnormal = true };
@@ -388,7 +388,7 @@ abbrev mutual
         loop = false;
         body = false;
         function = false;
-      }) last
+      }) finally_block
 
   pub statements_sound : Inside → Statements → Bool
   statements_sound i Empty = true
@@ -415,7 +415,7 @@ abbrev mutual
   funclets_in Leave = []
   funclets_in (TryExcept body filter block) =
       funclets body ++ filter_funclet filter ++ funclets block
-  funclets_in (TryFinally body k last) = funclets body ++ k ∷ funclets last
+  funclets_in (TryFinally body k finally_block) = funclets body ++ k ∷ funclets finally_block
 
   pub funclets : Statements → List ℕ
   funclets Empty = []

@@ -69,8 +69,8 @@ abbrev mutual
   nodes_of_statement (Leave at) = 1
   nodes_of_statement (TryExcept body at f handler) =
       1 + (nodes_of_statements body + (nodes f + nodes_of_statements handler))
-  nodes_of_statement (TryFinally body at last) =
-      1 + (nodes_of_statements body + nodes_of_statements last)
+  nodes_of_statement (TryFinally body at finally_block) =
+      1 + (nodes_of_statements body + nodes_of_statements finally_block)
 
   pub nodes_of_statements : Statements → ℕ
   nodes_of_statements Empty = 0

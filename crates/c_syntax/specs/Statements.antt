@@ -227,8 +227,9 @@ abbrev mutual
   IsBlockItem text (TryExcept body at f handler) =
       IsTryExcept at (IsBlock (AreBlockItems text body)) (IsCondition text f)
       (IsBlock (AreBlockItems text handler))
-  IsBlockItem text (TryFinally body at last) =
-      IsTryFinally at (IsBlock (AreBlockItems text body)) (IsBlock (AreBlockItems text last))
+  IsBlockItem text (TryFinally body at finally_block) =
+      IsTryFinally at (IsBlock (AreBlockItems text body))
+      (IsBlock (AreBlockItems text finally_block))
 
   -- the items of a block, and the brace that ends it
   pub AreBlockItems : List ℕ → Statements → Phrase

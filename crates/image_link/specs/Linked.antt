@@ -83,9 +83,9 @@ names_of imports globals rs named =
 
 -- ---- the image, which begins at the routine of this index, and has the names of these functions
 
-abbrev pub image_of : List ImportedService → List ℕ → List RoutineView → ℕ → ℕ
+abbrev pub image_of_routines : List ImportedService → List ℕ → List RoutineView → ℕ → ℕ
     → List LinearFunction → ImageContents
-image_of imports globals rs functions main named =
+image_of_routines imports globals rs functions main named =
     let s = site imports globals rs functions in record {
       imports = imports;
       data_size = data_size globals;
@@ -106,5 +106,5 @@ image_of imports globals rs functions main named =
 -- The bytes of the image are `written` of it (crate `pe_write`).
 abbrev pub linked : LinearProgram → ImageContents
 linked p =
-    image_of (services_of p) p.globals (routines p) (length p.functions) p.main
+    image_of_routines (services_of p) p.globals (routines p) (length p.functions) p.main
     (named_functions p)

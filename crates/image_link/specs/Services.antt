@@ -16,16 +16,16 @@ use Rattle.pe_write.specs.ImportTables.{place_of}
 -- ---- which services a program calls
 
 -- the service that a built-in function is
-abbrev pub service_of : BuiltIn → ImportedService
-service_of Put = imports.Put
-service_of Protect = imports.Protect
-service_of RaiseException = imports.RaiseException
-service_of Walk = imports.Walk
-service_of (AddVectored f) = imports.AddVectored
-service_of (RemoveVectored f) = imports.RemoveVectored
+abbrev pub imported_service_of : BuiltIn → ImportedService
+imported_service_of Put = imports.Put
+imported_service_of Protect = imports.Protect
+imported_service_of RaiseException = imports.RaiseException
+imported_service_of Walk = imports.Walk
+imported_service_of (AddVectored f) = imports.AddVectored
+imported_service_of (RemoveVectored f) = imports.RemoveVectored
 
 abbrev pub is_call : ImportedService → Instruction → Bool
-is_call s (instructions.CallBuiltIn k first) = number_of (service_of k) == number_of s
+is_call s (instructions.CallBuiltIn k first) = number_of (imported_service_of k) == number_of s
 is_call s i = false
 
 abbrev pub has_call : ImportedService → List Instruction → Bool

@@ -11,7 +11,7 @@ use Rattle.linear_code.specs.Program.{LinearProgram}
 use Rattle.template_code.specs.declared.layout.Layout.{Layout}
 use Rattle.template_code.specs.Template.{body_size}
 use Rattle.template_code.specs.ColdParts.{part_code}
-use Rattle.image_link.specs.declared.handlers.Blocks.{Blocks}
+use Rattle.image_link.specs.declared.handlers.HandlerBlocks.{HandlerBlocks}
 use Rattle.image_link.specs.Handlers.{name_at}
 use Rattle.image_link.specs.Routines.{RoutineView, routines}
 use Rattle.image_link.specs.Text.{SiteView, routine_size, cold_size, entry_size, thunk_at, check_stack_at}
@@ -108,7 +108,7 @@ abbrev pub cold_begin : LinearProgram → ℕ
 cold_begin p = first_cold (services_of p) p.globals (routines p)
 
 -- after the cold parts: the blocks of functions for vectored handlers, and that of a function
-abbrev pub blocks_of : LinearProgram → Blocks
+abbrev pub blocks_of : LinearProgram → HandlerBlocks
 blocks_of p = (site_of p).blocks
 
 abbrev pub block_begin : LinearProgram → ℕ → ℕ

@@ -90,7 +90,8 @@ abbrev mutual
   statement_names x Leave = false
   statement_names x (TryExcept body filter block) =
       statements_name x body || (filter_names x filter || statements_name x block)
-  statement_names x (TryFinally body k last) = statements_name x body || statements_name x last
+  statement_names x (TryFinally body k finally_block) =
+      statements_name x body || statements_name x finally_block
 
   pub statements_name : ℕ → Statements → Bool
   statements_name x Empty = false

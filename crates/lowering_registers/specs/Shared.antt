@@ -34,8 +34,8 @@ abbrev mutual
   statement_shares x Leave = false
   statement_shares x (TryExcept body filter block) =
       statements_share x body || (filter_names x filter || statements_share x block)
-  statement_shares x (TryFinally body k last) =
-      statements_share x body || statements_name x last
+  statement_shares x (TryFinally body k finally_block) =
+      statements_share x body || statements_name x finally_block
 
   pub statements_share : ℕ → Statements → Bool
   statements_share x Empty = false

@@ -27,7 +27,8 @@ abbrev mutual
   with_parts (TryExcept body filter block) rest =
       (with_all_parts body (with_all_parts block rest) ++ statements_size body ∷ [])
       ++ statements_size block ∷ []
-  with_parts (TryFinally body k last) rest = with_all_parts body rest ++ statements_size body ∷ []
+  with_parts (TryFinally body k finally_block) rest =
+      with_all_parts body rest ++ statements_size body ∷ []
 
   pub with_all_parts : Statements → List ℕ → List ℕ
   with_all_parts Empty rest = rest

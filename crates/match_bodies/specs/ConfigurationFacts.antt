@@ -32,14 +32,14 @@ module _ (program : LinearProgram) where
 
   -- a function that may be listed as a vectored handler takes a code and flags, begins with more
   -- separators than its frame weighs, and the program adds it
-  pub record IsAskable (f : ℕ) : Type 0 where
+  pub record IsListable (f : ℕ) : Type 0 where
     pub callee : IsCallee program f 2
     pub fits : callee.function.parameters ≤ callee.function.body.locals
     pub weighs : weight callee.function < separators_in (body_of program (FunctionBody f)) 0
     pub adds : CallsBuiltIn program (AddVectored f)
 
-  abbrev pub AreAskable : List ℕ → Type 0
-  AreAskable fs = AllByRecursion IsAskable fs
+  abbrev pub AreListable : List ℕ → Type 0
+  AreListable fs = AllByRecursion IsListable fs
 
   -- of the program
   pub record IsWellMade (p : ImagePlan) : Type 0 where

@@ -69,13 +69,13 @@ use Rattle.match_bodies.specs.BodyViews.{IsReached}
 use Rattle.match_bodies.specs.Callers.{FindsReturn, FindsOwed, frame_info, owed_after, owed_of, owed_opening, owed_pops}
 
 -- the service of a built-in function
-abbrev pub service_of : BuiltIn → Service
-service_of Put = services.Put
-service_of Protect = services.Protect
-service_of RaiseException = services.RaiseException
-service_of Walk = services.Walk
-service_of (AddVectored f) = services.AddVectored
-service_of (RemoveVectored f) = services.RemoveVectored
+abbrev pub host_service_of : BuiltIn → Service
+host_service_of Put = services.Put
+host_service_of Protect = services.Protect
+host_service_of RaiseException = services.RaiseException
+host_service_of Walk = services.Walk
+host_service_of (AddVectored f) = services.AddVectored
+host_service_of (RemoveVectored f) = services.RemoveVectored
 
 -- a call goes through a thunk alone, but for those that name a function: their stub puts the
 -- function's name thunk into a register first, 7 bytes before the thunk
@@ -191,7 +191,7 @@ module _ (t : Functions) (fs : List Funclet) (program : LinearProgram) (p : Imag
   pub record HasBuiltIn (m : Memory) (f : BuiltIn) : Type 0 where
     pub stub : HasCode m (q.thunk f) (stub_code p f (q.thunk f))
     pub names : StubNames f
-    pub service : HasService m (q.thunk f + sizes (stub_code p f (q.thunk f))) (service_of f)
+    pub service : HasService m (q.thunk f + sizes (stub_code p f (q.thunk f))) (host_service_of f)
     pub inside : IsInImage (q.thunk f) (q.thunk f + sizes (stub_code p f (q.thunk f)))
 
   -- a function's name thunk, through which the host calls it as a vectored handler; a program that

@@ -84,7 +84,7 @@ abbrev mutual
   statement_calls Leave = false
   -- a `__try` statement isn't asked, since no cold part holds one
   statement_calls (TryExcept body filter block) = false
-  statement_calls (TryFinally body k last) = false
+  statement_calls (TryFinally body k finally_block) = false
 
   pub statements_call : Statements → Bool
   statements_call Empty = false
@@ -100,7 +100,7 @@ abbrev mutual
   statement_tries (For ds first c next s) = statement_tries s
   statement_tries (DoWhile s c) = statement_tries s
   statement_tries (TryExcept body filter block) = true
-  statement_tries (TryFinally body k last) = true
+  statement_tries (TryFinally body k finally_block) = true
   statement_tries (Declare d) = false
   statement_tries (Evaluate e) = false
   statement_tries (Return e) = false
@@ -139,7 +139,7 @@ abbrev mutual
   statement_cold Continue at = []
   statement_cold Leave at = []
   statement_cold (TryExcept body filter block) at = []
-  statement_cold (TryFinally body k last) at = []
+  statement_cold (TryFinally body k finally_block) at = []
 
   pub statements_cold : Statements → ℕ → List LabelRange
   statements_cold Empty at = []

@@ -181,7 +181,7 @@ abbrev mutual
       statements_code (in_try end scope) body at
       ++ (landed scope.names.part end scope.names.free
       ++ statements_code (in_except scope) block (target + 2))
-  statement_code scope (TryFinally body k last) at =
+  statement_code scope (TryFinally body k finally_block) at =
       statements_code (in_guarded (at + statements_size body) scope) body at
       ++ Separator ∷ CallFinally (k - 1) ∷ Separator ∷ []
 
