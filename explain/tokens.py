@@ -50,6 +50,20 @@ def joined(tokens):
     return "".join(map(str, tokens))
 
 
+def located(tokens, offset):
+    """The index of the token at a byte of the joined text, and the byte of the preprocessed text
+    that it comes from."""
+    end = 0
+    for i, token in enumerate(tokens):
+        end += len(token.before)
+        if offset < end:
+            return i, max(token.origin - (end - offset), 0)
+        end += len(token.text)
+        if offset < end:
+            return i, token.origin
+    return len(tokens) - 1, tokens[-1].origin
+
+
 def words(text, like, before=None):
     """The tokens of a text that a rule writes in the place of the token `like`."""
     made = scan(text)[:-1]

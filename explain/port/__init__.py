@@ -39,3 +39,19 @@ def ported(source):
     for rule in ALL:
         made = rule(made)
     return made
+
+
+def marked(made, found):
+    """Puts a comment in front of each line with something that a person has to change; answers how
+    many lines there are."""
+    notes = {}
+    for one in found:
+        at = one.index
+        while at > 0 and "\n" not in made[at].before:
+            at -= 1
+        notes.setdefault(at, {})[one.row.write] = None
+    for at, texts in notes.items():
+        front, line, column = made[at].before.rpartition("\n")
+        comment = f"/* by hand: {'; '.join(texts)} */".replace("`", "")
+        made[at].before = f"{front}{line}{column}{comment}\n{column}"
+    return len(notes)
