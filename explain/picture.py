@@ -77,6 +77,12 @@ class Drawing:
         index = event.index + event.line.startswith("except")
         return self.x(order), self.y(self.line(index)) + LINE / 2
 
+    def unplaced(self):
+        """A word on the marks below the source."""
+        if any(event.index is None for event in self.events):
+            y = self.y(len(self.rows)) + 14
+            yield text(LEFT, y, "(the trace doesn't tell where)", "fill='#999999'")
+
     def lanes(self):
         """A thin line from the source's line to each mark, and the way from mark to mark."""
         for order, event in enumerate(self.events):
@@ -120,7 +126,7 @@ class Drawing:
         size = f"width='{self.width:g}' height='{self.height:g}'"
         yield f"<svg xmlns='http://www.w3.org/2000/svg' {size} {FONT}>"
         yield box(0, 0, self.width, self.height, "fill='white'")
-        for part in (self.boxes, self.texts, self.lanes, self.marks, self.legend):
+        for part in (self.boxes, self.texts, self.unplaced, self.lanes, self.marks, self.legend):
             yield from part()
         yield "</svg>"
 
