@@ -5,10 +5,10 @@ from dataclasses import dataclass
 # one token after white space and comments; a byte that begins none is a token of its own
 SPACE = re.compile(r"(?:[ \t\r\n\v\f]+|//[^\n]*|/\*.*?\*/)*", re.S)
 TOKEN = re.compile(
-    r"""(?P<name>[A-Za-z_$][A-Za-z_0-9$]*)
-      | (?P<number>\.?[0-9](?:[eEpP][+-]|[A-Za-z_0-9.])*)
-      | (?P<string>(?:u8|[LuU])?"(?:\\.|[^"\\\n])*")
+    r"""(?P<string>(?:u8|[LuU])?"(?:\\.|[^"\\\n])*")
       | (?P<char>[LuU]?'(?:\\.|[^'\\\n])+')
+      | (?P<name>[A-Za-z_$][A-Za-z_0-9$]*)
+      | (?P<number>\.?[0-9](?:[eEpP][+-]|[A-Za-z_0-9.])*)
       | (?P<sign>\.\.\.|<<=|>>=|->|\+\+|--|<<|>>|<=|>=|==|!=|&&|\|\||[-+*/%&|^]=|\#\#|.)""",
     re.X | re.S,
 )
