@@ -33,8 +33,6 @@ def explain(path, words):
     source = Source(path)
     made = port.simple(source)
     answer = compiler.ask(joined(made), words or ["compile"])
-    for line in answer.errors:
-        print(line, file=sys.stderr)
     if answer.refusal is None and not source.notes:
         if words:
             write(answer.output)
@@ -87,8 +85,6 @@ def traced(path, words):
     if words[:1] == ["--trace-of"] and len(words) == 2:
         return source, made, read_bytes(words[1]).split("\n")[:-1], 0
     answer = compiler.ask(joined(made), ["run", "--trace", *words])
-    for line in answer.errors:
-        print(line, file=sys.stderr)
     if answer.refusal:
         print("\n".join(report.of_refusal(source, answer.refusal, made)))
         return source, made, None, answer.status

@@ -2,6 +2,8 @@
 import os
 import re
 import subprocess
+import sys
+import tempfile
 from dataclasses import dataclass
 
 from .source import TOP, Failure, read_bytes
@@ -20,12 +22,11 @@ class Refusal:
 
 @dataclass
 class Answer:
-    """What a command did: its status, standard output, refusal and other lines of errors."""
+    """What a command did: its status, its standard output, and its refusal."""
 
     status: int
     output: bytes
     refusal: object
-    errors: list
 
 
 def launcher():
@@ -33,19 +34,27 @@ def launcher():
 
 
 def ask(text, words):
-    """Runs a command of seh with a text as its standard input."""
-    try:
-        done = subprocess.run([launcher(), *words], input=text.encode("latin-1"), capture_output=True)
-    except OSError as error:
-        raise Failure(f"{launcher()} doesn't run: {error.strerror}", 70) from None
-    refusal, errors = None, []
-    for line in done.stderr.decode("utf8", "replace").split("\n")[:-1]:
-        match = re.match(r"refused (\w+) (\d+)(?: (\w+))?$", line)
-        if match:
-            refusal = Refusal(match[1], int(match[2]), match[3] or "")
-        else:
-            errors.append(line)
-    return Answer(done.returncode, done.stdout, refusal, errors)
+    """Runs a command of seh with a text as its standard input. Lines of standard error that are no
+    refusal are passed on at once, since the launcher may build the program first."""
+    refusal = None
+    with tempfile.TemporaryFile() as given, tempfile.TemporaryFile() as output:
+        given.write(text.encode("latin-1"))
+        given.seek(0)
+        try:
+            child = subprocess.Popen([launcher(), *words], stdin=given, stdout=output,
+                                     stderr=subprocess.PIPE)  # fmt: skip
+        except OSError as error:
+            raise Failure(f"{launcher()} doesn't run: {error.strerror}", 70) from None
+        for line in child.stderr:
+            match = re.match(rb"refused (\w+) (\d+)(?: (\w+))?\n", line)
+            if match:
+                refusal = Refusal(match[1].decode(), int(match[2]), (match[3] or b"").decode())
+            else:
+                sys.stderr.buffer.write(line)
+                sys.stderr.flush()
+        status = child.wait()
+        output.seek(0)
+        return Answer(status, output.read(), refusal)
 
 
 def table_rows(start):
