@@ -13,7 +13,6 @@ use Rattle.x64_lengths.specs.declared.spelled.Spelled.{Spelled}
 use Rattle.x64_lengths.specs.declared.effects.Effects.{Effects}
 use Rattle.x64_lengths.specs.Spelled.{is_legacy, made}
 use Rattle.x64_lengths.specs.Maps.{row_of}
-use Rattle.x64_lengths.specs.declared.measure.Measured.{Measured}
 use Rattle.x64_lengths.specs.Measures.{with_row, instruction, measured}
 
 -- each is in the set
