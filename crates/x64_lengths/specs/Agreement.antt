@@ -1,4 +1,6 @@
 -- That the table agrees with the listed instructions of crate x64_instr.
+--
+-- The main definitions: `RowsAgree`, `Agreement`, `LengthsAgree`.
 use Rattle.std.specs.Prelude.{◌≡◌, ℕ, ◌==◌, false, List, [], ◌∷◌, Some}
 use Rattle.x64_instr.specs.declared.prefixes.Prefixes.{Prefixes}
 use Rattle.x64_instr.specs.declared.instruction.Instr.{Instr}
