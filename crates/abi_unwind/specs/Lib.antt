@@ -2,4 +2,6 @@ pub mod Contexts
 pub mod Tail
 pub mod Undone
 pub mod Caller
+pub mod Views
+pub mod Ran
 pub mod Rows
