@@ -4,4 +4,5 @@ pub mod Undone
 pub mod Caller
 pub mod Views
 pub mod Ran
+pub mod Laws
 pub mod Rows
