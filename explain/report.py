@@ -38,7 +38,14 @@ def of_finding(source, row, places):
     write = f"write: {row.write}"
     if "--port" in row.by:
         write += " (`--port` does)"
-    return lines + [write]
+    return lines + [f"refused as: {', '.join(row.refused)}", write]
+
+
+def of_bracket(source, token):
+    """A bracket without a partner."""
+    place = source.place(token.origin)
+    what = f"this `{token.text}` has no partner"
+    return head(place, source.line_of(place), what) + ["write: the bracket that is missing, or too many"]
 
 
 def of_refusal(source, refusal, tokens):

@@ -188,13 +188,13 @@ def sized(tokens, i, close, known):
 
 def measured(operand, known):
     """The size of an element and the count of an array's, of a type or an expression."""
-    texts = [token.text for token in operand]
+    texts = [token.text for token in operand] or [""]
     base = [text for text in texts if text in TYPE_WORDS]
     if base and all(text in TYPE_WORDS or text == "*" for text in texts):
         return constants.size_of(base, texts.count("*")), None
     if len(operand) == 1 and operand[0].kind == "string":
         return 1, len(constants.characters(texts[0])) + 1
-    name = texts[1] if texts[0] == "*" else texts[0]
+    name = texts[1] if texts[0] == "*" and len(texts) > 1 else texts[0]
     kinds = known.get(name, set())
     is_element = texts == ["*", name] or (texts[1:2] == ["["] and texts[-1:] == ["]"])
     if len(kinds) != 1 or not (is_element or texts == [name]):

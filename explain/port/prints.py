@@ -85,7 +85,9 @@ def put_each(form, arguments, known):
     """The statement that puts each number of a format; None where one can't be put."""
     kinds = [(width, type_of(size, letter)) for width, size, letter in CONVERSION.findall(form)
              if letter != "%"]  # fmt: skip
-    if len(kinds) != len(arguments) or any(w == "*" or k is None for w, k in kinds):
+    if len(kinds) != len(arguments) or not all(arguments):
+        return None
+    if any(width == "*" or kind is None for width, kind in kinds):
         return None
     values = [value(a, k, known) for a, (_, k) in zip(arguments, kinds)]
     if any(has_effect(a) for a in arguments[1:]):
