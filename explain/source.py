@@ -115,7 +115,7 @@ class Source:
         window = "\n".join(lines[line - 1 : max(after[0] - 1 if after else line, line)])
         written, starts = lexer.scan(window), line_starts(window)
         places = []
-        for index in matching([t.text for t in made], [t.text for t in written]):
+        for index in matching(made, written):
             at = written[index].origin
             above = bisect.bisect_right(starts, at) - 1
             places.append(Place(path, line + above, at - starts[above]))
@@ -123,14 +123,24 @@ class Source:
 
 
 def matching(made, written):
-    """For each text of a made token the index of the written one that it comes from."""
-    last = len(written) - 1
-    if made == written or max(len(made), len(written)) > LONG_LINE:
-        return [min(index, last) for index in range(len(made))]
-    found = []
-    for _, first, end, start, stop in difflib.SequenceMatcher(None, made, written, False).get_opcodes():
-        same = end - first == stop - start
-        found += [min(start + (k if same else 0), last) for k in range(end - first)]
+    """For each made token the index of the written one that it comes from: the same one, or the
+    macro in whose place it stands."""
+    a, b = [token.text for token in made], [token.text for token in written]
+    last = len(b) - 1
+    if a == b or max(len(a), len(b)) > LONG_LINE:
+        return [min(index, last) for index in range(len(a))]
+    found, close = [], lexer.pairs(written)
+    changes = difflib.SequenceMatcher(None, a, b, False).get_opcodes()
+    kept = {k for kind, _, _, start, stop in changes if kind == "equal" for k in range(start, stop)}
+    macros = [(k, close[k + 1]) for k in range(last) if k not in kept
+              and written[k].kind == "name" and b[k + 1] == "("]  # fmt: skip
+    for _, first, end, start, stop in changes:
+        if end - first == stop - start:
+            found += range(start, stop)
+            continue
+        around = [k for k, closing in macros if k <= start <= closing]
+        around = around or [k for k, _ in macros if k <= start][-1:] or [min(start, last)]
+        found += around[:1] * (end - first)
     return found
 
 
