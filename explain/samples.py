@@ -62,6 +62,7 @@ SAMPLES = {
     "`VirtualAlloc`": "int main(void) { VirtualAlloc(0, 1, 2, 3); return 0; }\n",
     "critical sections": "int a;\nint main(void) { InterlockedIncrement(&a); return 0; }\n",
     "`exit(n)`": "int main(void) { exit(1); return 0; }\n",
+    "`...`, `va_list`": "int f(int n, ...) { return n; }\n" + MAIN,
     "`malloc`, `memcpy`": "int main(void) { malloc(4); return 0; }\n",
     "`return`, `break`": "int main(void) { __try { put(1); } __finally { return 1; } return 0; }\n",
     "`char *q = p;`": "int main(void) { int *p = 5; return 0; }\n",

@@ -13,6 +13,7 @@ ALONE.update({"%llu\n": "unsigned long long", "%I64u\n": "unsigned long long"})
 ALONE.update({"%zu\n": "unsigned long long", "%zd\n": "long long"})
 CONVERSION = re.compile(r"%[-+ #0]*(\d+|\*)?(?:\.(?:\d+|\*))?(hh|h|ll|l|I64|I32|z|t|j)?([a-zA-Z%])")
 WIDE = {"ll", "I64", "z", "t", "j"}
+PLAIN_SIGNS = set("+ - ! ~ | ^ ( ) ? : < > <= >= == != && || << >> &".split())
 TEXT_ALONE = {"puts", "_putts", "OutputDebugStringA"}
 
 
@@ -90,7 +91,7 @@ def put_each(form, arguments, known):
     if any(width == "*" or kind is None for width, kind in kinds):
         return None
     values = [value(a, k, known) for a, (_, k) in zip(arguments, kinds)]
-    if any(has_effect(a) for a in arguments[1:]):
+    if not all(map(is_plain, arguments[1:])):
         names = [f"printed_{k}" for k in range(len(values))]
         made = "".join(f"{k} {n} = {joined(a).strip()}; "
                        for n, a, (_, k) in zip(names, arguments, kinds))  # fmt: skip
@@ -98,10 +99,11 @@ def put_each(form, arguments, known):
     return ", ".join(f"put({text})" for text in values) + ";"
 
 
-def has_effect(part):
-    """Whether an argument calls or changes something, so that it has to come before all text."""
-    signs = {"(", "++", "--", "="}
-    return any(t.text in signs or re.fullmatch(r"[-+*/%&|^]=|<<=|>>=", t.text) for t in part[1:])
+def is_plain(part):
+    """Whether an argument neither calls nor changes anything, and can raise no exception: any other
+    is computed before the first number is put, as C computes all arguments before it prints."""
+    is_call = any(a.kind == "name" and b.text == "(" for a, b in zip(part, part[1:]))
+    return not is_call and all(t.kind != "sign" or t.text in PLAIN_SIGNS for t in part)
 
 
 def with_edits(tokens, edits):
