@@ -32,18 +32,22 @@ def explain(path, words):
     """Tells all that stands in the way; where nothing does, what the command writes."""
     source = Source(path)
     made = port.simple(source)
+    if source.notes:
+        print("\n\n".join("\n".join(report.of_note(source, note)) for note in source.notes))
+        return 2
     answer = compiler.ask(joined(made), words or ["compile"])
-    if answer.refusal is None and not source.notes:
+    if answer.refusal is None:
         if words:
             write(answer.output)
         elif answer.status == 0:
-            print(f"{path}: accepted" + " (`seh-explain FILE.c run` runs it)" * source.is_preprocessed)
+            how = " (`seh-explain FILE.c run` runs it)" * source.is_preprocessed
+            print(f"{path}: accepted{how}")
         return answer.status
-    parts = [report.of_note(source, note) for note in source.notes]
     alone = unpaired(made)
     found = table.findings(made) if alone is None else []
-    parts += [report.of_bracket(source, made[alone])] if alone is not None else []
-    parts += [report.of_finding(source, ones[0].row, places) for ones, places in by_rows(source, found)]
+    parts = [report.of_bracket(source, made[alone])] if alone is not None else []
+    for ones, places in by_rows(source, found):
+        parts.append(report.of_finding(source, ones[0].row, places))
     if answer.refusal:
         parts.append(refusal_part(source, answer.refusal, made, found))
     print("\n\n".join("\n".join(part) for part in parts if part))

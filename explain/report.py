@@ -45,7 +45,8 @@ def of_bracket(source, token):
     """A bracket without a partner."""
     place = source.place(token.origin)
     what = f"this `{token.text}` has no partner"
-    return head(place, source.line_of(place), what) + ["write: the bracket that is missing, or too many"]
+    lines = head(place, source.line_of(place), what)
+    return lines + ["write: the bracket that is missing, or leave out the one too many"]
 
 
 def of_refusal(source, refusal, tokens):

@@ -253,11 +253,13 @@ def other_typedef(look, i):
 def structure_word(look, i):
     if look.text(i) in ("struct", "union"):
         return look.text(i + 1) not in set(POINTERS) | set(RECORDS)
-    return look.text(i) == "." and look.kind(i - 1) in ("name", "sign") and look.kind(i + 1) == "name"
+    is_sign = look.text(i) == "." and look.kind(i + 1) == "name"
+    return is_sign and look.kind(i - 1) in ("name", "sign")
 
 
 def function_pointer(look, i):
-    if look.text(i) == "(" and look.text(i + 1) == "*" and look.text(look.pairs.get(i, i) + 1) == "(":
+    is_star = look.text(i) == "(" and look.text(i + 1) == "*"
+    if is_star and look.text(look.pairs.get(i, i) + 1) == "(":
         before = look.text(i - 1)
         return before in TYPE_WORDS | {"*"} or look.kind(i - 1) == "name" and before not in (
             "if", "while", "return", "for")  # fmt: skip
@@ -366,8 +368,8 @@ LOCKS = """CRITICAL_SECTION LPCRITICAL_SECTION InterlockedIncrement InterlockedD
     TryEnterCriticalSection InterlockedExchange InterlockedCompareExchange InterlockedAdd
     InterlockedExchangeAdd"""
 # names before a bracket that are the language's, or that other rows are about
-KNOWN = set(f"""if while for switch return sizeof do else __except _except __finally __try __leave put
-    protect walk RaiseException GetExceptionCode GetExceptionInformation AbnormalTermination {ADD}
+KNOWN = set(f"""if while for switch return sizeof do else __except _except __finally __try __leave
+    put protect walk RaiseException GetExceptionCode GetExceptionInformation AbnormalTermination {ADD}
     {REMOVE} AddVectoredContinueHandler SetUnhandledExceptionFilter printf printf_s puts exit
     ExitProcess _countof ARRAYSIZE va_arg va_start va_end {ALLOCATION} {LOCKS}""".split())
 KNOWN |= VALUES | TYPES | port.words.DROPPED | port.words.WITH_BRACKETS

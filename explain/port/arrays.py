@@ -67,7 +67,8 @@ def lengths(tokens):
             values = values_of(one)
             value = constant(one.length) if one.length else len(values or []) or None
             if value is not None and joined(one.length).strip() != str(value):
-                edits.append((opening + 1, structure.pairs[opening], words(str(value), one.name, "")))
+                length = words(str(value), one.name, "")
+                edits.append((opening + 1, structure.pairs[opening], length))
     return edited(tokens, edits)
 
 
@@ -108,9 +109,8 @@ def global_values(tokens):
 
 
 def is_literal(part):
-    texts = [t.text for t in part]
-    kinds = [t.kind for t in part]
-    return kinds in (["number"], ["char"]) or (texts[0] == "-" and kinds[1:] in (["number"], ["char"]))
+    unsigned = part[1:] if part[0].text == "-" else part
+    return [t.kind for t in unsigned] in (["number"], ["char"])
 
 
 def local_values(tokens):

@@ -182,7 +182,7 @@ def replaced(tokens, edits, dropped):
     comma."""
     made, at = [], 0
     for first, end, text in sorted(edits):
-        made += without(tokens[at:first] + tokens[first : first + 1], dropped_in(dropped, at, first))[:-1]
+        made += without(tokens[at : first + 1], dropped_in(dropped, at, first))[:-1]
         if not text and tokens[end].text == ",":
             end += 1
         elif not text and made[-1].text == ",":
