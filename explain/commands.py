@@ -68,8 +68,8 @@ def refusal_part(source, refusal, made, found):
 def summary(path, found):
     rows = {one.row.subject: one.row for one in found}.values()
     by_port = sum("hand" not in row.by for row in rows)
-    return (f"{len(rows)} kinds of things stand in the way: `seh-explain --port {path}` writes "
-            f"{by_port} of them, and marks the others")  # fmt: skip
+    return (f"kinds of things in the way: {len(rows)}, of which `seh-explain --port {path}` writes "
+            f"{by_port}, and marks the others")  # fmt: skip
 
 
 def write_port(path):

@@ -369,8 +369,8 @@ LOCKS = """CRITICAL_SECTION LPCRITICAL_SECTION InterlockedIncrement InterlockedD
     InterlockedExchangeAdd"""
 # names before a bracket that are the language's, or that other rows are about
 KNOWN = set(f"""if while for switch return sizeof do else __except _except __finally __try __leave
-    put protect walk RaiseException GetExceptionCode GetExceptionInformation AbnormalTermination {ADD}
-    {REMOVE} AddVectoredContinueHandler SetUnhandledExceptionFilter printf printf_s puts exit
+    put protect walk RaiseException GetExceptionCode GetExceptionInformation AbnormalTermination
+    {ADD} {REMOVE} AddVectoredContinueHandler SetUnhandledExceptionFilter printf printf_s puts exit
     ExitProcess _countof ARRAYSIZE va_arg va_start va_end {ALLOCATION} {LOCKS}""".split())
 KNOWN |= VALUES | TYPES | port.words.DROPPED | port.words.WITH_BRACKETS
 PATTERNS = {

@@ -98,8 +98,11 @@ def unpaired(tokens):
         if token.kind == "sign" and token.text in OPENING:
             opened.append(i)
         elif token.kind == "sign" and token.text in CLOSING:
-            if not opened or OPENING[tokens[opened.pop()].text] != token.text:
+            if not opened:
                 return i
+            if OPENING[tokens[opened[-1]].text] != token.text:
+                return opened[-1]
+            opened.pop()
     return opened[-1] if opened else None
 
 
