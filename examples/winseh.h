@@ -142,7 +142,9 @@
 #define EXIT_FAILURE 1
 #define MAX_PATH 260
 #define INVALID_HANDLE_VALUE ((void *)-1)
-#define UNREFERENCED_PARAMETER(p) (p)
+#define TEXT(text) text
+#define _T(text) text
+#define UNREFERENCED_PARAMETER(p)
 #define min(a, b) ((a) < (b) ? (a) : (b))
 #define max(a, b) ((a) > (b) ? (a) : (b))
 

@@ -64,7 +64,8 @@ def of_refusal(refusal, tokens, index):
     if refusal.name == "BadChar":
         return "a character constant is one character or escape in single quotes"
     if refusal.name == "NotLvalue":
-        return "`&` takes a variable's name, `*e` or `a[i]`; an array's name is its address without it"
+        return ("`&` takes a variable's name, `*e` or `a[i]`; an array's name is its address "
+                "without it")  # fmt: skip
     if refusal.name == "NoMain" or (refusal.name, site.token) == ("TypeClash", "main"):
         return "a program has `int main(void)`, `int main()` or `int main(long long n)`"
     if site.token in FUNCTIONS:
@@ -123,8 +124,8 @@ def at_record(site):
     """Where the names of an exception's record stand."""
     kinds = set(POINTERS) | set(RECORDS)
     if site.token in kinds or site.text(-1) in kinds or site.text(-2) in kinds:
-        return ("the language has no EXCEPTION_POINTERS: the function takes the fields that it reads, "
-                "as `unsigned code`, and the filter passes them")  # fmt: skip
+        return ("the language has no EXCEPTION_POINTERS: the function takes the fields that it "
+                "reads, as `unsigned code`, and the filter passes them")  # fmt: skip
     line = [site.text(step) for step in range(-6, 3)]
     if "GetExceptionInformation" in line or "ExceptionRecord" in line:
         return "its one form is `GetExceptionInformation()->ExceptionRecord->FIELD`"

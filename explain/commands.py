@@ -5,7 +5,7 @@ import sys
 
 from . import compiler, picture, port, report, table, trace
 from .source import Failure, Source, read_bytes
-from .tokens import joined, located
+from .tokens import joined, located, scan, unpaired
 
 USAGE = """usage: seh-explain FILE.c [COMMAND ..]
        seh-explain --port FILE.c
@@ -32,16 +32,22 @@ def explain(path, words):
     """Tells all that stands in the way; where nothing does, what the command writes."""
     source = Source(path)
     made = port.simple(source)
+    if source.notes:
+        print("\n\n".join("\n".join(report.of_note(source, note)) for note in source.notes))
+        return 2
     answer = compiler.ask(joined(made), words or ["compile"])
-    if answer.refusal is None and not source.notes:
+    if answer.refusal is None:
         if words:
             write(answer.output)
         elif answer.status == 0:
-            print(f"{path}: accepted" + " (`seh-explain FILE.c run` runs it)" * source.is_preprocessed)
+            how = " (`seh-explain FILE.c run` runs it)" * source.is_preprocessed
+            print(f"{path}: accepted{how}")
         return answer.status
-    parts = [report.of_note(source, note) for note in source.notes]
-    found = table.findings(made)
-    parts += [report.of_finding(source, ones[0].row, places) for ones, places in by_rows(source, found)]
+    alone = unpaired(made)
+    found = table.findings(made) if alone is None else []
+    parts = [report.of_bracket(source, made[alone])] if alone is not None else []
+    for ones, places in by_rows(source, found):
+        parts.append(report.of_finding(source, ones[0].row, places))
     if answer.refusal:
         parts.append(refusal_part(source, answer.refusal, made, found))
     print("\n\n".join("\n".join(part) for part in parts if part))
@@ -54,21 +60,25 @@ def refusal_part(source, refusal, made, found):
     """The compiler's own refusal, also where a row of the table stands at its place."""
     index, _ = located(made, refusal.offset)
     lines = report.of_refusal(source, refusal, made)
-    if any(abs(one.index - index) <= 1 for one in found):
-        return [f"The compiler's first refusal is of a place above: {refusal.name}"] + lines[:3]
+    if any(one.index - 1 <= index <= one.index + 3 for one in found):
+        return [f"The compiler's own refusal is of a place above: {lines[0]}"]
     return lines
 
 
 def summary(path, found):
     rows = {one.row.subject: one.row for one in found}.values()
     by_port = sum("hand" not in row.by for row in rows)
-    return (f"{len(rows)} kinds of things stand in the way: `seh-explain --port {path}` writes "
-            f"{by_port} of them, and marks the others")  # fmt: skip
+    return (f"kinds of things in the way: {len(rows)}, of which `seh-explain --port {path}` writes "
+            f"{by_port}, and marks the others")  # fmt: skip
 
 
 def write_port(path):
     """Writes the port, with a comment in front of each line that a person has to change."""
     source = Source(path, True)
+    made = scan(source.text)
+    if unpaired(made) is not None:
+        print("\n".join(report.of_bracket(source, made[unpaired(made)])), file=sys.stderr)
+        return 2
     made = port.ported(source)
     for note in source.notes:
         print("\n".join(report.of_note(source, note)), file=sys.stderr)
@@ -82,6 +92,9 @@ def traced(path, words):
     """The source and the lines of its trace: from a run, or from a file that has it."""
     source = Source(path)
     made = port.simple(source)
+    if unpaired(made) is not None:
+        print("\n".join(report.of_bracket(source, made[unpaired(made)])))
+        return source, made, None, 2
     if words[:1] == ["--trace-of"] and len(words) == 2:
         return source, made, read_bytes(words[1]).split("\n")[:-1], 0
     answer = compiler.ask(joined(made), ["run", "--trace", *words])

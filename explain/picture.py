@@ -74,7 +74,7 @@ class Drawing:
         if event.index is None:
             return self.x(order), self.y(len(self.rows)) + LINE / 2
         # a landing is in the block, below the filter's line
-        index = event.index + event.line.startswith("except")
+        index = min(event.index + event.line.startswith("except"), len(self.tokens) - 1)
         return self.x(order), self.y(self.line(index)) + LINE / 2
 
     def unplaced(self):

@@ -38,7 +38,15 @@ def of_finding(source, row, places):
     write = f"write: {row.write}"
     if "--port" in row.by:
         write += " (`--port` does)"
-    return lines + [write]
+    return lines + [f"refused as: {', '.join(row.refused)}", write]
+
+
+def of_bracket(source, token):
+    """A bracket without a partner."""
+    place = source.place(token.origin)
+    what = f"this `{token.text}` has no partner"
+    lines = head(place, source.line_of(place), what)
+    return lines + ["write: the bracket that is missing, or leave out the one too many"]
 
 
 def of_refusal(source, refusal, tokens):

@@ -49,19 +49,24 @@ SAMPLES = {
     "`GetExceptionInformation()` kept": "void *p;\n" + TRY % "(p = GetExceptionInformation()) != 0",
     "`ExceptionAddress`, `ContextRecord`": TRY
     % "GetExceptionInformation()->ExceptionRecord->ExceptionAddress != 0",
-    "GetExceptionCode in a function": "int f(void) { return GetExceptionCode() == 5; }\n" + TRY % "f()",
+    "GetExceptionCode in a function": "int f(void) { return GetExceptionCode() == 5; }\n"
+    + TRY % "f()",
     "`RaiseException(code": "int main(void) { int a; RaiseException(1, 0, 1, &a); return 0; }\n",
     "a vectored handler of": "int h(EXCEPTION_POINTERS *e) { return 0; }\n"
     "int main(void) { AddVectoredExceptionHandler(1, h); return 0; }\n",
     "a vectored handler's handle": "int h(unsigned c, unsigned f) { return 0; }\nint main(void) "
-    "{ void *p = AddVectoredExceptionHandler(1, h); RemoveVectoredExceptionHandler(p); return 0; }\n",
+    "{ void *p = AddVectoredExceptionHandler(1, h); "
+    "RemoveVectoredExceptionHandler(p); return 0; }\n",
     "`&h` or a cast": "int h(unsigned c, unsigned f) { return 0; }\n"
     "int main(void) { AddVectoredExceptionHandler(1, &h); return 0; }\n",
-    "`AddVectoredContinueHandler`": "int main(void) { AddVectoredContinueHandler(1, 0); return 0; }\n",
-    "`SetUnhandledExceptionFilter`": "int main(void) { SetUnhandledExceptionFilter(0); return 0; }\n",
+    "`AddVectoredContinueHandler`":
+    "int main(void) { AddVectoredContinueHandler(1, 0); return 0; }\n",
+    "`SetUnhandledExceptionFilter`":
+    "int main(void) { SetUnhandledExceptionFilter(0); return 0; }\n",
     "`VirtualAlloc`": "int main(void) { VirtualAlloc(0, 1, 2, 3); return 0; }\n",
     "critical sections": "int a;\nint main(void) { InterlockedIncrement(&a); return 0; }\n",
     "`exit(n)`": "int main(void) { exit(1); return 0; }\n",
+    "`...`, `va_list`": "int f(int n, ...) { return n; }\n" + MAIN,
     "`malloc`, `memcpy`": "int main(void) { malloc(4); return 0; }\n",
     "`return`, `break`": "int main(void) { __try { put(1); } __finally { return 1; } return 0; }\n",
     "`char *q = p;`": "int main(void) { int *p = 5; return 0; }\n",
@@ -72,7 +77,8 @@ ADVICE = {
     "EXCEPTION_POINTERS": "int f(EXCEPTION_POINTERS *e) { return 1; }\n" + MAIN,
     "is followed by": "int main(void) { __try { put(1); } return 0; }\n",
     "one `__except` or one `__finally`":
-    "int main(void) { __try { put(1); } __except (1) { put(2); } __finally { put(3); } return 0; }\n",
+    "int main(void) { __try { put(1); } __except (1) { put(2); } "
+    "__finally { put(3); } return 0; }\n",
     "initialiser is one literal": "int a = 1 + 2;\n" + MAIN,
     "length is written": "int main(void) { int block[] = {1}; return 0; }\n",
     "the body of `__try` is a block": "int main(void) { __try put(1); return 0; }\n",

@@ -56,7 +56,7 @@ class Source:
         else:
             self.header = ""
         self.starts = line_starts(self.text)
-        self.files = {}
+        self.files, self.aligned_rows = {}, {}
 
     def without_marks(self, output):
         """The text without line marks and pragmas, the file and line of each of its lines, and the
@@ -101,28 +101,47 @@ class Source:
     def aligned(self, row, column, path, line):
         """The place in a source's line that a column of a preprocessed line comes from: that of
         the same token, or of the macro whose text it is."""
+        if row not in self.aligned_rows:
+            self.aligned_rows[row] = self.align(row, path, line)
+        ends, places = self.aligned_rows[row]
+        return places[min(bisect.bisect_right(ends, column), len(places) - 1)]
+
+    def align(self, row, path, line):
+        """For each token of a preprocessed line the column behind it, and its place."""
         end = self.starts[row + 1] - 1 if row + 1 < len(self.starts) else len(self.text)
         made = lexer.scan(self.text[self.starts[row] : end])
         lines = self.lines(path)
         after = [at for name, at in self.rows[row + 1 : row + 2] if name == path and at > line]
         window = "\n".join(lines[line - 1 : max(after[0] - 1 if after else line, line)])
-        written = lexer.scan(window)
-        index = next((i for i, t in enumerate(made) if t.origin + len(t.text) > column), len(made) - 1)
-        target = written[matching(made, written, index)]
-        before = window[: target.origin]
-        return Place(path, line + before.count("\n"), len(before) - (before.rfind("\n") + 1))
+        written, starts = lexer.scan(window), line_starts(window)
+        places = []
+        for index in matching(made, written):
+            at = written[index].origin
+            above = bisect.bisect_right(starts, at) - 1
+            places.append(Place(path, line + above, at - starts[above]))
+        return [token.origin + len(token.text) for token in made], places
 
 
-def matching(made, written, index):
-    """The index of the written token that a made one comes from."""
-    a, b = [t.text for t in made], [t.text for t in written]
+def matching(made, written):
+    """For each made token the index of the written one that it comes from: the same one, or the
+    macro in whose place it stands."""
+    a, b = [token.text for token in made], [token.text for token in written]
+    last = len(b) - 1
     if a == b or max(len(a), len(b)) > LONG_LINE:
-        return min(index, len(b) - 1)
-    for _, first, last, start, end in difflib.SequenceMatcher(None, a, b, False).get_opcodes():
-        if first <= index < last:
-            same = last - first == end - start
-            return min(start + (index - first if same else 0), len(b) - 1)
-    return len(b) - 1
+        return [min(index, last) for index in range(len(a))]
+    found, close = [], lexer.pairs(written)
+    changes = difflib.SequenceMatcher(None, a, b, False).get_opcodes()
+    kept = {k for kind, _, _, start, stop in changes if kind == "equal" for k in range(start, stop)}
+    macros = [(k, close[k + 1]) for k in range(last) if k not in kept
+              and written[k].kind == "name" and b[k + 1] == "("]  # fmt: skip
+    for _, first, end, start, stop in changes:
+        if end - first == stop - start:
+            found += range(start, stop)
+            continue
+        around = [k for k, closing in macros if k <= start <= closing]
+        around = around or [k for k, _ in macros if k <= start][-1:] or [min(start, last)]
+        found += around[:1] * (end - first)
+    return found
 
 
 def line_starts(text):

@@ -1,7 +1,7 @@
 """What the rules ask of a list of tokens: its functions, its declarations, its statements."""
 from dataclasses import dataclass
 
-from .tokens import pairs, split
+from .tokens import behind, pairs, split
 
 TYPE_WORDS = {"void", "char", "short", "int", "long", "signed", "unsigned", "float", "double"}
 KNOWN_FUNCTIONS = {"GetExceptionCode": "unsigned", "AbnormalTermination": "int"}
@@ -64,12 +64,12 @@ class Structure:
         """Functions, prototypes, and where each other external declaration begins."""
         i = first = 0
         while i < len(self.tokens) - 1:
-            word, close = self.text(i), self.pairs.get(i, i)
+            word, close = self.text(i), max(self.pairs.get(i, i), i)
             is_list = word == "(" and i > first and self.tokens[i - 1].kind == "name"
             if is_list and self.text(close + 1) == "{":
                 end = self.pairs.get(close + 1, len(self.tokens) - 1)
                 self.functions.append(Function(first, i - 1, i, close, close + 1, end))
-                i = first = end + 1
+                i = first = max(end, close + 1) + 1
                 continue
             if is_list and self.text(close + 1) == ";" and "=" not in self.texts(first, i):
                 self.prototypes.append((first, close + 1))
@@ -78,7 +78,7 @@ class Structure:
             if word == ";":
                 self.externals.append((first, i))
                 first = i + 1
-            i = max(close, i) + 1
+            i = behind(self.pairs, i)
 
     def texts(self, first, last):
         return [token.text for token in self.tokens[first:last]]
@@ -123,7 +123,7 @@ class Structure:
     def declaration(self, first, base_end):
         i = base_end
         while i < len(self.tokens) - 1 and self.text(i) != ";":
-            i = self.pairs.get(i, i) + 1
+            i = behind(self.pairs, i)
             if self.text(i - 1) == "}" and self.text(i) not in (",", ";"):
                 return None
         parts = [self.declarator(part) for part in split(self.tokens[base_end:i])]

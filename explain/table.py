@@ -151,16 +151,18 @@ def number_print(look, i):
 
 
 def other_print(look, i):
-    return look.text(i) in ("printf", "puts", "printf_s", "fprintf") and look.is_called(i) and (
+    return look.text(i) in ("printf", "puts", "printf_s") and look.is_called(i) and (
         look.text(i) not in look.function_names and not number_print(look, i)
     )
 
 
 def other_text(look, i):
     """A string literal that is in no print, and gives no array of characters its elements."""
-    if look.kind(i) != "string" or look.text(i)[0] != '"' or look.text(i - 1) == "=":
+    if look.kind(i) != "string" or look.text(i)[0] != '"':
         return False
-    return look.text(i - 2) not in ("printf", "puts", "printf_s", "fprintf")
+    if look.text(i - 1) == "=":
+        return look.text(i - 2) != "]"
+    return look.text(i - 2) not in ("printf", "puts", "printf_s")
 
 
 def wide_text(look, i):
@@ -251,11 +253,13 @@ def other_typedef(look, i):
 def structure_word(look, i):
     if look.text(i) in ("struct", "union"):
         return look.text(i + 1) not in set(POINTERS) | set(RECORDS)
-    return look.text(i) == "." and look.kind(i - 1) in ("name", "sign") and look.kind(i + 1) == "name"
+    is_sign = look.text(i) == "." and look.kind(i + 1) == "name"
+    return is_sign and look.kind(i - 1) in ("name", "sign")
 
 
 def function_pointer(look, i):
-    if look.text(i) == "(" and look.text(i + 1) == "*" and look.text(look.pairs.get(i, i) + 1) == "(":
+    is_star = look.text(i) == "(" and look.text(i + 1) == "*"
+    if is_star and look.text(look.pairs.get(i, i) + 1) == "(":
         before = look.text(i - 1)
         return before in TYPE_WORDS | {"*"} or look.kind(i - 1) == "name" and before not in (
             "if", "while", "return", "for")  # fmt: skip
@@ -349,11 +353,26 @@ def exit_call(look, i):
     return look.text(i) in ("exit", "ExitProcess") and look.is_called(i)
 
 
-LIBRARY = """malloc calloc realloc free memcpy memset memmove memcmp strlen strcpy strcmp strcat
-    strncpy abort assert getchar scanf sprintf sprintf_s snprintf ZeroMemory CopyMemory FillMemory
-    RtlZeroMemory HeapAlloc HeapFree GetProcessHeap GetLastError SetLastError Sleep GetTickCount
-    CreateThread WaitForSingleObject CloseHandle CreateFileA ReadFile WriteFile GetStdHandle
-    IsBadReadPtr IsBadWritePtr DebugBreak __debugbreak GetCurrentThreadId OutputDebugStringA"""
+def library_call(look, i):
+    """A call of what the source doesn't define, the language hasn't, and no other row is about."""
+    if not look.is_called(i) or not look.in_function(i) or look.is_member(i):
+        return False
+    word = look.text(i)
+    return word not in look.function_names and word not in KNOWN and look.text(i - 1) not in (
+        TYPE_WORDS | TYPES)  # fmt: skip
+
+
+ALLOCATION = "VirtualAlloc VirtualProtect VirtualFree VirtualQuery"
+LOCKS = """CRITICAL_SECTION LPCRITICAL_SECTION InterlockedIncrement InterlockedDecrement SRWLOCK
+    EnterCriticalSection LeaveCriticalSection InitializeCriticalSection DeleteCriticalSection
+    TryEnterCriticalSection InterlockedExchange InterlockedCompareExchange InterlockedAdd
+    InterlockedExchangeAdd"""
+# names before a bracket that are the language's, or that other rows are about
+KNOWN = set(f"""if while for switch return sizeof do else __except _except __finally __try __leave
+    put protect walk RaiseException GetExceptionCode GetExceptionInformation AbnormalTermination
+    {ADD} {REMOVE} AddVectoredContinueHandler SetUnhandledExceptionFilter printf printf_s puts exit
+    ExitProcess _countof ARRAYSIZE va_arg va_start va_end {ALLOCATION} {LOCKS}""".split())
+KNOWN |= VALUES | TYPES | port.words.DROPPED | port.words.WITH_BRACKETS
 PATTERNS = {
     "names of types of": one_of(*(TYPES - {"__int64"})),
     "names of values of": lambda look, i: look.text(i) in VALUES - SPELLINGS
@@ -402,13 +421,11 @@ PATTERNS = {
     "`&h` or a cast": handler_cast,
     "`AddVectoredContinueHandler`": one_of("AddVectoredContinueHandler"),
     "`SetUnhandledExceptionFilter`": one_of("SetUnhandledExceptionFilter"),
-    "`VirtualAlloc`": call_of("VirtualAlloc VirtualProtect VirtualFree VirtualQuery"),
-    "critical sections": one_of("""CRITICAL_SECTION LPCRITICAL_SECTION InterlockedIncrement
-        EnterCriticalSection LeaveCriticalSection InitializeCriticalSection InterlockedDecrement
-        DeleteCriticalSection TryEnterCriticalSection InterlockedExchange SRWLOCK
-        InterlockedCompareExchange InterlockedAdd InterlockedExchangeAdd"""),
+    "`VirtualAlloc`": call_of(ALLOCATION),
+    "critical sections": one_of(LOCKS),
     "`exit(n)`": exit_call,
-    "`malloc`, `memcpy`": call_of(LIBRARY),
+    "`...`, `va_list`": one_of("... va_list va_start va_arg va_end"),
+    "`malloc`, `memcpy`": library_call,
 }
 
 

@@ -75,11 +75,13 @@ def words(text, like, before=None):
 
 
 def pairs(tokens):
-    """For the index of each bracket, the index of the one that it belongs to."""
+    """For the index of each bracket, the index of the one that it belongs to; of an opening one
+    that isn't closed, the last index."""
     found, opened = {}, []
     for i, token in enumerate(tokens):
         if token.kind == "sign" and token.text in OPENING:
             opened.append(i)
+            found[i] = len(tokens) - 1
         elif token.kind == "sign" and token.text in CLOSING:
             while opened and OPENING[tokens[opened[-1]].text] != token.text:
                 opened.pop()
@@ -87,6 +89,26 @@ def pairs(tokens):
                 found[i] = opened.pop()
                 found[found[i]] = i
     return found
+
+
+def unpaired(tokens):
+    """The index of a bracket that has no partner, None where each has one."""
+    opened = []
+    for i, token in enumerate(tokens):
+        if token.kind == "sign" and token.text in OPENING:
+            opened.append(i)
+        elif token.kind == "sign" and token.text in CLOSING:
+            if not opened:
+                return i
+            if OPENING[tokens[opened[-1]].text] != token.text:
+                return opened[-1]
+            opened.pop()
+    return opened[-1] if opened else None
+
+
+def behind(close, i):
+    """The index behind a token, or behind the bracket that it opens."""
+    return max(close.get(i, i), i) + 1
 
 
 def split(tokens, sign=","):

@@ -45,10 +45,12 @@ def read_tries(tokens):
     """The `__try` statements in the order of the source, numbered as docs/LANGUAGE.md says."""
     close, found, opened = Structure(tokens).pairs, [], []
     for i, token in enumerate(tokens):
-        if token.text != "__try":
+        if token.text != "__try" or tokens[i + 1].text != "{":
             continue
-        body_end = close.get(i + 1, i + 1)
+        body_end = close[i + 1]
         keyword = body_end + 1
+        if tokens[keyword].text not in ("__except", "__finally"):
+            continue
         is_filter = tokens[keyword].text == "__except"
         block = close.get(keyword + 1, keyword) + 1 if is_filter else keyword + 1
         one = Try(i, i + 1, body_end, keyword, block, close.get(block, block), None)

@@ -25,7 +25,7 @@ def named(made, header, takes_all):
 def simple(source):
     """The tokens of a source as the compiler is given it where it is run unchanged."""
     made = tokens.scan(source.text)
-    if not source.is_preprocessed:
+    if not source.is_preprocessed or tokens.unpaired(made) is not None:
         return made
     made = named(made, source.header, False)
     for rule in SHARED:
@@ -34,7 +34,7 @@ def simple(source):
 
 
 def ported(source):
-    """The tokens of a source's port."""
+    """The tokens of a source's port; each of its brackets has a partner."""
     made = named(tokens.scan(source.text), source.header, True)
     for rule in ALL:
         made = rule(made)

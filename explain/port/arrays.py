@@ -67,7 +67,8 @@ def lengths(tokens):
             values = values_of(one)
             value = constant(one.length) if one.length else len(values or []) or None
             if value is not None and joined(one.length).strip() != str(value):
-                edits.append((opening + 1, structure.pairs[opening], words(str(value), one.name, "")))
+                length = words(str(value), one.name, "")
+                edits.append((opening + 1, structure.pairs[opening], length))
     return edited(tokens, edits)
 
 
@@ -108,9 +109,8 @@ def global_values(tokens):
 
 
 def is_literal(part):
-    texts = [t.text for t in part]
-    kinds = [t.kind for t in part]
-    return kinds in (["number"], ["char"]) or (texts[0] == "-" and kinds[1:] in (["number"], ["char"]))
+    unsigned = part[1:] if part[0].text == "-" else part
+    return [t.kind for t in unsigned] in (["number"], ["char"])
 
 
 def local_values(tokens):
@@ -188,13 +188,13 @@ def sized(tokens, i, close, known):
 
 def measured(operand, known):
     """The size of an element and the count of an array's, of a type or an expression."""
-    texts = [token.text for token in operand]
+    texts = [token.text for token in operand] or [""]
     base = [text for text in texts if text in TYPE_WORDS]
     if base and all(text in TYPE_WORDS or text == "*" for text in texts):
         return constants.size_of(base, texts.count("*")), None
     if len(operand) == 1 and operand[0].kind == "string":
         return 1, len(constants.characters(texts[0])) + 1
-    name = texts[1] if texts[0] == "*" else texts[0]
+    name = texts[1] if texts[0] == "*" and len(texts) > 1 else texts[0]
     kinds = known.get(name, set())
     is_element = texts == ["*", name] or (texts[1:2] == ["["] and texts[-1:] == ["]"])
     if len(kinds) != 1 or not (is_element or texts == [name]):

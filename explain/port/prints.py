@@ -13,6 +13,7 @@ ALONE.update({"%llu\n": "unsigned long long", "%I64u\n": "unsigned long long"})
 ALONE.update({"%zu\n": "unsigned long long", "%zd\n": "long long"})
 CONVERSION = re.compile(r"%[-+ #0]*(\d+|\*)?(?:\.(?:\d+|\*))?(hh|h|ll|l|I64|I32|z|t|j)?([a-zA-Z%])")
 WIDE = {"ll", "I64", "z", "t", "j"}
+PLAIN_SIGNS = set("+ - ! ~ | ^ ( ) ? : < > <= >= == != && || << >> &".split())
 TEXT_ALONE = {"puts", "_putts", "OutputDebugStringA"}
 
 
@@ -42,16 +43,29 @@ def calls(tokens, names):
                 yield i, end
 
 
-def value(part, kind, known):
-    """An argument as a value of the type that its conversion prints."""
-    text = joined(part).strip()
-    name = part[0].text
+def cast(part, kind, known):
+    """What stands around an argument so that it is a value of the type that its conversion
+    prints."""
     is_call = len(part) > 1 and part[1].text == "(" and pairs(part).get(1) == len(part) - 1
     if len(part) == 1 or is_call:
-        types = {(b, s) for b, s, length in known.get(name, ()) if (length == "()") == is_call}
+        found = known.get(part[0].text, ())
+        types = {(base, stars) for base, stars, length in found if (length == "()") == is_call}
         if types == {(kind, 0)} or (kind == "int" and part[0].kind in ("number", "char")):
-            return text
-    return f"({kind}){text}" if len(part) == 1 else f"({kind})({text})"
+            return "", ""
+    return (f"({kind})", "") if len(part) == 1 else (f"({kind})(", ")")
+
+
+def value(part, kind, known):
+    """An argument as a value of the type that its conversion prints."""
+    before, behind = cast(part, kind, known)
+    return before + joined(part).strip() + behind
+
+
+def put_alone(part, kind, known, like):
+    """The tokens that put one argument: the argument's own keep their places."""
+    before, behind = cast(part, kind, known)
+    part[0].before = part[0].before.strip(" ")
+    return words(f"put({before}", like) + part + words(f"{behind});", part[-1], "")
 
 
 def numbers_alone(tokens):
@@ -74,6 +88,8 @@ def printed(tokens, takes, keeps_text):
         text = f" /* {arguments[0][0].text} */".replace("*/\"", "* /\"") if keeps_text else ""
         if tokens[i].text in TEXT_ALONE:
             edits.append((i, end + 2, ";" + text))
+        elif form in ALONE and len(arguments) == 2 and arguments[1]:
+            edits.append((i, end + 2, put_alone(arguments[1], ALONE[form], known, tokens[i])))
         elif takes(form):
             puts = put_each(form, arguments[1:], known)
             if puts is not None:
@@ -85,10 +101,12 @@ def put_each(form, arguments, known):
     """The statement that puts each number of a format; None where one can't be put."""
     kinds = [(width, type_of(size, letter)) for width, size, letter in CONVERSION.findall(form)
              if letter != "%"]  # fmt: skip
-    if len(kinds) != len(arguments) or any(w == "*" or k is None for w, k in kinds):
+    if len(kinds) != len(arguments) or not all(arguments):
+        return None
+    if any(width == "*" or kind is None for width, kind in kinds):
         return None
     values = [value(a, k, known) for a, (_, k) in zip(arguments, kinds)]
-    if any(has_effect(a) for a in arguments[1:]):
+    if not all(map(is_plain, arguments[1:])):
         names = [f"printed_{k}" for k in range(len(values))]
         made = "".join(f"{k} {n} = {joined(a).strip()}; "
                        for n, a, (_, k) in zip(names, arguments, kinds))  # fmt: skip
@@ -96,17 +114,23 @@ def put_each(form, arguments, known):
     return ", ".join(f"put({text})" for text in values) + ";"
 
 
-def has_effect(part):
-    """Whether an argument calls or changes something, so that it has to come before all text."""
-    signs = {"(", "++", "--", "="}
-    return any(t.text in signs or re.fullmatch(r"[-+*/%&|^]=|<<=|>>=", t.text) for t in part[1:])
+def is_plain(part):
+    """Whether an argument neither calls nor changes anything, and can raise no exception: any other
+    is computed before the first number is put, as C computes all arguments before it prints."""
+    is_call = any(a.kind == "name" and b.text == "(" for a, b in zip(part, part[1:]))
+    return not is_call and all(t.kind != "sign" or t.text in PLAIN_SIGNS for t in part)
 
 
 def with_edits(tokens, edits):
     made, at = [], 0
     for first, end, text in edits:
-        new = words(text, tokens[first])
-        made += tokens[at:first] + new
+        if not isinstance(text, str):
+            # a comment of the statement before may stand here by now
+            text[0].before = tokens[first].before
+            made += tokens[at:first] + text
+            at = end
+            continue
+        made += tokens[at:first] + words(text, tokens[first])
         # a comment at the end of what a rule writes stands before the next token
         tail = re.search(r"( /\* .*? \*/)$", text, re.S)
         if tail:

@@ -1,7 +1,7 @@
 """Rules of a port on EXCEPTION_POINTERS and on vectored handlers: the language hands a filter the
 fields of the record alone, and a handler the code and whether it may be continued."""
 from ..structure import Structure
-from ..tokens import pairs, split, words
+from ..tokens import behind, pairs, split, words
 from .words import without
 
 POINTERS = {"EXCEPTION_POINTERS": 1, "_EXCEPTION_POINTERS": 1}
@@ -53,7 +53,7 @@ class Function:
         while i < self.function.end:
             end = i
             while end < self.function.end and self.tokens[end].text not in (";", "{", "}"):
-                end = structure.pairs.get(end, end) + 1
+                end = behind(structure.pairs, end)
             part = self.tokens[i:end]
             texts = [t.text for t in part]
             if texts[-4:] == ["=", self.name, "->", "ExceptionRecord"]:
@@ -104,7 +104,7 @@ def argument_place(tokens, close, i):
     opening, index = i - 1, 0
     while opening > 0 and tokens[opening].text != "(":
         index += tokens[opening].text == ","
-        opening = close[opening] - 1 if tokens[opening].text in (")", "]", "}") else opening - 1
+        opening = min(close.get(opening, opening), opening) - 1
     return opening - 1, index
 
 
@@ -182,7 +182,7 @@ def replaced(tokens, edits, dropped):
     comma."""
     made, at = [], 0
     for first, end, text in sorted(edits):
-        made += without(tokens[at:first] + tokens[first : first + 1], dropped_in(dropped, at, first))[:-1]
+        made += without(tokens[at : first + 1], dropped_in(dropped, at, first))[:-1]
         if not text and tokens[end].text == ",":
             end += 1
         elif not text and made[-1].text == ",":

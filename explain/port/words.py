@@ -4,11 +4,11 @@ import re
 from .. import constants
 from ..structure import STATEMENT_ENDS, TYPE_WORDS, Structure
 from ..source import WINSEH, empty_macros, read_bytes
-from ..tokens import Token, pairs, split, words
+from ..tokens import Token, behind, pairs, split, words
 
 # words that change nothing in what a source means here: those of winseh.h, and others
 DROPPED = empty_macros(read_bytes(WINSEH)) | {"__restrict", "__ptr64", "__unaligned", "_Noreturn"}
-WITH_BRACKETS = {"__declspec", "__pragma", "__attribute__", "_Pragma"}
+WITH_BRACKETS = {"__declspec", "__pragma", "__attribute__", "_Pragma", "UNREFERENCED_PARAMETER"}
 
 
 def move_space(token, following):
@@ -35,7 +35,7 @@ def without(tokens, dropped):
 def drop_words(tokens):
     close, dropped = pairs(tokens), set()
     for i, token in enumerate(tokens[:-1]):
-        if token.text in DROPPED:
+        if token.text in DROPPED - WITH_BRACKETS:
             dropped.add(i)
         elif token.text in WITH_BRACKETS and tokens[i + 1].text == "(":
             dropped.update(range(i, close.get(i + 1, i) + 1))
@@ -165,7 +165,7 @@ def typedefs(tokens, names):
         if tokens[i].text == "typedef":
             end = i
             while end < len(tokens) - 1 and tokens[end].text != ";":
-                end = close.get(end, end) + 1
+                end = behind(close, end)
             if names.read_typedef(tokens[i + 1 : end]):
                 tokens[end + 1].before = tokens[i].before + tokens[end + 1].before
                 i = end + 1

@@ -1,5 +1,6 @@
 //! What holds of callers as Windows finds them.
 
+ghost use Rattle.abi_unwind.specs.Laws.{TheyAgree, TheyRefuse};
 ghost use Rattle.abi_unwind.specs.Rows.{Tails, NoTails, Cases, Jumps, Parts, Edges, Frames, Vectors, MachineFrames};
 
 /// What the trailing parts of worked bytes are, and which have none.
@@ -19,4 +20,12 @@ pub fn worked_callers()
     ensures frames { Frames }
     ensures vectors { Vectors }
     ensures machine_frames { MachineFrames }
+{}
+
+/// Past a prologue and in no entry, where no vector register is saved and neither unwinder sees an
+/// epilogue, or both know the one that is there, crate virtual_unwind and this one find the same
+/// caller, or want the same word of the stack.
+pub fn agreement()
+    ensures agree { TheyAgree }
+    ensures refuse { TheyRefuse }
 {}

@@ -7,5 +7,10 @@
 #![tactic(auto)]
 
 pub mod context;
+pub mod frame;
 pub mod laws;
 pub mod tail;
+mod undo;
+pub mod unwinding;
+mod vectors;
+mod word;

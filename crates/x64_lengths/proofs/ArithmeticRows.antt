@@ -60,8 +60,10 @@ byte_to : (op : ℕ) (o : Operation) → row OneByte op ≡ rows.Always (the_cel
     ≡ rm_r p W8 (instrs.Arithmetic o W8) bytes) → OneByteRowAgrees op
 byte_to op o e n is p bytes i rest h =
     let c = the_cell words.Me in
-    rm_r_agrees p OneByte op c W8 (instrs.Arithmetic o W8) (always p op c e) (plain c refl refl refl)
-    (λ m at reg l. to_place o W8 at _ _ (place_written p OneByte op c W8 m at (apart p op n) refl l))
+    rm_r_agrees p OneByte op c W8 (instrs.Arithmetic o W8) (always p op c e)
+    (plain c refl refl refl)
+    (λ m at reg l. to_place o W8 at _ _ (place_written p OneByte op c W8 m at
+    (apart p op n) refl l))
     bytes i rest (sym (is p bytes) ∙ h)
 
 -- r/m, r
@@ -71,7 +73,8 @@ all_to : (op : ℕ) (o : Operation) → row OneByte op ≡ rows.Always (the_cell
     ≡ rm_r p (width_of p) (instrs.Arithmetic o (width_of p)) bytes) → OneByteRowAgrees op
 all_to op o e n is p bytes i rest h =
     let c = the_cell words.ME in
-    rm_r_agrees p OneByte op c (width_of p) (instrs.Arithmetic o (width_of p)) (always p op c e) (plain c refl refl refl)
+    rm_r_agrees p OneByte op c (width_of p) (instrs.Arithmetic o (width_of p)) (always p op c e)
+    (plain c refl refl refl)
     (λ m at reg l. to_place o (width_of p) at _ _ (place_written p OneByte op c (width_of p) m at
     (apart p op n) (sym (wide_part (eqb (bit 3 p.rex) 1) p.operand_size)) l))
     bytes i rest (sym (is p bytes) ∙ h)
@@ -85,7 +88,8 @@ byte_from op o e n is p bytes i rest h =
     let c = the_cell words.Mg in
     r_rm_agrees_by p OneByte op c W8 W8 (made_r o W8) (always p op c e) (plain c refl refl refl)
     (λ m at reg r l. to_place o W8 (places.Register reg) _ _
-    (reg_written p OneByte op c W8 m at reg (apart p op n) refl r l)) bytes i rest (sym (is p bytes) ∙ h)
+    (reg_written p OneByte op c W8 m at reg (apart p op n) refl r l)) bytes i rest (sym
+    (is p bytes) ∙ h)
 
 -- r, r/m
 all_from : (op : ℕ) (o : Operation) → row OneByte op ≡ rows.Always (the_cell words.MG)
@@ -94,7 +98,8 @@ all_from : (op : ℕ) (o : Operation) → row OneByte op ≡ rows.Always (the_ce
     ≡ r_rm p (width_of p) (width_of p) (made_r o (width_of p)) bytes) → OneByteRowAgrees op
 all_from op o e n is p bytes i rest h =
     let c = the_cell words.MG in
-    r_rm_agrees_by p OneByte op c (width_of p) (width_of p) (made_r o (width_of p)) (always p op c e)
+    r_rm_agrees_by p OneByte op c (width_of p) (width_of p) (made_r o (width_of p))
+    (always p op c e)
     (plain c refl refl refl)
     (λ m at reg r l. to_place o (width_of p) (places.Register reg) _ _
     (reg_written p OneByte op c (width_of p) m at reg (apart p op n)

@@ -126,7 +126,8 @@ comparing : (p : Prefixes) (op : ℕ) (g : Group) (from w : Width) (writes reads
     → RowAgrees p OneByte op bytes i rest
 unfolding by_modrm
 comparing p op g from w c d one bytes to after i rest m h =
-    let f : ℕ → Instr = λ v. instrs.Arithmetic operations.Compare w to (operand_kinds.Immediate v) in
+    let f : ℕ → Instr = λ v. instrs.Arithmetic operations.Compare w to
+    (operand_kinds.Immediate v) in
     let r = immediate_read from w f after i rest h in
     let t = at (slice_index_or GROUPS (group_number g) []) (cond (eqb (m.first / 64) 3) 1 0) in
     subst (λ z. RowAgrees p OneByte op bytes z rest) r.instr_is
@@ -197,7 +198,8 @@ byte_row : row OneByte 0x80 ≡ rows.Group groups.One8
 unfolding row
 byte_row = refl
 
-byte_one : (p : Prefixes) → GroupOne p 0x80 groups.One8 W8 W8 (the_cell words.Mbe) (the_cell words.Mb)
+byte_one : (p : Prefixes) → GroupOne p 0x80 groups.One8 W8 W8 (the_cell words.Mbe)
+    (the_cell words.Mb)
 unfolding by_prefix
 byte_one p = record {
   row_is = chosen p 0x80 (rows.Group groups.One8) byte_row refl;

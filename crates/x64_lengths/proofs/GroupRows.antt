@@ -153,13 +153,15 @@ jump_cell false = refl
 call_by : (m : ℕ) → m / 8 % 8 ≡ 2 → by_modrm m (rows.Group groups.Five)
     ≡ rows.Always (the_cell words.ML)
 unfolding by_modrm
-call_by m e = ap (at (slice_index_or GROUPS (group_number groups.Five) []) (cond (eqb (m / 64) 3) 1 0)) e
+call_by m e = ap (at (slice_index_or GROUPS (group_number groups.Five) []) (cond (eqb
+    (m / 64) 3) 1 0)) e
     ∙ call_cell (eqb (m / 64) 3)
 
 jump_by : (m : ℕ) → m / 8 % 8 ≡ 4 → by_modrm m (rows.Group groups.Five)
     ≡ rows.Always (the_cell words.MK)
 unfolding by_modrm
-jump_by m e = ap (at (slice_index_or GROUPS (group_number groups.Five) []) (cond (eqb (m / 64) 3) 1 0)) e
+jump_by m e = ap (at (slice_index_or GROUPS (group_number groups.Five) []) (cond (eqb
+    (m / 64) 3) 1 0)) e
     ∙ jump_cell (eqb (m / 64) 3)
 
 -- a cell of the group that has no immediate, for an instruction that writes nothing

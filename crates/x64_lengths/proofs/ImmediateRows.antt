@@ -47,7 +47,8 @@ mov_is = eight (λ k. (p : Prefixes) (bytes : List ℕ)
 
 abbrev moved : Prefixes → ℕ → ℕ → Instr
 moved p op v =
-    instrs.Move (width_of p) (places.Register (register_of_low_bits p op)) (operand_kinds.Immediate v)
+    instrs.Move (width_of p) (places.Register (register_of_low_bits p op))
+    (operand_kinds.Immediate v)
 
 pub move_immediate_agrees : (k : ℕ) → k < 8 → OneByteRowAgrees (0xB8 + k)
 move_immediate_agrees k lt p bytes i rest e =

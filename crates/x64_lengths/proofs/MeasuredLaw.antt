@@ -5,7 +5,6 @@ use Rattle.std.proofs.lemmas.List.{take-take, length-take-le}
 use Rattle.x64_instr.specs.declared.instruction.Instr.{Instr}
 use Rattle.x64_instr.specs.Reading.{Read}
 use Rattle.x64_instr.specs.Spelling.{instr}
-use Rattle.x64_instr.proofs.Readers.{pair}
 use Rattle.x64_lengths.specs.declared.effects.Effects.{Effects}
 use Rattle.x64_lengths.specs.declared.measure.Measured.{Measured}
 use Rattle.x64_lengths.specs.Measures.{instruction, measured}

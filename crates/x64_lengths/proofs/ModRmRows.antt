@@ -106,7 +106,8 @@ abbrev pub read_modrm : ModRm → List ℕ → Read ModRm
 read_modrm x bytes = Some (x, bytes)
 
 -- what is read by a row with ModRM of any form
-pub any_modrm : (p : Prefixes) (table : Map) (op : ℕ) (c : Cell) (m : ℕ) (bs : List ℕ) (at : RegisterOrMemory)
+pub any_modrm : (p : Prefixes) (table : Map) (op : ℕ) (c : Cell) (m : ℕ) (bs : List ℕ)
+    (at : RegisterOrMemory)
     (after : List ℕ) (v : ℕ) (rest : List ℕ)
     → row_of (opcode_at p table op) ≡ rows.Always c → c.form ≡ forms.Any
     → place p m bs ≡ Some (at, after)
@@ -154,7 +155,8 @@ rm_written p W32 r l = bit_at-pow_same (registers.number r)
 rm_written p W64 r l = bit_at-pow_same (registers.number r)
 
 -- the place of ModRM is among those written where the cell says so
-pub place_written : (p : Prefixes) (table : Map) (op : ℕ) (c : Cell) (w : Width) (m : ℕ) (at : RegisterOrMemory)
+pub place_written : (p : Prefixes) (table : Map) (op : ℕ) (c : Cell) (w : Width) (m : ℕ)
+    (at : RegisterOrMemory)
     → is_no_operation (opcode_at p table op) ≡ false → c.rm ≡ part_of w
     → is_listed p w at ≡ true
     → AreIn (written_place at)
@@ -188,7 +190,8 @@ pub record IsPlain (c : Cell) : Type 0 where
   pub goes_on : is_relative c.ending ≡ false
 
 -- one reading, in parts
-pub modrm_agrees : (p : Prefixes) (table : Map) (op : ℕ) (c : Cell) (at : RegisterOrMemory) (reg : Reg) (i : Instr)
+pub modrm_agrees : (p : Prefixes) (table : Map) (op : ℕ) (c : Cell) (at : RegisterOrMemory)
+    (reg : Reg) (i : Instr)
     (bytes rest : List ℕ) → row_of (opcode_at p table op) ≡ rows.Always c → IsPlain c
     → (read : ModRmRead p bytes at reg rest)
     → AreIn (written i)
@@ -207,7 +210,8 @@ modrm_agrees p table op c at reg i bytes rest e plain read all =
     })
 
 pub rm_r_agrees : (p : Prefixes) (table : Map) (op : ℕ) (c : Cell) (w : Width)
-    (made : RegisterOrMemory → Operand → Instr) → row_of (opcode_at p table op) ≡ rows.Always c → IsPlain c
+    (made : RegisterOrMemory → Operand → Instr) → row_of (opcode_at p table op) ≡ rows.Always c
+    → IsPlain c
     → ((m : ℕ) (at : RegisterOrMemory) (reg : Reg) → is_listed p w at ≡ true
     → AreIn (written (made at (operand_kinds.Register reg)))
     (effects_of (opcode_at p table op) c (Some (modrm_of p m at)) 0 0).general)
@@ -237,14 +241,17 @@ mov_all = refl
 pub mov_byte : OneByteRowAgrees 0x88
 unfolding spelling.row
 mov_byte p bytes i rest e =
-    rm_r_agrees p OneByte 0x88 (the_cell words.Me) W8 (instrs.Move W8) (always p 0x88 (the_cell words.Me) mov_8)
+    rm_r_agrees p OneByte 0x88 (the_cell words.Me) W8 (instrs.Move W8) (always p 0x88
+    (the_cell words.Me) mov_8)
     (record { form_is = refl; no_immediate = refl; goes_on = refl })
-    (λ m at reg l. place_written p OneByte 0x88 (the_cell words.Me) W8 m at refl refl l) bytes i rest e
+    (λ m at reg l. place_written p OneByte 0x88 (the_cell words.Me) W8 m at refl refl l) bytes i
+    rest e
 
 pub mov : OneByteRowAgrees 0x89
 unfolding spelling.row
 mov p bytes i rest e =
-    rm_r_agrees p OneByte 0x89 (the_cell words.ME) (width_of p) (instrs.Move (width_of p)) (always p 0x89 (the_cell words.ME) mov_all)
+    rm_r_agrees p OneByte 0x89 (the_cell words.ME) (width_of p) (instrs.Move (width_of p))
+    (always p 0x89 (the_cell words.ME) mov_all)
     (record { form_is = refl; no_immediate = refl; goes_on = refl })
     (λ m at reg l. place_written p OneByte 0x89 (the_cell words.ME) (width_of p) m at refl
     (sym (wide_part (eqb (bit 3 p.rex) 1) p.operand_size)) l) bytes i rest e
@@ -262,13 +269,15 @@ test_row = refl
 pub test_byte : OneByteRowAgrees 0x84
 unfolding spelling.row
 test_byte p bytes i rest e =
-    rm_r_agrees p OneByte 0x84 (the_cell words.Mo) W8 (instrs.Test W8) (always p 0x84 (the_cell words.Mo) test_row_8)
+    rm_r_agrees p OneByte 0x84 (the_cell words.Mo) W8 (instrs.Test W8) (always p 0x84
+    (the_cell words.Mo) test_row_8)
     (record { form_is = refl; no_immediate = refl; goes_on = refl })
     (λ m at reg l. tt) bytes i rest e
 
 pub test : OneByteRowAgrees 0x85
 unfolding spelling.row
 test p bytes i rest e =
-    rm_r_agrees p OneByte 0x85 (the_cell words.Mo) (width_of p) (instrs.Test (width_of p)) (always p 0x85 (the_cell words.Mo) test_row)
+    rm_r_agrees p OneByte 0x85 (the_cell words.Mo) (width_of p) (instrs.Test (width_of p))
+    (always p 0x85 (the_cell words.Mo) test_row)
     (record { form_is = refl; no_immediate = refl; goes_on = refl })
     (λ m at reg l. tt) bytes i rest e

@@ -101,7 +101,8 @@ signed_read from f bytes i rest e =
       instr_is = q.0;
     }
 
-pub allowed_without_66 : (size relative : Bool) → size ≡ false → (not (size && relative) && true) ≡ true
+pub allowed_without_66 : (size relative : Bool) → size ≡ false → (not
+    (size && relative) && true) ≡ true
 allowed_without_66 size relative e = ap (λ t. not (t && relative) && true) e
 
 pub half_is_four : (wide size : Bool) → size ≡ false
@@ -136,7 +137,8 @@ call_row = refl
 pub call : PlainRowAgrees 0xE8
 unfolding plain_row
 call p bytes i rest s e =
-    relative p OneByte 0xE8 (the_cell words.zc) W32 (λ d. instrs.Call (Relative d)) (always p 0xE8 (the_cell words.zc) call_row) refl
+    relative p OneByte 0xE8 (the_cell words.zc) W32 (λ d. instrs.Call (Relative d))
+    (always p 0xE8 (the_cell words.zc) call_row) refl
     (half_is_four (eqb (bit 3 p.rex) 1) p.operand_size s) s (λ d. refl) bytes i rest e
 
 jump_row : row OneByte 0xE9 ≡ rows.Always (the_cell words.zk)
@@ -146,7 +148,8 @@ jump_row = refl
 pub jump : PlainRowAgrees 0xE9
 unfolding plain_row
 jump p bytes i rest s e =
-    relative p OneByte 0xE9 (the_cell words.zk) W32 (λ d. instrs.Jump (Relative d)) (always p 0xE9 (the_cell words.zk) jump_row) refl
+    relative p OneByte 0xE9 (the_cell words.zk) W32 (λ d. instrs.Jump (Relative d))
+    (always p 0xE9 (the_cell words.zk) jump_row) refl
     (half_is_four (eqb (bit 3 p.rex) 1) p.operand_size s) s (λ d. refl) bytes i rest e
 
 short_row : row OneByte 0xEB ≡ rows.Always (the_cell words.bk)
@@ -156,7 +159,8 @@ short_row = refl
 pub short : PlainRowAgrees 0xEB
 unfolding plain_row
 short p bytes i rest s e =
-    relative p OneByte 0xEB (the_cell words.bk) W8 (λ d. instrs.Jump (Relative d)) (always p 0xEB (the_cell words.bk) short_row) refl
+    relative p OneByte 0xEB (the_cell words.bk) W8 (λ d. instrs.Jump (Relative d)) (always p 0xEB
+    (the_cell words.bk) short_row) refl
     refl s (λ d. refl) bytes i rest e
 
 -- Jcc
@@ -202,12 +206,14 @@ jcc_is_high = eight (λ k. (p : Prefixes) (bytes : List ℕ)
 pub jump_if_low : (k : ℕ) → k < 8 → PlainRowAgrees (0x70 + k)
 jump_if_low k lt p bytes i rest s e =
     jump_if_agrees p OneByte (0x70 + k) (the_cell words.bj) W8
-    (always p (0x70 + k) (the_cell words.bj) (jcc_low k lt)) refl refl s bytes i rest (sym (jcc_is_low k lt p bytes) ∙ e)
+    (always p (0x70 + k) (the_cell words.bj) (jcc_low k lt)) refl refl s bytes i rest (sym
+    (jcc_is_low k lt p bytes) ∙ e)
 
 pub jump_if_high : (k : ℕ) → k < 8 → PlainRowAgrees (0x78 + k)
 jump_if_high k lt p bytes i rest s e =
     jump_if_agrees p OneByte (0x78 + k) (the_cell words.bj) W8
-    (always p (0x78 + k) (the_cell words.bj) (jcc_high k lt)) refl refl s bytes i rest (sym (jcc_is_high k lt p bytes) ∙ e)
+    (always p (0x78 + k) (the_cell words.bj) (jcc_high k lt)) refl refl s bytes i rest (sym
+    (jcc_is_high k lt p bytes) ∙ e)
 
 -- ---- r, r/m
 
@@ -225,7 +231,8 @@ part_has p w m reg e l h =
     ap (λ n. bit (registers.number reg) (part p.has_rex (part_of w) n)) (sym (reg_number p m reg e))
     ∙ h
 
-pub reg_written : (p : Prefixes) (table : Map) (op : ℕ) (c : Cell) (w : Width) (m : ℕ) (at : RegisterOrMemory)
+pub reg_written : (p : Prefixes) (table : Map) (op : ℕ) (c : Cell) (w : Width) (m : ℕ)
+    (at : RegisterOrMemory)
     (reg : Reg) → is_no_operation (opcode_at p table op) ≡ false → c.reg ≡ part_of w
     → register_of_reg_field p m ≡ reg → is_listed p w (places.Register reg) ≡ true
     → AreIn (registers.number reg ∷ [])
@@ -240,7 +247,8 @@ reg_written p table op c w m at reg n e r l =
     )
 
 pub r_rm_agrees_by : (p : Prefixes) (table : Map) (op : ℕ) (c : Cell) (v w : Width)
-    (made : Reg → RegisterOrMemory → Instr) → row_of (opcode_at p table op) ≡ rows.Always c → IsPlain c
+    (made : Reg → RegisterOrMemory → Instr) → row_of (opcode_at p table op) ≡ rows.Always c
+    → IsPlain c
     → ((m : ℕ) (at : RegisterOrMemory) (reg : Reg) → register_of_reg_field p m ≡ reg
     → is_listed p v (places.Register reg) ≡ true
     → AreIn (written (made reg at))
@@ -268,7 +276,8 @@ load_row = refl
 pub load_byte : OneByteRowAgrees 0x8A
 unfolding spelling.row
 load_byte p bytes i rest e =
-    r_rm_agrees_by p OneByte 0x8A (the_cell words.Mg) W8 W8 (load W8) (always p 0x8A (the_cell words.Mg) load_row_8)
+    r_rm_agrees_by p OneByte 0x8A (the_cell words.Mg) W8 W8 (load W8) (always p 0x8A
+    (the_cell words.Mg) load_row_8)
     (record { form_is = refl; no_immediate = refl; goes_on = refl })
     (λ m at reg r l. reg_written p OneByte 0x8A (the_cell words.Mg) W8 m at reg refl refl r l)
     bytes i rest e
@@ -276,7 +285,8 @@ load_byte p bytes i rest e =
 pub load_all : OneByteRowAgrees 0x8B
 unfolding spelling.row
 load_all p bytes i rest e =
-    r_rm_agrees_by p OneByte 0x8B (the_cell words.MG) (width_of p) (width_of p) (load (width_of p)) (always p 0x8B (the_cell words.MG) load_row)
+    r_rm_agrees_by p OneByte 0x8B (the_cell words.MG) (width_of p) (width_of p) (load
+    (width_of p)) (always p 0x8B (the_cell words.MG) load_row)
     (record { form_is = refl; no_immediate = refl; goes_on = refl })
     (λ m at reg r l. reg_written p OneByte 0x8B (the_cell words.MG) (width_of p) m at reg refl
     (sym (wide_part (eqb (bit 3 p.rex) 1) p.operand_size)) r l) bytes i rest e
@@ -295,7 +305,8 @@ sign_extend_agrees p bytes i rest s e = go (eqb (bit 3 p.rex) 1) e
   where
     go : (wide : Bool) → cond wide (r_rm p W64 W32 signed_to bytes) None ≡ Some (i, rest)
         → RowAgrees p OneByte 0x63 bytes i rest
-    go true h = r_rm_agrees_by p OneByte 0x63 (the_cell words.MG) W64 W32 signed_to (always p 0x63 (the_cell words.MG) sign_row)
+    go true h = r_rm_agrees_by p OneByte 0x63 (the_cell words.MG) W64 W32 signed_to
+        (always p 0x63 (the_cell words.MG) sign_row)
         (record { form_is = refl; no_immediate = refl; goes_on = refl })
         (λ m at reg r l. reg_written p OneByte 0x63 (the_cell words.MG) W64 m at reg refl refl r l)
         bytes i rest h

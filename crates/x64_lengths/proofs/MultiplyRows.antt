@@ -1,5 +1,5 @@
 -- The law for IMUL with an immediate, LEA and NOP: 69, 6B, 8D and 90.
-use Rattle.std.proofs.Common.{◌≡◌, ℕ, ◌/◌, ◌%◌, Bool, true, false, not, cond, eqb, List, [], ◌∷◌, Some, None, refl, sym, ap, subst, ◌∙◌}
+use Rattle.std.proofs.Common.{◌≡◌, ℕ, ◌/◌, ◌%◌, Bool, true, false, not, cond, eqb, List, ◌∷◌, Some, None, refl, sym, ap, subst, ◌∙◌}
 use Rattle.seh_num.specs.declared.width.Width.{Width}
 use Rattle.seh_num.specs.declared.width.Width.TheVariants.{W8}
 use Rattle.seh_num.specs.Widths.{bytes_of}
@@ -48,7 +48,8 @@ multiply_agrees p op c from e f g r n k bytes i rest h =
     let m = immediate_read from w (λ v. instrs.MultiplyBy w b.0.0.1 b.0.0.0 v) b.0.1 i rest b.2 in
     let x = modrm_of p l.modrm.first b.0.0.0 in
     subst (λ t. RowAgrees p OneByte op t i rest) (sym l.modrm.whole)
-    (subst (λ t. RowAgrees p OneByte op (l.modrm.first ∷ l.modrm.others) t rest) m.instr_is (record {
+    (subst (λ t. RowAgrees p OneByte op (l.modrm.first ∷ l.modrm.others) t rest) m.instr_is
+    (record {
       effects = effects_of s c (Some x) (immediate_bytes s c.immediate) m.value;
       is_read = any_modrm p OneByte op c l.modrm.first l.modrm.others b.0.0.0 b.0.1 m.value rest e f
           l.modrm.place_is (allowed_with p.operand_size (is_relative c.ending) true r)

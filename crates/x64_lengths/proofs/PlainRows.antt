@@ -51,7 +51,8 @@ pub no_bytes : (p : Prefixes) (table : Map) (op : ℕ) (c : Cell) (i : Instr) (b
     → (is_read : with_row (opcode_at p table op) (row_of (opcode_at p table op)) bytes
     ≡ Some (effects_of (opcode_at p table op) c None 0 0, bytes))
     → AreIn (written i) (effects_of (opcode_at p table op) c None 0 0).general
-    → (j : Instr) (rest : List ℕ) → ◌≡◌ {A = Option (Instr × List ℕ)} (Some (i, bytes)) (Some (j, rest))
+    → (j : Instr) (rest : List ℕ) → ◌≡◌ {A = Option (Instr × List ℕ)} (Some (i, bytes)) (Some
+    (j, rest))
     → RowAgrees p table op bytes j rest
 no_bytes p table op c i bytes r all j rest e =
     let q = pair i j bytes rest e in

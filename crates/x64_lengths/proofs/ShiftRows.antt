@@ -1,6 +1,6 @@
 -- The law for the groups 2, 3 and 11: C1, C6, C7, D3, F6 and F7.
-use Rattle.std.proofs.Common.{◌≡◌, ◌<◌, ℕ, ◌+◌, ◌*◌, ◌/◌, ◌%◌, Bool, true, false, not, cond, eqb, List, [], ◌∷◌, Some, None, refl, sym, ap, subst, ◌∙◌, arith}
-use Rattle.std.specs.Prelude.{◌&&◌, slice_index_or}
+use Rattle.std.proofs.Common.{◌≡◌, ◌<◌, ℕ, ◌+◌, ◌*◌, ◌/◌, Bool, true, false, not, cond, eqb, List, [], ◌∷◌, Some, None, refl, sym, ap, subst, ◌∙◌, arith}
+use Rattle.std.specs.Prelude.{slice_index_or}
 use Rattle.seh_num.specs.declared.width.Width.{Width}
 use Rattle.seh_num.specs.declared.width.Width.TheVariants.{W8}
 use Rattle.seh_num.specs.Widths.{bytes_of}
@@ -14,7 +14,7 @@ use Rattle.x64_instr.specs.declared.instruction.Direction.TheVariants as directi
 use Rattle.x64_instr.specs.declared.instruction.Count.TheVariants as counts
 use Rattle.x64_instr.specs.declared.instruction.Instr.{Instr}
 use Rattle.x64_instr.specs.declared.instruction.Instr.TheVariants as instrs
-use Rattle.x64_instr.specs.Reading.{Read, ◌>>=◌, byte, number, signed, bit}
+use Rattle.x64_instr.specs.Reading.{Read, ◌>>=◌, byte, number, bit}
 use Rattle.x64_instr.specs.Operands.{width_of, immediate_of, is_listed}
 use Rattle.x64_instr.specs.Spelling.{rm_extension, group_2_immediate, group_2_cl, group_3, group_11, plain_row}
 use Rattle.x64_instr.specs.Spelling as spelling
@@ -124,7 +124,8 @@ shift_row : row OneByte 0xC1 ≡ rows.Group groups.TwoImmediate
 unfolding row
 shift_row = refl
 
-shift_cell : (p : Prefixes) (k : ℕ) → ((f : Bool) → CellsAt groups.TwoImmediate (the_cell words.MbE) f k)
+shift_cell : (p : Prefixes) (k : ℕ) → ((f : Bool) → CellsAt groups.TwoImmediate
+    (the_cell words.MbE) f k)
     → GroupCell p 0xC1 groups.TwoImmediate (the_cell words.MbE) k 1
 unfolding by_prefix
 shift_cell p k h = record {
@@ -374,7 +375,8 @@ three_whole_agrees p bytes i rest e =
     by_reg p 0xF7 w (group_3 t w) bytes i rest
     (eight (ExtensionAgrees p 0xF7 w (group_3 t w) bytes i rest)
     (tests p 0xF7 groups.Three (the_cell words.Mz) t w
-    (whole_cell p (the_cell words.Mz) 0 (bytes_of (immediate_of w)) (each_form _ refl refl) refl refl
+    (whole_cell p (the_cell words.Mz) 0 (bytes_of (immediate_of w))
+    (each_form _ refl refl) refl refl
     (half_bytes_are (eqb (bit 3 p.rex) 1) p.operand_size)) bytes i rest)
     (λ to after m l h. absurd cc)
     (λ to after m l h. unary p 0xF7 groups.Three (the_cell words.ME) 2 w

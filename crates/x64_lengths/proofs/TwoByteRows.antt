@@ -1,8 +1,7 @@
 -- The law for the opcodes after 0F.
-use Rattle.std.proofs.Common.{◌≡◌, ◌<◌, ℕ, ◌+◌, ◌*◌, ◌/◌, ◌%◌, Bool, true, false, cond, eqb, List, [], ◌∷◌, Option, Some, None, refl, sym, ap, subst, ◌∙◌}
+use Rattle.std.proofs.Common.{◌≡◌, ◌<◌, ℕ, ◌+◌, ◌%◌, true, false, cond, eqb, List, Option, Some, None, refl, sym, ap, subst, ◌∙◌}
 use Rattle.seh_num.specs.declared.width.Width.TheVariants.{W8, W32}
 use Rattle.x64_instr.specs.declared.prefixes.Prefixes.{Prefixes}
-use Rattle.x64_instr.specs.declared.register.Reg.{Reg}
 use Rattle.x64_instr.specs.declared.operand.RegisterOrMemory.{RegisterOrMemory}
 use Rattle.x64_instr.specs.declared.instruction.Condition.{Condition}
 use Rattle.x64_instr.specs.declared.instruction.Extension.{Extension}
@@ -14,7 +13,6 @@ use Rattle.x64_instr.specs.Operands.{width_of, sized_narrow, rm_and_opcode_exten
 use Rattle.x64_instr.specs.Spelling.{r_rm, given, condition, jump_if, set_if, extend}
 use Rattle.x64_instr.proofs.Readers.{read_as, pair}
 use Rattle.x64_lengths.specs.declared.cell.Cell.{Cell}
-use Rattle.x64_lengths.specs.declared.cell.Row.{Row}
 use Rattle.x64_lengths.specs.declared.cell.Row.TheVariants as rows
 use Rattle.x64_lengths.specs.declared.words.TheConstants as words
 use Rattle.x64_lengths.specs.declared.spelled.Kind.TheVariants as kinds
@@ -44,7 +42,8 @@ cell_is op c t e p s =
     ap (λ size. cond (eqb (bit (0 + mandatory_number (or_66 size mandatories.Nothing))
     (mask TwoByte op)) 1) (by_prefix kinds.Legacy (or_66 size mandatories.Nothing) (row TwoByte op))
     rows.Undefined) s
-    ∙ ap (λ b. cond b (by_prefix kinds.Legacy mandatories.Nothing (row TwoByte op)) rows.Undefined) t
+    ∙ ap (λ b. cond b (by_prefix kinds.Legacy mandatories.Nothing
+    (row TwoByte op)) rows.Undefined) t
     ∙ e
 
 -- ---- UD2

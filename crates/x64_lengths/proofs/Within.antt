@@ -1,5 +1,5 @@
 -- The listed instructions take at most 15 bytes.
-use Rattle.std.proofs.Common.{◌≡◌, ◌≤◌, ℕ, zero, suc, ◌+◌, ◌*◌, ◌/◌, ◌%◌, Bool, true, false, not, cond, eqb, List, [], ◌∷◌, Option, Some, None, refl, sym, ap, ◌∙◌, arith, length}
+use Rattle.std.proofs.Common.{◌≡◌, ◌≤◌, ℕ, zero, suc, ◌+◌, ◌*◌, ◌/◌, ◌%◌, Bool, true, false, not, cond, eqb, List, [], ◌∷◌, Option, Some, None, ap, arith, length}
 use Rattle.std.specs.Prelude.{◌&&◌}
 use Rattle.seh_num.specs.declared.width.Width.{Width}
 use Rattle.seh_num.specs.declared.width.Width.TheVariants.{W8, W16, W32, W64}
@@ -13,7 +13,6 @@ use Rattle.x64_instr.specs.declared.operand.Operand.{Operand}
 use Rattle.x64_instr.specs.declared.operand.Operand.TheVariants as operands
 use Rattle.x64_instr.specs.declared.instruction.Extension.{Extension}
 use Rattle.x64_instr.specs.declared.instruction.Extension.TheVariants.{Sign, Zero}
-use Rattle.x64_instr.specs.declared.instruction.Operation.{Operation}
 use Rattle.x64_instr.specs.declared.instruction.Instr.{Instr}
 use Rattle.x64_instr.specs.declared.instruction.Instr.TheVariants as instrs
 use Rattle.x64_instr.specs.declared.instruction.Target.TheVariants.{Relative, Indirect}
@@ -22,7 +21,7 @@ use Rattle.x64_instr.specs.declared.instruction.Unary.TheVariants.{Not, Negate}
 use Rattle.x64_instr.specs.declared.instruction.Division.TheVariants.{Unsigned, Signed}
 use Rattle.x64_instr.specs.Reading.{Read, ◌>>=◌, byte, number, signed, extended, bit}
 use Rattle.x64_instr.specs.Operands.{width_of, sized, sized_narrow, immediate_of, register_of_reg_field, register_of_low_bits, index_of_sib, memory, displaced, sib_operand, memory_operand, place, modrm_with_register, modrm_with_opcode_extension, is_listed, rm_and_register, rm_and_opcode_extension, source}
-use Rattle.x64_instr.specs.Spelling.{rm_r, r_rm, rm_extension, given, operation, direction, condition, group_1, group_11, group_3, group_2_immediate, group_2_cl, group_5, move_immediate, sign_extend, extend, load, multiply_by, address_to, load_address, jump_if, set_if, jump, call, no_operation, arithmetic_form, arithmetic_row, plain_row, row, extend_row, two_byte_row, after_prefixes, after_size, instr}
+use Rattle.x64_instr.specs.Spelling.{rm_r, r_rm, rm_extension, given, operation, direction, condition, group_1, group_11, group_3, group_2_immediate, group_2_cl, group_5, move_immediate, extend, load, multiply_by, address_to, load_address, jump_if, set_if, arithmetic_form, arithmetic_row, plain_row, row, two_byte_row, after_prefixes, after_size, instr}
 use Rattle.x64_instr.proofs.Readers.{pair, bind_some}
 
 -- what is read takes at most n bytes
@@ -298,9 +297,12 @@ plain_row-IsWithin p op =
     (if-IsWithin 10 (eqb op 0xCC) _ _ (plain_done _)
     (if-IsWithin 10 (eqb op 0xD3) _ _ (rm_extension-IsWithin p w (group_2_cl w)
     (group_2_cl-IsWithin w))
-    (if-IsWithin 10 (eqb op 0xE8) _ _ (jump-IsWithin W32 (λ d. instrs.Call (Relative d)) (omega arith))
-    (if-IsWithin 10 (eqb op 0xE9) _ _ (jump-IsWithin W32 (λ d. instrs.Jump (Relative d)) (omega arith))
-    (if-IsWithin 10 (eqb op 0xEB) _ _ (jump-IsWithin W8 (λ d. instrs.Jump (Relative d)) (omega arith))
+    (if-IsWithin 10 (eqb op 0xE8) _ _ (jump-IsWithin W32 (λ d. instrs.Call (Relative d))
+    (omega arith))
+    (if-IsWithin 10 (eqb op 0xE9) _ _ (jump-IsWithin W32 (λ d. instrs.Jump (Relative d))
+    (omega arith))
+    (if-IsWithin 10 (eqb op 0xEB) _ _ (jump-IsWithin W8 (λ d. instrs.Jump (Relative d))
+    (omega arith))
     (if-IsWithin 10 (eqb op 0xFF) _ _ (rm_extension-IsWithin p W64 group_5 group_5-IsWithin)
     (fail-IsWithin 10)))))))))))))))))
 

@@ -1,4 +1,6 @@
 -- That the table agrees with the listed instructions of crate x64_instr.
+--
+-- The main definitions: `RowsAgree`, `Agreement`, `LengthsAgree`.
 use Rattle.std.specs.Prelude.{◌≡◌, ℕ, ◌==◌, false, List, [], ◌∷◌, Some}
 use Rattle.x64_instr.specs.declared.prefixes.Prefixes.{Prefixes}
 use Rattle.x64_instr.specs.declared.instruction.Instr.{Instr}
@@ -13,7 +15,6 @@ use Rattle.x64_lengths.specs.declared.spelled.Spelled.{Spelled}
 use Rattle.x64_lengths.specs.declared.effects.Effects.{Effects}
 use Rattle.x64_lengths.specs.Spelled.{is_legacy, made}
 use Rattle.x64_lengths.specs.Maps.{row_of}
-use Rattle.x64_lengths.specs.declared.measure.Measured.{Measured}
 use Rattle.x64_lengths.specs.Measures.{with_row, instruction, measured}
 
 -- each is in the set

@@ -1,5 +1,7 @@
--- What an instruction may write, and how the flow goes on. A set of registers is a number: bit r for
--- register r.
+-- What an instruction may write, and how the flow goes on. A set of registers is a number: bit r
+-- for register r.
+--
+-- The main definitions: `general`, `vectors`, `flow_of`, `effects_of`.
 use Rattle.std.specs.Prelude.{ℕ, ◌+◌, ◌-◌, ◌*◌, ◌/◌, ◌%◌, ◌^◌, ◌<◌, Bool, true, false, not, ◌==◌, ◌&&◌, ◌||◌, if◌then◌else◌, Option, Some, None, bit_or}
 use Rattle.seh_num.specs.declared.width.Width.TheVariants.{W8, W32, W64}
 use Rattle.x64_instr.specs.declared.operand.RegisterOrMemory.{RegisterOrMemory}

@@ -1,4 +1,6 @@
 -- The opcode maps as they are read.
+--
+-- The main definitions: `row`, `mask`, `row_of`, `by_modrm`.
 use Rattle.std.specs.Prelude.{ℕ, ◌+◌, ◌*◌, ◌/◌, ◌%◌, Bool, true, false, ◌==◌, if◌then◌else◌, List, [], Option, Some, None, slice_index_or}
 use Rattle.x64_instr.specs.Reading.{bit}
 use Rattle.x64_lengths.specs.declared.cell.Cell.{Cell}

@@ -37,9 +37,9 @@ pub enum Flow {
 pub struct Effects {
     /// The general registers that it may write: bit r for register r.
     pub general: u32,
-    /// The vector registers of which it may change the low 128 bits: bit r for register r. VZEROUPPER
-    /// changes those above alone. Where it writes an MMX or a mask register, the vector register of
-    /// the same number may be named.
+    /// The vector registers of which it may change the low 128 bits: bit r for register r.
+    /// VZEROUPPER changes those above alone. Where it writes an MMX or a mask register, the vector
+    /// register of the same number may be named.
     pub vectors: u32,
     pub flow: Flow,
     /// Its ModRM; none with EVEX or 67.

@@ -64,7 +64,7 @@ pub static PREFIXED: [[[Row; 4]; 4]; PREFIXED_ROWS] = [
     ],
     // P77
     [
-        [NONE, NONE, NONE, NONE],
+        [NONE, __, __, __],
         [NONE, __, __, __],
         [Z, __, __, __],
         [__, __, __, __],
@@ -85,7 +85,7 @@ pub static PREFIXED: [[[Row; 4]; 4]; PREFIXED_ROWS] = [
     ],
     // P7E
     [
-        [ME, ME, MV, ME],
+        [ME, ME, MV, __],
         [__, ME, MV, __],
         [__, __, __, __],
         [__, ME, MV, __],

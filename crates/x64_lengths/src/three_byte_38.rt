@@ -1,9 +1,9 @@
-//! The opcodes after 0F 38 (Intel manual, volume 2, appendix A, table A-4, "Three-byte Opcode Map"):
-//! rows by the opcode's high digit, columns by its low one.
+//! The opcodes after 0F 38 (Intel manual, volume 2, appendix A, table A-4, "Three-byte Opcode
+//! Map"): rows by the opcode's high digit, columns by its low one.
 
 use crate::cell::Row;
 use crate::words::{
-    __, G17, MG, MV, MW, Mm, Mo, P38F1, P38F5, P38F6, P3810, P3811, P3813, P3820, P3890,
+    __, G17, MG, MV, MW, Mm, Mo, P38F1, P38F5, P38F6, P3810, P3811, P3813, P3820, P3890, mG,
 };
 
 /// The opcodes after 0F 38.
@@ -18,7 +18,7 @@ pub static THREE_BYTE_38: [[Row; 16]; 16] = [
     ],
     // 20
     [
-        P3820, P3820, P3820, P3820, P3820, P3820, MV, MV, MV, MV, MV, MV, MV, MV, Mm, Mm,
+        P3820, P3820, P3820, P3820, P3820, P3820, Mo, Mo, MV, MV, MV, MV, MV, MV, Mm, Mm,
     ],
     // 30
     [
@@ -34,7 +34,7 @@ pub static THREE_BYTE_38: [[Row; 16]; 16] = [
     ],
     // 60
     [
-        __, __, MV, MW, MV, MV, MV, __, MV, __, __, __, __, __, __, __,
+        __, __, MV, MW, MV, MV, MV, __, Mo, __, __, __, __, __, __, __,
     ],
     // 70
     [
@@ -62,20 +62,20 @@ pub static THREE_BYTE_38: [[Row; 16]; 16] = [
     ],
     // D0
     [
-        __, __, __, __, __, __, __, __, __, __, __, MV, MV, MV, MV, MV,
+        __, __, MV, MV, __, __, __, __, __, __, MV, MV, MV, MV, MV, MV,
     ],
     // E0
     [
-        __, __, __, __, __, __, __, __, __, __, __, __, __, __, __, __,
+        mG, mG, mG, mG, mG, mG, mG, mG, mG, mG, mG, mG, mG, mG, mG, mG,
     ],
     // F0
     [
-        MG, P38F1, MG, G17, __, P38F5, P38F6, MG, Mm, Mm, __, __, __, __, __, __,
+        MG, P38F1, MG, G17, __, P38F5, P38F6, MG, Mm, Mm, __, __, Mm, __, __, __,
     ],
 ];
 
-/// The spellings of the opcodes after 0F 38, eight in a row: a hexadecimal digit each for EVEX, VEX.256,
-/// VEX.128 and legacy, whose bits are F2, F3, 66 and no mandatory prefix.
+/// The spellings of the opcodes after 0F 38, eight in a row: a hexadecimal digit each for EVEX,
+/// VEX.256, VEX.128 and legacy, whose bits are F2, F3, 66 and no mandatory prefix.
 pub static THREE_BYTE_38_SPELLINGS: [[u16; 8]; 32] = [
     // 00
     [
@@ -183,19 +183,19 @@ pub static THREE_BYTE_38_SPELLINGS: [[u16; 8]; 32] = [
     ],
     // D0
     [
-        0x0000, 0x0000, 0x0000, 0x0000, 0x0000, 0x0000, 0x0000, 0x0000,
+        0x0000, 0x0000, 0x0770, 0x0770, 0x0000, 0x0000, 0x0000, 0x0000,
     ],
     // D8
     [
-        0x0000, 0x0000, 0x0000, 0x0022, 0x2222, 0x2222, 0x2222, 0x2222,
+        0x0000, 0x0000, 0x0CF0, 0x0022, 0x2222, 0x2222, 0x2222, 0x2222,
     ],
     // E0
     [
-        0x0000, 0x0000, 0x0000, 0x0000, 0x0000, 0x0000, 0x0000, 0x0000,
+        0x0020, 0x0020, 0x0020, 0x0020, 0x0020, 0x0020, 0x0020, 0x0020,
     ],
     // E8
     [
-        0x0000, 0x0000, 0x0000, 0x0000, 0x0000, 0x0000, 0x0000, 0x0000,
+        0x0020, 0x0020, 0x0020, 0x0020, 0x0020, 0x0020, 0x0020, 0x0020,
     ],
     // F0
     [
@@ -203,6 +203,6 @@ pub static THREE_BYTE_38_SPELLINGS: [[u16; 8]; 32] = [
     ],
     // F8
     [
-        0x000E, 0x0001, 0x0000, 0x0000, 0x0000, 0x0000, 0x0000, 0x0000,
+        0x000E, 0x0001, 0x0000, 0x0000, 0x000F, 0x0000, 0x0000, 0x0000,
     ],
 ];

@@ -1,8 +1,8 @@
-//! The opcodes after 0F 3A (Intel manual, volume 2, appendix A, table A-5, "Three-byte Opcode Map"):
-//! rows by the opcode's high digit, columns by its low one.
+//! The opcodes after 0F 3A (Intel manual, volume 2, appendix A, table A-5, "Three-byte Opcode
+//! Map"): rows by the opcode's high digit, columns by its low one.
 
 use crate::cell::Row;
-use crate::words::{__, Mb0, MbC, MbE, MbG, MbV, MbW};
+use crate::words::{__, Mb, Mb0, MbC, MbE, MbG, MbV, MbW};
 
 /// The opcodes after 0F 3A.
 pub static THREE_BYTE_3A: [[Row; 16]; 16] = [
@@ -12,7 +12,7 @@ pub static THREE_BYTE_3A: [[Row; 16]; 16] = [
     ],
     // 10
     [
-        __, __, __, __, MbE, MbE, MbE, MbE, MbV, MbW, MbV, MbW, __, MbW, MbV, MbV,
+        __, __, __, __, MbE, MbE, MbE, MbE, MbV, MbW, MbV, MbW, __, MbW, Mb, Mb,
     ],
     // 20
     [
@@ -20,7 +20,7 @@ pub static THREE_BYTE_3A: [[Row; 16]; 16] = [
     ],
     // 30
     [
-        MbV, MbV, MbV, MbV, __, __, __, __, MbV, MbW, MbV, MbW, __, __, MbV, MbV,
+        Mb, Mb, Mb, Mb, __, __, __, __, MbV, MbW, MbV, MbW, __, __, Mb, Mb,
     ],
     // 40
     [
@@ -32,7 +32,7 @@ pub static THREE_BYTE_3A: [[Row; 16]; 16] = [
     ],
     // 60
     [
-        Mb0, MbC, Mb0, MbC, __, __, MbV, MbV, MbV, MbV, MbV, MbV, MbV, MbV, MbV, MbV,
+        Mb0, MbC, Mb0, MbC, __, __, Mb, Mb, MbV, MbV, MbV, MbV, MbV, MbV, MbV, MbV,
     ],
     // 70
     [
@@ -72,8 +72,8 @@ pub static THREE_BYTE_3A: [[Row; 16]; 16] = [
     ],
 ];
 
-/// The spellings of the opcodes after 0F 3A, eight in a row: a hexadecimal digit each for EVEX, VEX.256,
-/// VEX.128 and legacy, whose bits are F2, F3, 66 and no mandatory prefix.
+/// The spellings of the opcodes after 0F 3A, eight in a row: a hexadecimal digit each for EVEX,
+/// VEX.256, VEX.128 and legacy, whose bits are F2, F3, 66 and no mandatory prefix.
 pub static THREE_BYTE_3A_SPELLINGS: [[u16; 8]; 32] = [
     // 00
     [

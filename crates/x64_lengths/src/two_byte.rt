@@ -1,5 +1,5 @@
-//! The opcodes after 0F (Intel manual, volume 2, appendix A, table A-3, "Two-byte Opcode Map"): rows
-//! by the opcode's high digit, columns by its low one.
+//! The opcodes after 0F (Intel manual, volume 2, appendix A, table A-3, "Two-byte Opcode Map"):
+//! rows by the opcode's high digit, columns by its low one.
 
 use crate::cell::Row;
 use crate::words::{
@@ -76,8 +76,8 @@ pub static TWO_BYTE: [[Row; 16]; 16] = [
     ],
 ];
 
-/// The spellings of the opcodes after 0F, eight in a row: a hexadecimal digit each for EVEX, VEX.256,
-/// VEX.128 and legacy, whose bits are F2, F3, 66 and no mandatory prefix.
+/// The spellings of the opcodes after 0F, eight in a row: a hexadecimal digit each for EVEX,
+/// VEX.256, VEX.128 and legacy, whose bits are F2, F3, 66 and no mandatory prefix.
 pub static TWO_BYTE_SPELLINGS: [[u16; 8]; 32] = [
     // 00
     [
@@ -89,7 +89,7 @@ pub static TWO_BYTE_SPELLINGS: [[u16; 8]; 32] = [
     ],
     // 10
     [
-        0xFFFF, 0xFFFF, 0xFCFF, 0x303F, 0x3333, 0x3333, 0x7477, 0x303F,
+        0xFFFF, 0xFFFF, 0xFCFF, 0x3033, 0x3333, 0x3333, 0x7477, 0x3033,
     ],
     // 18
     [
@@ -101,11 +101,11 @@ pub static TWO_BYTE_SPELLINGS: [[u16; 8]; 32] = [
     ],
     // 28
     [
-        0x3333, 0x3333, 0xCCCF, 0x333F, 0xCCCF, 0xCCCF, 0x333F, 0x333F,
+        0x3333, 0x3333, 0xCCCF, 0x3333, 0xCCCF, 0xCCCF, 0x3333, 0x3333,
     ],
     // 30
     [
-        0x000F, 0x000F, 0x000F, 0x000F, 0x000F, 0x000F, 0x0000, 0x000F,
+        0x000F, 0x000F, 0x000F, 0x000F, 0x000F, 0x000F, 0x0000, 0x0001,
     ],
     // 38
     [
@@ -121,7 +121,7 @@ pub static TWO_BYTE_SPELLINGS: [[u16; 8]; 32] = [
     ],
     // 50
     [
-        0x033F, 0xFFFF, 0x0555, 0x0555, 0x3333, 0x3333, 0x3333, 0x3333,
+        0x0333, 0xFFFF, 0x0555, 0x0555, 0x3333, 0x3333, 0x3333, 0x3333,
     ],
     // 58
     [
@@ -137,11 +137,11 @@ pub static TWO_BYTE_SPELLINGS: [[u16; 8]; 32] = [
     ],
     // 70
     [
-        0xEEEF, 0x2223, 0x2223, 0x2223, 0x2223, 0x2223, 0x2223, 0x011F,
+        0xEEEF, 0x2223, 0x2223, 0x2223, 0x2223, 0x2223, 0x2223, 0x0111,
     ],
     // 78
     [
-        0xF001, 0xF001, 0xE000, 0xE000, 0x0AAA, 0x0AAA, 0x606F, 0xE667,
+        0xF001, 0xF001, 0xE000, 0xE000, 0x0AAA, 0x0AAA, 0x6067, 0xE667,
     ],
     // 80
     [
@@ -177,7 +177,7 @@ pub static TWO_BYTE_SPELLINGS: [[u16; 8]; 32] = [
     ],
     // C0
     [
-        0x000F, 0x000F, 0xFFFF, 0x000D, 0x2023, 0x202F, 0x3333, 0x000F,
+        0x000F, 0x000F, 0xFFFF, 0x0001, 0x2023, 0x2023, 0x3333, 0x000F,
     ],
     // C8
     [
@@ -185,7 +185,7 @@ pub static TWO_BYTE_SPELLINGS: [[u16; 8]; 32] = [
     ],
     // D0
     [
-        0x0AAA, 0x2223, 0x2223, 0x2223, 0x2223, 0x2223, 0x202E, 0x022F,
+        0x0AAA, 0x2223, 0x2223, 0x2223, 0x2223, 0x2223, 0x202E, 0x0223,
     ],
     // D8
     [
@@ -193,7 +193,7 @@ pub static TWO_BYTE_SPELLINGS: [[u16; 8]; 32] = [
     ],
     // E0
     [
-        0x2223, 0x2223, 0x2223, 0x2223, 0x2223, 0x2223, 0xEEEE, 0x222F,
+        0x2223, 0x2223, 0x2223, 0x2223, 0x2223, 0x2223, 0xEEEE, 0x2223,
     ],
     // E8
     [
@@ -201,7 +201,7 @@ pub static TWO_BYTE_SPELLINGS: [[u16; 8]; 32] = [
     ],
     // F0
     [
-        0x0888, 0x2223, 0x2223, 0x2223, 0x2223, 0x2223, 0x2223, 0x002F,
+        0x0888, 0x2223, 0x2223, 0x2223, 0x2223, 0x2223, 0x2223, 0x0023,
     ],
     // F8
     [

@@ -1,12 +1,13 @@
 //! The words of the opcode maps: what a cell says, by letters.
 //!
-//! - M ModRM follows, m in memory form alone, r in register form alone, a a register whatever mod is;
+//! - M ModRM follows, m in memory form alone, r in register form alone, a as a register always;
 //! - b, w, z, v, q, n an immediate of Ib, Iw, Iz, Iv, Ov, Iw and Ib;
-//! - E, G, O written: ModRM's r/m, its reg field, the opcode's low bits; e, g, o as a byte register;
-//! - A, D, C, B, S, P, I, J, R written: RAX, RDX, RCX, RBX, RSP, RBP, RSI, RDI, R11; y RCX where the
-//!   instruction is repeated; N the general register of VEX.vvvv;
-//! - V, W, Y, U, Z, X a vector register written: ModRM's reg field, its r/m, VEX.vvvv, the first and
-//!   the third, each, XMM0;
+//! - E, G, O written: ModRM's r/m, its reg field, the opcode's low bits; e, g, o the same as a byte
+//!   register;
+//! - A, D, C, B, S, P, I, J, R written: RAX, RDX, RCX, RBX, RSP, RBP, RSI, RDI, R11;
+//! - y written: RCX where the instruction is repeated; N the general register of VEX.vvvv;
+//! - V, W, Y, U, Z, X a vector register written: ModRM's reg field, its r/m, VEX.vvvv, the first
+//!   and the third, each, XMM0;
 //! - j, k, c, t, K, L, x, i the flow: conditional, a jump, a call, a return, an indirect jump, an
 //!   indirect call, no further, INT.
 

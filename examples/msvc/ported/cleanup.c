@@ -31,7 +31,7 @@ int main(void)
 
     for (i = 0; i < 4ull; ++i) {
         int hr = Run(main_steps[i]);
-        { int printed_0 = main_steps[i]; int printed_1 = ((int)(hr) >= 0); int printed_2 = hr == ((int)0x80070057); put(printed_0); put(printed_1); put(printed_2); } /* "step %d: %d %d\n" */
+        put((int)(main_steps[i])), put((int)(((int)(hr) >= 0))), put((int)(hr == ((int)0x80070057))); /* "step %d: %d %d\n" */
     }
     return 0;
 }

@@ -22,7 +22,7 @@ void Crash(int kind)
         else
             RaiseException(0xE0000000 | kind, 0, 0, 0);
     } __except (Keep(GetExceptionCode())) {
-        put((unsigned)(note_count)), put((unsigned)(note_code & 0xFF)); /* "crash %lu: code ends in %lu\n" */
+        { unsigned printed_0 = note_count; unsigned printed_1 = note_code & 0xFF; put(printed_0); put(printed_1); } /* "crash %lu: code ends in %lu\n" */
     }
 }
 

@@ -28,6 +28,6 @@ int main(void)
 
     for (int i = 0; i < 4; i++)
         counts[RunOne(i)]++;
-    put((int)(counts[0])), put((int)(counts[1])), put((int)(counts[2])); /* "%d passed, %d failed, %d crashed\n" */
+    { int printed_0 = counts[0]; int printed_1 = counts[1]; int printed_2 = counts[2]; put(printed_0); put(printed_1); put(printed_2); } /* "%d passed, %d failed, %d crashed\n" */
     return counts[0] == 1 ? 0 : 1;
 }
