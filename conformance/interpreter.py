@@ -1,3 +1,4 @@
+#!/usr/bin/env python3
 """What a case does, by the rules of structured exception handling: an interpreter that shares
 nothing with a compiler or a dispatcher. `interpreter.py FILE` prints what the program puts and how
 it ends.

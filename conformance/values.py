@@ -1,5 +1,5 @@
-"""Numbers and memory of the interpreter: C's types and conversions, where int and long have 32 bits,
-and bytes at addresses.
+"""Numbers and memory of the interpreter: C's types and conversions, where int and long have 32
+bits, and bytes at addresses.
 """
 from syntax import INT
 

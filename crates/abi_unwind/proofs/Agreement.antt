@@ -1,16 +1,13 @@
 -- The callers that and_parts unwinders find, where and_parts speak.
-use Rattle.std.proofs.Common.{◌≡◌, ℕ, ◌+◌, ◌-◌, ◌%◌, ◌^◌, ◌<◌, ◌≤◌, Bool, true, false, not, ◌&&◌, ◌||◌, ltb, leb, List, [], ◌∷◌, Option, Some, None, Ok, Err, refl, sym, ap, subst, ◌∙◌, inl, inr, arith}
+use Rattle.std.proofs.Common.{◌≡◌, ℕ, ◌-◌, ◌^◌, ◌<◌, ◌≤◌, Bool, true, false, ◌&&◌, ◌||◌, ltb, leb, List, [], ◌∷◌, Option, Some, None, Ok, Err, refl, sym, ap, subst, ◌∙◌, inl, inr, arith}
 use Rattle.std.proofs.lemmas.Bool.{and_parts, leb-true, le-leb, le-ltb}
 use Rattle.std.specs.Prelude.{is_some}
 use Rattle.seh_num.specs.Answers.{◌>>=◌}
 use Rattle.flat_memory.specs.Memory.{Memory}
-use Rattle.x64_instr.specs.declared.instruction.Instr.{Instr}
 use Rattle.x64_machine.specs.declared.context.Context.{Context}
-use Rattle.eh_tables.specs.declared.range.RuntimeFunction.{RuntimeFunction}
 use Rattle.eh_tables.specs.Infos.{Info}
 use Rattle.eh_tables.specs.Tables.{Entry, covers_address, entry_or, holding}
-use Rattle.virtual_unwind.specs.declared.refusal.UnwindErr.{UnwindErr}
-use Rattle.virtual_unwind.specs.declared.refusal.UnwindErr.TheVariants.{Unreadable, Backward}
+use Rattle.virtual_unwind.specs.declared.refusal.UnwindErr.TheVariants.{Unreadable}
 use Rattle.virtual_unwind.specs.Contexts.{rsp}
 use Rattle.virtual_unwind.specs.Undone as general
 use Rattle.virtual_unwind.specs.Undone.{Answer, Undo, operations, all_undone, popped, returned}
@@ -18,13 +15,11 @@ use Rattle.virtual_unwind.specs.Tail as profile
 use Rattle.virtual_unwind.specs.CallerOf as caller
 use Rattle.virtual_unwind.specs.CallerOf.{Functions, CallerFrame, distance, entry_of, has_frame, base_if, sets_frame, past_prologue, by_distance, rising, risen, caller_in}
 use Rattle.abi_unwind.specs.declared.context.AbiContext.{AbiContext}
-use Rattle.abi_unwind.specs.declared.tail.Part.{Part}
-use Rattle.abi_unwind.specs.declared.tail.End.{End}
 use Rattle.abi_unwind.specs.declared.tail.End.TheVariants.{Certain}
 use Rattle.abi_unwind.specs.Tail.{Tail, is_end, parts_if, kept, tail_at}
-use Rattle.abi_unwind.specs.Undone.{AbiUndo, returned_abi, popped_abi}
-use Rattle.abi_unwind.specs.Caller.{AbiFrame, found, codes_at, is_framed, establisher, ran, left, chain_undone, at_start, unwound, asked_at, root_of, abi_at, leaves, tail_of, leaf, of_entry, abi_caller}
-use Rattle.abi_unwind.specs.Laws.{chain_run, SpeaksOf, SeeAlike, BothSpeak, contexts_of, TheyAgree, TheyRefuse}
+use Rattle.abi_unwind.specs.Undone.{returned_abi, popped_abi}
+use Rattle.abi_unwind.specs.Caller.{found, codes_at, establisher, ran, at_start, unwound, abi_at, leaves, tail_of, of_entry, abi_caller}
+use Rattle.abi_unwind.specs.Laws.{chain_run, SeeAlike, BothSpeak, contexts_of, TheyAgree, TheyRefuse}
 use Rattle.abi_unwind.proofs.Undoings.{beside, chain_beside}
 use Rattle.abi_unwind.proofs.SameTails.{SameTail, tails_alike}
 
@@ -61,7 +56,8 @@ one_by_one m base ps (Err e) = refl
 codes_agree : (m : Memory) (base rva : ℕ) (e : Entry) (c : AbiContext)
     → chain_run rva e.range e.info e.parents ≡ true
     → unwound m base rva e c
-    ≡ with_vectors c.vectors (caller.unwound m base e.info e.parents (operations e.info.codes) c.general)
+    ≡ with_vectors c.vectors
+    (caller.unwound m base e.info e.parents (operations e.info.codes) c.general)
 codes_agree m base rva e c h =
     let start = caller.at_start c.general in
     ap (λ r. r >>= returned_abi m) (chain_beside m base rva e.range e.info e.parents (at_start c) h)
@@ -166,13 +162,15 @@ by_sight t m c rva d e past same run (inr p) =
 entry_agrees : (t : Functions) (m : Memory) (c : AbiContext) (o : Option Entry)
     → entry_of t c.general.rip ≡ o → BothSpeak t m c.general.rip o
     → contexts_of (of_entry t m c o)
-    ≡ with_vectors c.vectors (general_of (caller.of_entry m c.general (distance t.base c.general.rip) o))
+    ≡ with_vectors c.vectors
+    (general_of (caller.of_entry m c.general (distance t.base c.general.rip) o))
 entry_agrees t m c None h s =
     found_context _ _ _
     ∙ ap (with_vectors c.vectors) (sym (found_general (rsp c.general) None (popped m c.general)))
 entry_agrees t m c (Some e) h s =
     let rva = distance t.base c.general.rip in
-    let covers = and_parts (leb e.range.begin rva) (ltb rva e.range.end) (covered rva t.entries e h) in
+    let covers = and_parts (leb e.range.begin rva) (ltb rva e.range.end)
+    (covered rva t.entries e h) in
     let d = rva - e.range.begin in
     let small : rva < 2 ^ 64 = omega arith in
     let same : d ≡ distance e.range.begin rva =

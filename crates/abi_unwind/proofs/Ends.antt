@@ -1,5 +1,5 @@
 -- Whether a trailing part is an epilogue.
-use Rattle.std.proofs.Common.{◌≡◌, ℕ, Bool, true, false, List, Option, Some, None, Ok, refl, sym, ap, ◌∙◌}
+use Rattle.std.proofs.Common.{◌≡◌, ℕ, Bool, true, false, Option, Some, None, Ok, refl, sym, ap, ◌∙◌}
 use Rattle.flat_memory.specs.Memory.{Memory}
 use Rattle.x64_machine.specs.declared.context.Context.{Context}
 use Rattle.seh_num.specs.Answers.{◌>>=◌}
@@ -7,11 +7,10 @@ use Rattle.eh_tables.specs.Tables.{Entry}
 use Rattle.virtual_unwind.specs.Undone.{Answer}
 use Rattle.virtual_unwind.specs.CallerOf.{Functions, distance}
 use Rattle.abi_unwind.specs.declared.context.AbiContext.{AbiContext}
-use Rattle.abi_unwind.specs.declared.tail.Part.{Part}
 use Rattle.abi_unwind.specs.declared.tail.End.{End}
 use Rattle.abi_unwind.specs.Tail.{Tail, is_end, parts_if, kept, tail_at}
 use Rattle.abi_unwind.specs.Undone.{popped_abi}
-use Rattle.abi_unwind.specs.Caller.{AbiFrame, found, establisher, ran, left, abi_at, leaves, of_entry}
+use Rattle.abi_unwind.specs.Caller.{AbiFrame, found, establisher, ran, abi_at, leaves, of_entry}
 use Rattle.abi_unwind.specs.Ran.{ran_tail}
 
 one_pair : {x y : Answer Context × End} → Some x ≡ Some y → x ≡ y
@@ -44,7 +43,7 @@ kept_at m c rva e a end ls None h k = absurd cc
 kept_at m c rva e a end ls (Some t) h k =
     let same : t.end ≡ end = sym (ap (λ (x : Answer Context × End). x.1) (one_pair h)) in
     let run : ran m t.parts c.general ≡ a =
-      sym (ap (λ (x : Answer Context × End). x.0) (one_pair h)) in
+    sym (ap (λ (x : Answer Context × End). x.0) (one_pair h)) in
     ap (λ b. abi_at m c rva e (parts_if t b)) (ap (is_end ls) same ∙ sym k)
     ∙ ap (ended m c rva e) run
 
@@ -60,7 +59,8 @@ pub no_end : (t : Functions) (m : Memory) (c : AbiContext) (e : Entry) (a : Answ
     → false ≡ is_end (leaves t e) end
     → of_entry t m c (Some e) ≡ abi_at m c (distance t.base c.general.rip) e None
 no_end t m c e a end h k = ap (abi_at m c (distance t.base c.general.rip) e)
-    (not_kept m (Ok c.general) a end (leaves t e) (tail_at e.info.frame_register m c.general.rip) h k)
+    (not_kept m (Ok c.general) a end (leaves t e)
+    (tail_at e.info.frame_register m c.general.rip) h k)
 
 pub at_end : (t : Functions) (m : Memory) (c : AbiContext) (e : Entry) (a : Answer Context)
     (end : End)

@@ -2,12 +2,11 @@
 use Rattle.std.proofs.Common.{◌≡◌, ℕ, Option, Some, None, List, [], refl, sym, ap, ◌∙◌}
 use Rattle.std.specs.Prelude.{option_map}
 use Rattle.flat_memory.specs.Memory.{Memory}
-use Rattle.eh_tables.specs.declared.range.RuntimeFunction.{RuntimeFunction}
 use Rattle.eh_tables.specs.declared.lookup.FunctionEntry.{FunctionEntry}
 use Rattle.eh_tables.specs.Covering.{unchained}
 use Rattle.eh_tables.specs.Found.{function_entry}
 use Rattle.eh_tables.specs.Infos.{Info}
-use Rattle.eh_tables.specs.Tables.{Entry, Tables, entries_of, holding, TablesAreWhole}
+use Rattle.eh_tables.specs.Tables.{Entry, Tables, TablesAreWhole}
 use Rattle.eh_tables.proofs.KnownEntries.{found_unchained}
 use Rattle.virtual_unwind.specs.CallerOf.{Functions, functions_of, distance}
 use Rattle.abi_unwind.specs.declared.context.AbiContext.{AbiContext}

@@ -1,5 +1,5 @@
 -- Epilogues of the forms that and_parts unwinders know, as each of them reads them.
-use Rattle.std.proofs.Common.{◌≡◌, ◌≢◌, ℕ, zero, suc, ◌+◌, ◌-◌, ◌*◌, ◌/◌, ◌%◌, ◌^◌, ◌<◌, ◌≤◌, Bool, true, false, not, ◌&&◌, ◌||◌, ◌==◌, nat_le, if◌then◌else◌, List, [], ◌∷◌, length, option_map, Option, Some, None, Ok, Err, refl, sym, ap, subst, ◌∙◌, arith}
+use Rattle.std.proofs.Common.{◌≡◌, ℕ, zero, suc, ◌+◌, ◌-◌, ◌*◌, ◌/◌, ◌%◌, ◌^◌, ◌<◌, Bool, true, false, not, ◌&&◌, ◌||◌, ◌==◌, nat_le, if◌then◌else◌, List, [], ◌∷◌, length, option_map, Option, Some, None, Ok, refl, sym, ap, subst, ◌∙◌, arith}
 use Rattle.std.proofs.lemmas.Bool.{and_parts, eqb-true, eq-eqb, ne_eqb}
 use Rattle.seh_num.specs.declared.width.Width.TheVariants.{W8, W32, W64}
 use Rattle.seh_num.specs.Answers.{◌>>=◌}
@@ -20,7 +20,7 @@ use Rattle.x64_instr.specs.Spelling.{instr, leading, after_size, after_prefixes,
 use Rattle.x64_instr.proofs.RegisterNumbers.{number_register}
 use Rattle.x64_machine.specs.declared.context.Context.{Context}
 use Rattle.virtual_unwind.specs.Contexts.{get, set, rsp, with_rsp, rsp_raised}
-use Rattle.virtual_unwind.specs.Undone.{Answer, word, popped}
+use Rattle.virtual_unwind.specs.Undone.{word, popped}
 use Rattle.virtual_unwind.specs.declared.tail.Role.TheVariants.{Opens, Ends}
 use Rattle.virtual_unwind.specs.Tail as profile
 use Rattle.virtual_unwind.specs.Tail.{FetchedInstr, item_of, is_plain, role_of, left_by}
@@ -87,7 +87,8 @@ rex_pop_spelled r a rest e h =
     let is : a ≡ 88 + a % 8 = omega arith in
     let low : 8 * bit 0 (r % 16) + a % 8 ≡ 8 * (r % 2) + a % 8 = omega arith in
     prefixed r a rest e
-    ∙ ap (λ x. after_prefixes (record { operand_size = false; has_rex = true; rex = r % 16 }) x rest) is
+    ∙ ap (λ x. after_prefixes
+    (record { operand_size = false; has_rex = true; rex = r % 16 }) x rest) is
     ∙ pop_row (r % 16) (a % 8) rest (omega arith)
     ∙ ap (λ x. Some (instrs.Pop (register x), rest)) low
 
@@ -159,7 +160,7 @@ register_small b r k e = go (byte 0 b / 8 == 0x0B) (is_rex_pop b) e
         let which : byte 0 b % 8 ≡ r = ap (λ (x : ℕ × ℕ). x.0) (one_pair h) in omega arith
     go false true h =
         let which : 8 * (byte 0 b % 2) + byte 1 b % 8 ≡ r =
-          ap (λ (x : ℕ × ℕ). x.0) (one_pair h) in omega arith
+        ap (λ (x : ℕ × ℕ). x.0) (one_pair h) in omega arith
     go false false h = absurd cc
 
 pub pop_does : (m : Memory) (c : Context) (b : List ℕ) (r k : ℕ) → popping b ≡ Some (r, k)
@@ -276,7 +277,8 @@ short_lea_spelled zero (suc (suc (suc (suc zero)))) d rest g h k = absurd cc
 short_lea_spelled zero (suc (suc (suc (suc (suc zero))))) d rest g h k = refl
 short_lea_spelled zero (suc (suc (suc (suc (suc (suc zero)))))) d rest g h k = refl
 short_lea_spelled zero (suc (suc (suc (suc (suc (suc (suc zero))))))) d rest g h k = refl
-short_lea_spelled zero (suc (suc (suc (suc (suc (suc (suc (suc n)))))))) d rest g h k = absurd (omega arith)
+short_lea_spelled zero (suc (suc (suc (suc (suc (suc (suc (suc n)))))))) d rest g h k =
+    absurd (omega arith)
 short_lea_spelled (suc zero) zero d rest g h k = refl
 short_lea_spelled (suc zero) (suc zero) d rest g h k = refl
 short_lea_spelled (suc zero) (suc (suc zero)) d rest g h k = refl
@@ -285,8 +287,10 @@ short_lea_spelled (suc zero) (suc (suc (suc (suc zero)))) d rest g h k = absurd 
 short_lea_spelled (suc zero) (suc (suc (suc (suc (suc zero))))) d rest g h k = refl
 short_lea_spelled (suc zero) (suc (suc (suc (suc (suc (suc zero)))))) d rest g h k = refl
 short_lea_spelled (suc zero) (suc (suc (suc (suc (suc (suc (suc zero))))))) d rest g h k = refl
-short_lea_spelled (suc zero) (suc (suc (suc (suc (suc (suc (suc (suc n)))))))) d rest g h k = absurd (omega arith)
-short_lea_spelled (suc (suc n)) low d rest g h k = absurd (omega arith)
+short_lea_spelled (suc zero) (suc (suc (suc (suc (suc (suc (suc (suc n)))))))) d rest g h k =
+    absurd (omega arith)
+short_lea_spelled (suc (suc n)) low d rest g h k =
+    absurd (omega arith)
 
 long_lea_spelled : (y low a b c d : ℕ) (rest : List ℕ) → y < 2 → low < 8 → not (low == 4) ≡ true
     → instr ((0x48 + y) ∷ 0x8D ∷ (0xA0 + low) ∷ a ∷ b ∷ c ∷ d ∷ rest)
@@ -300,7 +304,8 @@ long_lea_spelled zero (suc (suc (suc (suc zero)))) a b c d rest g h k = absurd c
 long_lea_spelled zero (suc (suc (suc (suc (suc zero))))) a b c d rest g h k = refl
 long_lea_spelled zero (suc (suc (suc (suc (suc (suc zero)))))) a b c d rest g h k = refl
 long_lea_spelled zero (suc (suc (suc (suc (suc (suc (suc zero))))))) a b c d rest g h k = refl
-long_lea_spelled zero (suc (suc (suc (suc (suc (suc (suc (suc n)))))))) a b c d rest g h k = absurd (omega arith)
+long_lea_spelled zero (suc (suc (suc (suc (suc (suc (suc (suc n)))))))) a b c d rest g h k =
+    absurd (omega arith)
 long_lea_spelled (suc zero) zero a b c d rest g h k = refl
 long_lea_spelled (suc zero) (suc zero) a b c d rest g h k = refl
 long_lea_spelled (suc zero) (suc (suc zero)) a b c d rest g h k = refl
@@ -309,8 +314,10 @@ long_lea_spelled (suc zero) (suc (suc (suc (suc zero)))) a b c d rest g h k = ab
 long_lea_spelled (suc zero) (suc (suc (suc (suc (suc zero))))) a b c d rest g h k = refl
 long_lea_spelled (suc zero) (suc (suc (suc (suc (suc (suc zero)))))) a b c d rest g h k = refl
 long_lea_spelled (suc zero) (suc (suc (suc (suc (suc (suc (suc zero))))))) a b c d rest g h k = refl
-long_lea_spelled (suc zero) (suc (suc (suc (suc (suc (suc (suc (suc n)))))))) a b c d rest g h k = absurd (omega arith)
-long_lea_spelled (suc (suc n)) low a b c d rest g h k = absurd (omega arith)
+long_lea_spelled (suc zero) (suc (suc (suc (suc (suc (suc (suc (suc n)))))))) a b c d rest g h k =
+    absurd (omega arith)
+long_lea_spelled (suc (suc n)) low a b c d rest g h k =
+    absurd (omega arith)
 
 -- what the bytes of `lea rsp` are, where it is read so
 pub record LeaBytes (f form x y z : ℕ) : Type 0 where

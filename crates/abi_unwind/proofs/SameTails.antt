@@ -1,5 +1,5 @@
 -- A trailing part of the forms that and_parts unwinders know makes the same of a context.
-use Rattle.std.proofs.Common.{◌≡◌, ℕ, zero, suc, ◌+◌, ◌%◌, ◌^◌, ◌<◌, ◌≤◌, Bool, true, false, not, ◌&&◌, ◌==◌, List, [], ◌∷◌, Option, Some, None, Ok, Err, refl, sym, ap, subst, ◌∙◌, arith}
+use Rattle.std.proofs.Common.{◌≡◌, ℕ, zero, suc, ◌+◌, ◌%◌, ◌^◌, ◌≤◌, Bool, true, false, not, ◌==◌, List, [], ◌∷◌, Option, Some, None, Ok, Err, refl, ap, ◌∙◌, arith}
 use Rattle.std.proofs.lemmas.Bool.{and_parts}
 use Rattle.seh_num.specs.declared.size.TheConstants.{LONGEST_INSTRUCTION}
 use Rattle.seh_num.specs.Answers.{◌>>=◌}
@@ -19,7 +19,7 @@ use Rattle.abi_unwind.specs.declared.tail.End.TheVariants.{Certain}
 use Rattle.abi_unwind.specs.Tail.{Tail, popping, opening, end_at, before, ended, pops_then, pops, pops_at, opened_or, tail_at}
 use Rattle.abi_unwind.specs.Caller.{ran_one, ran}
 use Rattle.abi_unwind.specs.Laws.{is_plain_end, plain_or, plain_pops, plain_pops_at, plain_opened, plain_tail}
-use Rattle.abi_unwind.proofs.PlainTails.{made, pop_item, pop_does, opened_alike, ended_alike}
+use Rattle.abi_unwind.proofs.PlainTails.{pop_item, pop_does, opened_alike, ended_alike}
 
 pub record SameTail (m : Memory) (o : Option (List Instr)) (p : Option Tail) : Type 0 where
   pub instrs : List Instr
@@ -66,8 +66,8 @@ moved m o o' q q' e g w = record {
   same = w.same;
 }
 
-end_only : (others : ℕ → Option (List Instr)) (first : Bool) (x : FetchedInstr) (r : Role) → r ≡ Ends
-    → by_role others first x r ≡ Some (x.instr ∷ [])
+end_only : (others : ℕ → Option (List Instr)) (first : Bool) (x : FetchedInstr) (r : Role)
+    → r ≡ Ends → by_role others first x r ≡ Some (x.instr ∷ [])
 end_only others first x r e = ap (by_role others first x) e
 
 opened_only : (others : ℕ → Option (List Instr)) (x : FetchedInstr) (r : Role) → r ≡ Opens
@@ -78,14 +78,16 @@ by_pop : (m : Memory) (f at : ℕ) (first : Bool) (b : List ℕ) (x : Option (�
     (others : ℕ → Option (List Instr)) (tails : ℕ → Option Tail) → popping b ≡ x
     → plain_or plain (is_plain_end b) x ≡ true
     → ((k : ℕ) → plain k ≡ true → SameTail m (others k) (tails k))
-    → SameTail m (from_item others f first (item_of b (leading b))) (pops_then tails (end_at at b) x)
+    → SameTail m (from_item others f first (item_of b (leading b)))
+    (pops_then tails (end_at at b) x)
 by_pop m f at first b None plain others tails p e h =
     let w = ended_alike f at b e in
     record {
       instrs = w.instr ∷ [];
       tail = record { parts = []; end = Certain };
       one = ap (from_item others f first) w.is
-          ∙ end_only others first (record { instr = w.instr; size = w.size; plain = is_plain b w.size w.instr })
+          ∙ end_only others first
+          (record { instr = w.instr; size = w.size; plain = is_plain b w.size w.instr })
           (role_of f (is_plain b w.size w.instr) w.instr) w.role;
       other = ap ended w.certain;
       certain = refl;

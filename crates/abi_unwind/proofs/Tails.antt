@@ -1,5 +1,5 @@
 -- One part more of an epilogue.
-use Rattle.std.proofs.Common.{◌≡◌, ℕ, zero, suc, ◌+◌, ◌%◌, ◌^◌, ◌<◌, Bool, true, false, Option, Some, None, Ok, Err, List, [], ◌∷◌, refl, sym, ap, ◌∙◌, arith}
+use Rattle.std.proofs.Common.{◌≡◌, ℕ, zero, suc, ◌+◌, ◌%◌, ◌^◌, ◌<◌, Option, Some, None, Ok, Err, [], refl, sym, ap, ◌∙◌, arith}
 use Rattle.flat_memory.specs.Memory.{Memory, executable}
 use Rattle.seh_num.specs.declared.size.TheConstants.{LONGEST_INSTRUCTION}
 use Rattle.x64_machine.specs.declared.context.Context.{Context}
@@ -10,7 +10,7 @@ use Rattle.abi_unwind.specs.declared.tail.Part.TheVariants.{Restore}
 use Rattle.abi_unwind.specs.declared.tail.End.{End}
 use Rattle.abi_unwind.specs.declared.tail.Next.{Next}
 use Rattle.abi_unwind.specs.declared.tail.Next.TheVariants.{Pops, Ends, Other}
-use Rattle.abi_unwind.specs.Tail.{Tail, popping, end_at, opening, before, pops_then, ended, pops, pops_at, opened_or, tail_at}
+use Rattle.abi_unwind.specs.Tail.{Tail, popping, end_at, before, pops_then, pops, pops_at, opened_or, tail_at}
 use Rattle.abi_unwind.specs.Caller.{ran_one, ran}
 use Rattle.abi_unwind.specs.Ran.{then_ran, ran_tail, next_from, next_at, opening_at, by_next}
 
@@ -76,7 +76,8 @@ unfolding tail_at opening_at
 opened_with m c f at x e = ap (opened_or (pops_at m at) (λ k. pops_at m ((at + k) % 2 ^ 64))) e
 
 pub opened : (m : Memory) (c : Context) (f at k : ℕ) (p : Part) → Some (p, k) ≡ opening_at f m at
-    → ran_tail m (ran_one m c p) (pops_at m ((at + k) % 2 ^ 64)) ≡ ran_tail m (Ok c) (tail_at f m at)
+    → ran_tail m (ran_one m c p) (pops_at m ((at + k) % 2 ^ 64))
+    ≡ ran_tail m (Ok c) (tail_at f m at)
 opened m c f at k p e =
     sym (ap (ran_tail m (Ok c)) (opened_with m c f at (Some (p, k)) (sym e))
     ∙ ran-before m (Ok c) p (pops_at m ((at + k) % 2 ^ 64)))

@@ -1,9 +1,8 @@
 -- Codes that save no vector register, undone with vector registers and without.
-use Rattle.std.proofs.Common.{◌≡◌, ℕ, ◌+◌, ◌-◌, ◌%◌, ◌^◌, ◌≤◌, Bool, true, false, ◌&&◌, not, leb, List, [], ◌∷◌, Option, Some, None, Ok, Err, refl, sym, ap, ◌∙◌}
+use Rattle.std.proofs.Common.{◌≡◌, ℕ, Bool, true, false, not, leb, List, [], ◌∷◌, Ok, Err, refl, ap, ◌∙◌}
 use Rattle.std.proofs.lemmas.Bool.{and_parts}
 use Rattle.flat_memory.specs.Memory.{Memory}
 use Rattle.seh_num.specs.Answers.{◌>>=◌}
-use Rattle.x64_machine.specs.declared.context.Context.{Context}
 use Rattle.eh_tables.specs.declared.range.RuntimeFunction.{RuntimeFunction}
 use Rattle.eh_tables.specs.declared.code.UnwindOperation.{UnwindOperation}
 use Rattle.eh_tables.specs.declared.code.UnwindOperation.TheVariants.{Push, Allocate, SetFrame, Save, SaveVector, MachineFrame}
@@ -12,7 +11,6 @@ use Rattle.eh_tables.specs.Infos.{Info}
 use Rattle.virtual_unwind.specs.Undone as general
 use Rattle.virtual_unwind.specs.Undone.{Answer, Undo, operations, all_undone}
 use Rattle.virtual_unwind.specs.CallerOf.{distance, run_or, run_by}
-use Rattle.abi_unwind.specs.declared.context.AbiContext.{AbiContext}
 use Rattle.abi_unwind.specs.Undone.{AbiUndo, undone_one, undone}
 use Rattle.abi_unwind.specs.Caller.{codes_at, parent_or, chain_undone}
 use Rattle.abi_unwind.specs.Laws.{saves_vector, are_run, chain_run}
@@ -80,7 +78,8 @@ none_more (Err e) = refl
 pub chain_beside : (m : Memory) (base rva : ℕ) (r : RuntimeFunction) (i : Info) (ps : List Info)
     (u : AbiUndo) → chain_run rva r i ps ≡ true
     → chain_undone m base rva r i ps u
-    ≡ beside u.vectors (general.undone m base i (operations i.codes) u.general >>= all_undone m base ps)
+    ≡ beside u.vectors
+    (general.undone m base i (operations i.codes) u.general >>= all_undone m base ps)
 chain_beside m base rva r i [] u e =
     own_beside m base (distance r.begin rva) i u e
     ∙ ap (beside u.vectors) (last (general.undone m base i (operations i.codes) u.general))

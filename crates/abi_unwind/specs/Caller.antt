@@ -1,6 +1,8 @@
 -- The caller of a frame, as Windows finds it: the epilogue is looked for first, then codes are
 -- undone (Microsoft x64 ABI, "Unwind procedure").
-use Rattle.std.specs.Prelude.{ℕ, ◌+◌, ◌%◌, ◌^◌, Bool, true, false, not, ◌==◌, ◌&&◌, ◌||◌, nat_lt, nat_le, if◌then◌else◌, is_some, List, [], ◌∷◌, Option, Some, None, Ok}
+--
+-- The main definition: `abi_caller`.
+use Rattle.std.specs.Prelude.{ℕ, ◌+◌, ◌%◌, ◌^◌, Bool, true, false, not, ◌==◌, ◌&&◌, ◌||◌, nat_le, if◌then◌else◌, is_some, List, [], ◌∷◌, Option, Some, None, Ok}
 use Rattle.seh_num.specs.Answers.{◌>>=◌}
 use Rattle.flat_memory.specs.Memory.{Memory}
 use Rattle.x64_machine.specs.declared.context.Context.{Context}
@@ -10,7 +12,7 @@ use Rattle.eh_tables.specs.declared.code.UnwindOperation.{UnwindOperation}
 use Rattle.eh_tables.specs.Infos.{Info}
 use Rattle.eh_tables.specs.Tables.{Entry, covers_address}
 use Rattle.virtual_unwind.specs.Contexts.{get, set, rsp, with_rsp, rsp_raised}
-use Rattle.virtual_unwind.specs.Undone.{Answer, word, operations, popped}
+use Rattle.virtual_unwind.specs.Undone.{Answer, word, operations}
 use Rattle.virtual_unwind.specs.CallerOf.{Functions, distance, entry_of, has_frame, sets_frame, base_if, run_by}
 use Rattle.abi_unwind.specs.declared.context.AbiContext.{AbiContext}
 use Rattle.abi_unwind.specs.declared.tail.Part.{Part}
@@ -115,11 +117,13 @@ leaves_to e rva (Some o) =
     || (rva == (root_of e).range.begin)
 
 -- inside it: to its begin, where the info isn't chained
+abbrev pub leaves_inside : Entry → ℕ → Bool
+leaves_inside e rva = (rva == e.range.begin) && not (is_some e.info.parent)
+
 abbrev pub leaves : Functions → Entry → ℕ → Bool
 leaves t e to =
     let rva = distance t.base to in
-    if covers_address rva e.range then (rva == e.range.begin) && not (is_some e.info.parent)
-    else leaves_to e rva (entry_of t to)
+    if covers_address rva e.range then leaves_inside e rva else leaves_to e rva (entry_of t to)
 
 -- ---- by the function tables
 
@@ -137,5 +141,6 @@ of_entry t m c (Some e) =
 abbrev pub entry_at_rip : Functions → AbiContext → Option Entry
 entry_at_rip t c = entry_of t c.general.rip
 
+-- the caller's frame, or the first word of the stack that is needed and may not be read
 unfoldable pub abi_caller : Functions → Memory → AbiContext → Answer AbiFrame
 abi_caller t m c = of_entry t m c (entry_at_rip t c)

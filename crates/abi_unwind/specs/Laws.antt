@@ -1,5 +1,7 @@
 -- Where the callers of crate virtual_unwind and of this one agree.
-use Rattle.std.specs.Prelude.{◌≡◌, ◌≢◌, ◌≤◌, ℕ, zero, suc, ◌+◌, ◌-◌, ◌%◌, ◌^◌, Bool, true, false, not, ◌==◌, ◌&&◌, ◌||◌, nat_le, ◌⊎◌, List, [], ◌∷◌, length, Option, Some, None, Ok, Err}
+--
+-- The main definitions: `TheyAgree`, `TheyRefuse`.
+use Rattle.std.specs.Prelude.{◌≡◌, ◌≤◌, ℕ, zero, suc, ◌+◌, ◌-◌, ◌%◌, ◌^◌, Bool, true, false, not, ◌==◌, ◌&&◌, ◌||◌, nat_le, ◌⊎◌, List, [], ◌∷◌, length, Option, Some, None, Ok, Err}
 use Rattle.seh_num.specs.declared.size.TheConstants.{LONGEST_INSTRUCTION}
 use Rattle.seh_num.specs.Answers.{◌>>=◌}
 use Rattle.flat_memory.specs.Memory.{Memory, executable}
@@ -15,7 +17,7 @@ use Rattle.virtual_unwind.specs.Undone.{Answer}
 use Rattle.virtual_unwind.specs.CallerOf.{Functions, CallerFrame, distance, entry_of, caller_in}
 use Rattle.abi_unwind.specs.declared.context.AbiContext.{AbiContext}
 use Rattle.abi_unwind.specs.declared.tail.Part.{Part}
-use Rattle.abi_unwind.specs.Tail.{byte, popping, opening, abi_tail}
+use Rattle.abi_unwind.specs.Tail.{byte, popping, opening}
 use Rattle.abi_unwind.specs.Caller.{AbiFrame, parent_or, tail_of, abi_caller}
 
 -- ---- codes of which both speak: the instructions of all lie before RIP, and none saves a vector

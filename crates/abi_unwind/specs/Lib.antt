@@ -2,6 +2,7 @@ pub mod Contexts
 pub mod Tail
 pub mod Undone
 pub mod Caller
+pub mod Each
 pub mod Views
 pub mod Ran
 pub mod Laws

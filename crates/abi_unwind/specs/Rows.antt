@@ -2,7 +2,6 @@
 use Rattle.std.specs.Prelude.{◌≡◌, ℕ, ◌+◌, ◌-◌, ◌*◌, ◌/◌, ◌%◌, ◌^◌, true, false, nat_lt, if◌then◌else◌, List, [], ◌∷◌, Option, Some, None, Ok, Err, slice_index}
 use Rattle.flat_memory.specs.declared.protection.Rights.TheVariants.{Nothing, Read}
 use Rattle.flat_memory.specs.Memory.{Memory}
-use Rattle.eh_tables.specs.declared.range.RuntimeFunction.{RuntimeFunction}
 use Rattle.eh_tables.specs.Infos.{Info, info_of}
 use Rattle.eh_tables.specs.Tables.{Entry}
 use Rattle.virtual_unwind.specs.Contexts.{get}
@@ -56,7 +55,8 @@ pub record NoTails : Type 0 where
   pub switch : outside 0 (0xFF ∷ 0x24 ∷ 0xC8 ∷ []) ≡ None
   pub other_register : outside 3 (0x48 ∷ 0x8D ∷ 0x65 ∷ 0x10 ∷ 0x5D ∷ 0xC3 ∷ []) ≡ None
   pub no_frame : outside 0 (0x48 ∷ 0x8D ∷ 0x60 ∷ 0x10 ∷ 0xC3 ∷ []) ≡ None
-  pub two_adds : outside 0 (0x48 ∷ 0x83 ∷ 0xC4 ∷ 0x08 ∷ 0x48 ∷ 0x83 ∷ 0xC4 ∷ 0x20 ∷ 0xC3 ∷ []) ≡ None
+  pub two_adds : outside 0
+      (0x48 ∷ 0x83 ∷ 0xC4 ∷ 0x08 ∷ 0x48 ∷ 0x83 ∷ 0xC4 ∷ 0x20 ∷ 0xC3 ∷ []) ≡ None
   pub late_add : outside 0 (0x5F ∷ 0x48 ∷ 0x83 ∷ 0xC4 ∷ 0x20 ∷ 0xC3 ∷ []) ≡ None
   pub two_prefixes : outside 0 (0xF2 ∷ 0xF2 ∷ 0xC3 ∷ []) ≡ None
 
@@ -105,6 +105,10 @@ entry begin end bytes parents =
       parents = parents;
     }
 
+-- a table of one entry, of n bytes from 2000 on
+abbrev pub alone : ℕ → List ℕ → List Entry
+alone n bytes = entry 0x2000 (0x2000 + n) bytes [] ∷ []
+
 -- the establisher frame, and RIP, RSP, RBX, RBP and RDI of the caller
 abbrev pub numbers_of : Answer AbiFrame → List ℕ
 numbers_of (Err e) = []
@@ -127,8 +131,9 @@ handler_of (Ok f) = handler_asked f.asked
 abbrev pub at : List Entry → List ℕ → ℕ → ℕ → Answer AbiFrame
 at entries bytes d rbp = abi_caller (functions entries) (worked_memory bytes) (context_at d rbp)
 
--- `mov [rsp+8],rbx; push rdi; sub rsp,20h; mov rbx,rcx; mov rdi,rcx; mov rbx,[rsp+30h]; add rsp,20h;
--- pop rdi; ret`; RBX saved 48 bytes above the frame at 0A, 32 bytes allocated at 0A, RDI pushed at 06
+-- `mov [rsp+8],rbx; push rdi; sub rsp,20h; mov rbx,rcx; mov rdi,rcx; mov rbx,[rsp+30h]; add
+-- rsp,20h; pop rdi; ret`; RBX saved 48 bytes above the frame at 0A, 32 bytes allocated at 0A, RDI
+-- pushed at 06
 abbrev pub saving : List ℕ
 saving =
     0x48 ∷ 0x89 ∷ 0x5C ∷ 0x24 ∷ 0x08 ∷ 0x57 ∷ 0x48 ∷ 0x83 ∷ 0xEC ∷ 0x20 ∷ 0x48 ∷ 0x8B ∷ 0xD9
@@ -158,7 +163,7 @@ abbrev pub allocating : List ℕ → List ℕ
 allocating bytes = 0x48 ∷ 0x83 ∷ 0xEC ∷ 0x28 ∷ bytes
 
 abbrev pub allocating_entry : ℕ → List Entry
-allocating_entry n = entry 0x2000 (0x2000 + n) (1 ∷ 4 ∷ 1 ∷ 0 ∷ 4 ∷ 0x42 ∷ 0 ∷ 0 ∷ []) [] ∷ []
+allocating_entry n = alone n (1 ∷ 4 ∷ 1 ∷ 0 ∷ 4 ∷ 0x42 ∷ 0 ∷ 0 ∷ [])
 
 -- the frame still there, and gone
 abbrev pub framed : List ℕ
@@ -169,16 +174,16 @@ gone = 0x10000 ∷ 0x1000 ∷ 0x10008 ∷ 3 ∷ 5 ∷ 7 ∷ []
 
 -- a jump: out of the range; within it; to the begin; by a register, with REX.W and without
 pub record Jumps : Type 0 where
-  pub tail_call : numbers_of (at (allocating_entry 9) (allocating (0xE9 ∷ 0 ∷ 0x10 ∷ 0 ∷ 0 ∷ [])) 4 5)
-      ≡ gone
+  pub tail_call :
+      numbers_of (at (allocating_entry 9) (allocating (0xE9 ∷ 0 ∷ 0x10 ∷ 0 ∷ 0 ∷ [])) 4 5) ≡ gone
   pub inside : numbers_of (at (allocating_entry 8) (allocating (0xEB ∷ 0 ∷ 0x90 ∷ 0x90 ∷ [])) 4 5)
       ≡ framed
   pub begin : numbers_of (at (allocating_entry 6) (allocating (0xEB ∷ 0xFA ∷ [])) 4 5) ≡ gone
   pub wide : numbers_of (at (allocating_entry 7) (allocating (0x48 ∷ 0xFF ∷ 0xE0 ∷ [])) 4 5) ≡ gone
   pub narrow : numbers_of (at (allocating_entry 6) (allocating (0xFF ∷ 0xE0 ∷ [])) 4 5) ≡ framed
 
--- A function in two parts: that entry, and one from 2040 to 2060 that is chained to it and allocates
--- nothing more. Its info names its parent, from 2000 on
+-- A function in two parts: that entry, and one from 2040 to 2060 that is chained to it and
+-- allocates nothing more. Its info names its parent, from 2000 on
 abbrev pub part_info : List ℕ
 part_info = 0x21 ∷ 0 ∷ 0 ∷ 0 ∷ 0 ∷ 0x20 ∷ 0 ∷ 0 ∷ 0x10 ∷ 0x20 ∷ 0 ∷ 0 ∷ 0 ∷ 0 ∷ 0 ∷ 0 ∷ []
 
@@ -219,22 +224,21 @@ pub record Parts : Type 0 where
 -- a range that ends between two pops, before its epilogue does; and a prologue of 16 bytes with an
 -- early exit: `add rsp,28h; ret` at 04, where no code is undone
 pub record Edges : Type 0 where
-  pub past_end : numbers_of (at (entry 0x2000 0x2002 (1 ∷ 0 ∷ 0 ∷ 0 ∷ []) [] ∷ [])
+  pub past_end : numbers_of (at (alone 2 (1 ∷ 0 ∷ 0 ∷ 0 ∷ []))
       (0x90 ∷ 0x5F ∷ 0x5B ∷ 0xC3 ∷ []) 1 5)
       ≡ 0x10000 ∷ 0x1002 ∷ 0x10018 ∷ 0x1001 ∷ 5 ∷ 0x1000 ∷ []
-  pub early_exit : numbers_of (at (entry 0x2000 0x2020 (1 ∷ 0x10 ∷ 1 ∷ 0 ∷ 4 ∷ 0x42 ∷ 0 ∷ 0 ∷ []) [] ∷ [])
+  pub early_exit : numbers_of (at (alone 0x20 (1 ∷ 0x10 ∷ 1 ∷ 0 ∷ 4 ∷ 0x42 ∷ 0 ∷ 0 ∷ []))
       (allocating (0x48 ∷ 0x83 ∷ 0xC4 ∷ 0x28 ∷ 0xC3 ∷ [])) 4 5) ≡ framed
-  pub early_return : numbers_of (at (entry 0x2000 0x2020 (1 ∷ 0x10 ∷ 1 ∷ 0 ∷ 4 ∷ 0x42 ∷ 0 ∷ 0 ∷ []) [] ∷ [])
+  pub early_return : numbers_of (at (alone 0x20 (1 ∷ 0x10 ∷ 1 ∷ 0 ∷ 4 ∷ 0x42 ∷ 0 ∷ 0 ∷ []))
       (allocating (0x48 ∷ 0x83 ∷ 0xC4 ∷ 0x28 ∷ 0xC3 ∷ [])) 8 5) ≡ gone
-  pub unreadable : at (entry 0x2000 0x2010 (1 ∷ 0 ∷ 2 ∷ 0 ∷ 0 ∷ 0x01 ∷ 0x80 ∷ 0 ∷ []) [] ∷ [])
+  pub unreadable : at (alone 0x10 (1 ∷ 0 ∷ 2 ∷ 0 ∷ 0 ∷ 0x01 ∷ 0x80 ∷ 0 ∷ []))
       (0x90 ∷ []) 0 5 ≡ Err (Unreadable 0x10400)
 
 -- `push rbp; sub rsp,20h; lea rbp,[rsp+10h]`: RBP pushed at 01, 32 bytes allocated at 05, the frame
 -- register set at 0A to RSP + 16. Before that the frame is RSP, from there on RBP less 16
 abbrev pub frame_entry : List Entry
 frame_entry =
-    entry 0x2000 0x2040 (1 ∷ 0x0C ∷ 3 ∷ 0x15 ∷ 0x0A ∷ 3 ∷ 0x05 ∷ 0x32 ∷ 0x01 ∷ 0x50 ∷ 0 ∷ 0 ∷ []) []
-    ∷ []
+    alone 0x40 (1 ∷ 0x0C ∷ 3 ∷ 0x15 ∷ 0x0A ∷ 3 ∷ 0x05 ∷ 0x32 ∷ 0x01 ∷ 0x50 ∷ 0 ∷ 0 ∷ [])
 
 pub record Frames : Type 0 where
   pub before : numbers_of (at frame_entry [] 9 0x20010)
@@ -247,17 +251,17 @@ pub record Frames : Type 0 where
 -- XMM6 saved 16 bytes above the frame, by UWOP_SAVE_XMM128; XMM15 32 bytes above it, by
 -- UWOP_SAVE_XMM128_FAR; XMM5, which is volatile
 pub record Vectors : Type 0 where
-  pub near : vectors_of (at (entry 0x2000 0x2010 (1 ∷ 0 ∷ 2 ∷ 0 ∷ 0 ∷ 0x68 ∷ 1 ∷ 0 ∷ []) [] ∷ []) [] 0 5)
+  pub near : vectors_of (at (alone 0x10 (1 ∷ 0 ∷ 2 ∷ 0 ∷ 0 ∷ 0x68 ∷ 1 ∷ 0 ∷ [])) [] 0 5)
       ≡ (0x1002 + 2 ^ 64 * 0x1003) ∷ 7 ∷ 8 ∷ 9 ∷ 10 ∷ 11 ∷ 12 ∷ 13 ∷ 14 ∷ 15 ∷ []
   pub far : vectors_of (at
-      (entry 0x2000 0x2010 (1 ∷ 0 ∷ 3 ∷ 0 ∷ 0 ∷ 0xF9 ∷ 0x20 ∷ 0 ∷ 0 ∷ 0 ∷ 0 ∷ 0 ∷ []) [] ∷ []) [] 0 5)
+      (alone 0x10 (1 ∷ 0 ∷ 3 ∷ 0 ∷ 0 ∷ 0xF9 ∷ 0x20 ∷ 0 ∷ 0 ∷ 0 ∷ 0 ∷ 0 ∷ [])) [] 0 5)
       ≡ 6 ∷ 7 ∷ 8 ∷ 9 ∷ 10 ∷ 11 ∷ 12 ∷ 13 ∷ 14 ∷ (0x1004 + 2 ^ 64 * 0x1005) ∷ []
-  pub volatile : vectors_of (at (entry 0x2000 0x2010 (1 ∷ 0 ∷ 2 ∷ 0 ∷ 0 ∷ 0x58 ∷ 1 ∷ 0 ∷ []) [] ∷ []) [] 0 5)
+  pub volatile : vectors_of (at (alone 0x10 (1 ∷ 0 ∷ 2 ∷ 0 ∷ 0 ∷ 0x58 ∷ 1 ∷ 0 ∷ [])) [] 0 5)
       ≡ 6 ∷ 7 ∷ 8 ∷ 9 ∷ 10 ∷ 11 ∷ 12 ∷ 13 ∷ 14 ∷ 15 ∷ []
 
 -- UWOP_PUSH_MACHFRAME, without an error code and with one: RIP, and RSP three words above it
 pub record MachineFrames : Type 0 where
-  pub plain : numbers_of (at (entry 0x2000 0x2010 (1 ∷ 0 ∷ 1 ∷ 0 ∷ 0 ∷ 0x0A ∷ 0 ∷ 0 ∷ []) [] ∷ []) [] 0 5)
+  pub plain : numbers_of (at (alone 0x10 (1 ∷ 0 ∷ 1 ∷ 0 ∷ 0 ∷ 0x0A ∷ 0 ∷ 0 ∷ [])) [] 0 5)
       ≡ 0x10000 ∷ 0x1000 ∷ 0x1003 ∷ 3 ∷ 5 ∷ 7 ∷ []
-  pub with_code : numbers_of (at (entry 0x2000 0x2010 (1 ∷ 0 ∷ 1 ∷ 0 ∷ 0 ∷ 0x1A ∷ 0 ∷ 0 ∷ []) [] ∷ []) [] 0 5)
+  pub with_code : numbers_of (at (alone 0x10 (1 ∷ 0 ∷ 1 ∷ 0 ∷ 0 ∷ 0x1A ∷ 0 ∷ 0 ∷ [])) [] 0 5)
       ≡ 0x10000 ∷ 0x1001 ∷ 0x1004 ∷ 3 ∷ 5 ∷ 7 ∷ []

@@ -1,4 +1,6 @@
 -- The trailing part of an epilogue, by its bytes (Microsoft x64 ABI, "Unwind procedure", step 3.b).
+--
+-- The main definition: `abi_tail`.
 use Rattle.std.specs.Prelude.{ℕ, zero, suc, ◌+◌, ◌*◌, ◌/◌, ◌%◌, ◌^◌, Bool, true, false, not, ◌==◌, ◌&&◌, ◌||◌, nat_le, if◌then◌else◌, List, [], ◌∷◌, length, drop, Option, Some, None, slice_index}
 use Rattle.seh_num.specs.declared.width.Width.TheVariants.{W8, W32, W64}
 use Rattle.seh_num.specs.declared.size.TheConstants.{LONGEST_INSTRUCTION}
@@ -35,8 +37,8 @@ sized n b x = if nat_le n (length b) then Some (x, n) else None
 abbrev pub is_add : ℕ → List ℕ → Bool
 is_add op b = (byte 0 b == 0x48) && ((byte 1 b == op) && (byte 2 b == 0xC4))
 
--- 48 or 49, 8D, and ModRM with that form in mod, reg 4, and as rm the frame register: `lea rsp,[frame
--- register + n]`. f: the frame register, 0 for none
+-- 48 or 49, 8D, and ModRM with that form in mod, reg 4, and as rm the frame register: `lea
+-- rsp,[frame register + n]`. f: the frame register, 0 for none
 abbrev pub is_lea : ℕ → ℕ → List ℕ → Bool
 is_lea f form b =
     (byte 0 b / 2 == 0x24) && ((byte 1 b == 0x8D)

@@ -1,5 +1,7 @@
 -- What undoing unwind codes makes of a context with vector registers (Microsoft x64 ABI, "Unwind
 -- operation code").
+--
+-- The main definition: `undone`.
 use Rattle.std.specs.Prelude.{ℕ, ◌+◌, ◌*◌, ◌%◌, ◌^◌, List, [], ◌∷◌, Ok}
 use Rattle.seh_num.specs.Answers.{◌>>=◌}
 use Rattle.flat_memory.specs.Memory.{Memory}

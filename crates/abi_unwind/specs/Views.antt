@@ -6,8 +6,10 @@ use Rattle.virtual_unwind.specs.Undone.{Answer}
 use Rattle.abi_unwind.specs.declared.undo.AbiUndo as code
 use Rattle.abi_unwind.specs.declared.frame.AbiCaller.{AbiCaller}
 use Rattle.abi_unwind.specs.declared.frame.Handler.{Handler}
+use Rattle.abi_unwind.specs.declared.each.EntryErr.{EntryErr}
 use Rattle.abi_unwind.specs.Undone.{AbiUndo}
 use Rattle.abi_unwind.specs.Caller.{AbiFrame}
+use Rattle.abi_unwind.specs.Each.{Each}
 
 abbrev pub undo_of : code.AbiUndo → AbiUndo
 undo_of u =
@@ -31,3 +33,8 @@ caller_of_found f = record { frame = f.frame; context = f.context; handler = han
 abbrev pub shown : Answer AbiFrame → Result AbiCaller UnwindErr
 shown (Ok f) = Ok (caller_of_found f)
 shown (Err e) = Err e
+
+-- the same where each entry is read when it is asked
+abbrev pub shown_each : Each AbiFrame → Result AbiCaller EntryErr
+shown_each (Ok f) = Ok (caller_of_found f)
+shown_each (Err e) = Err e

@@ -5,8 +5,8 @@ use crate::context::AbiContext;
 /// A language-specific handler, as an unwind info names it.
 #[derive(Clone, Copy, Debug, PartialEq, Eq)]
 pub struct Handler {
-    /// What it is asked for: UNW_FLAG_EHANDLER, for a dispatch; UNW_FLAG_UHANDLER, for an unwind; or
-    /// both.
+    /// What it is asked for: UNW_FLAG_EHANDLER, for a dispatch; UNW_FLAG_UHANDLER, for an unwind;
+    /// or both.
     pub flags: u8,
     /// Its address relative to the image base.
     pub rva: u32,

@@ -278,7 +278,8 @@ fn fetched_opening<S: CodeSpace>(space: &S, register: u8, at: u64) -> Option<(Pa
 }
 
 /// What the parts of an epilogue that are left make of a context, and its end, where a trailing
-/// part begins at an address. `register` is the number of the frame register, 0 where there is none.
+/// part begins at an address. `register` is the number of the frame register, 0 where there is
+/// none.
 #[tactic(auto, using(crate::proofs::Tails::opened, crate::proofs::Tails::unopened))]
 pub fn trailing<S: ReadSpace>(
     space: &S,

@@ -175,8 +175,8 @@ pub fn parent_or(range: RuntimeFunction, info: &Info) -> RuntimeFunction
     }
 }
 
-/// Undoes of each info of a chain the codes of the instructions that lie before an address, from the
-/// same base.
+/// Undoes of each info of a chain the codes of the instructions that lie before an address, from
+/// the same base.
 #[tactic(auto, using(crate::proofs::Chains::chain_refused))]
 pub fn chain_undone<S: ReadSpace>(
     space: &S,

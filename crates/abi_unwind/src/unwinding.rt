@@ -12,46 +12,15 @@ ghost use Rattle.abi_unwind.specs.Views.{undo_of, handler_of, shown};
 
 use crate::context::AbiContext;
 use crate::frame::{AbiCaller, Handler};
+use crate::function::{Function, Primary, covers, function_of, leaves_inside, leaves_to, root_of};
 use crate::tail::{End, trailing};
-use crate::undo::{AbiUndo, below_frame, chain_undone, parent_or, sets_frame_by};
+use crate::undo::{AbiUndo, below_frame, chain_undone, sets_frame_by};
 use crate::word::pop;
-use eh_tables::{Entry, FunctionEntry, Info, RuntimeFunction, Tables};
-use std::marker::Model;
+use eh_tables::{Entry, FunctionEntry, Info, Tables};
 use virtual_unwind::UnwindErr;
 use virtual_unwind::kept::rsp;
 use x64_machine::context::Context;
 use x64_memory::space::ReadSpace;
-
-/// An entry of a function table, with its unwind info and those that this is chained to.
-#[derive(Drop)]
-struct Function<'a, 'b> {
-    range: RuntimeFunction,
-    info: &'b Info<'a>,
-    parents: &'b [Info<'a>],
-}
-
-impl<'a, 'b> Model for Function<'a, 'b> {
-    ghost use Rattle.eh_tables.specs.Tables.{Entry};
-
-    ghost Value = { Entry };
-
-    ghost view = { λ f. record { range = f.range; info = f.info.now; parents = f.parents.now } };
-}
-
-/// The function at the end of a chain.
-#[derive(Drop)]
-struct Primary<'a, 'b> {
-    range: RuntimeFunction,
-    info: &'b Info<'a>,
-}
-
-impl<'a, 'b> Model for Primary<'a, 'b> {
-    ghost use Rattle.eh_tables.specs.declared.lookup.FunctionEntry.{FunctionEntry};
-
-    ghost Value = { FunctionEntry };
-
-    ghost view = { λ r. record { range = r.range; info = r.info.now } };
-}
 
 fn is_framed(info: &Info, distance: u64) -> bool
     ensures { result ≡ spec.is_framed info.now distance }
@@ -63,7 +32,7 @@ fn is_framed(info: &Info, distance: u64) -> bool
 }
 
 /// The establisher frame.
-fn establisher(info: &Info, context: &Context, distance: u64) -> u64
+pub fn establisher(info: &Info, context: &Context, distance: u64) -> u64
     ensures { result ≡ spec.establisher info.now context.now distance }
 {
     if is_framed(info, distance) {
@@ -71,25 +40,6 @@ fn establisher(info: &Info, context: &Context, distance: u64) -> u64
     } else {
         rsp(context)
     }
-}
-
-fn root<'a, 'b>(
-    range: RuntimeFunction,
-    info: &'b Info<'a>,
-    parents: &'b [Info<'a>],
-) -> Primary<'a, 'b>
-    ensures { result ≡ spec.root range info.now parents.now }
-{
-    match parents {
-        [] => Primary { range, info },
-        [first, rest @ ..] => root(parent_or(range, info), first, rest),
-    }
-}
-
-fn root_of<'a, 'b>(function: &Function<'a, 'b>) -> Primary<'a, 'b>
-    ensures { result ≡ spec.root_of function.now }
-{
-    root(function.range, function.info, function.parents)
 }
 
 fn handler_at(rva: u64, root: &Primary) -> Option<Handler>
@@ -115,20 +65,11 @@ fn leaves(tables: &Tables, base: u64, function: &Function, target: u64) -> bool
         function.now target }
 {
     let rva = target.wrapping_sub(base);
-    let begin = function.range.begin as u64;
-    if begin <= rva && rva < function.range.end as u64 {
-        return rva == begin && function.info.parent().is_none();
+    if covers(function, rva) {
+        return leaves_inside(function, rva);
     }
-    match tables.lookup(rva) {
-        None => true,
-        Some(entry) => {
-            let own = root_of(function).range.begin;
-            let other = root(entry.range(), entry.info(), entry.parents())
-                .range
-                .begin;
-            other != own || rva == own as u64
-        }
-    }
+    let entry = tables.lookup(rva);
+    leaves_to(function, rva, entry.as_ref())
 }
 
 fn is_end(tables: &Tables, base: u64, function: &Function, end: End) -> bool
@@ -156,7 +97,8 @@ fn popped<S: ReadSpace>(
     Ok(after)
 }
 
-fn in_epilogue<S: ReadSpace>(
+/// The frame of an epilogue whose parts have been run.
+pub fn in_epilogue<S: ReadSpace>(
     space: &S,
     frame: u64,
     context: &AbiContext,
@@ -211,7 +153,8 @@ fn unwound<S: ReadSpace>(
     returned(space, &undo)
 }
 
-fn by_codes<S: ReadSpace>(
+/// The frame elsewhere: codes undone along the chain.
+pub fn by_codes<S: ReadSpace>(
     space: &S,
     frame: u64,
     rva: u64,
@@ -258,7 +201,8 @@ fn in_function<S: ReadSpace>(
     }
 }
 
-fn leaf<S: ReadSpace>(space: &S, context: &AbiContext) -> Result<AbiCaller, UnwindErr>
+/// The frame of a function that has no entry.
+pub fn leaf<S: ReadSpace>(space: &S, context: &AbiContext) -> Result<AbiCaller, UnwindErr>
     ensures { result ≡ shown (spec.leaf (S.memory space.now) context.now) }
 {
     let after = popped(space, context, &context.general)?;
@@ -283,11 +227,7 @@ fn in_entry<S: ReadSpace>(
     match entry {
         None => leaf(space, context),
         Some(entry) => {
-            let function = Function {
-                range: entry.range(),
-                info: entry.info(),
-                parents: entry.parents(),
-            };
+            let function = function_of(entry);
             in_function(tables, base, space, &function, context)
         }
     }

@@ -81,6 +81,8 @@ size_writes : (k : ℕ) (i : Instr) (r : ℕ) → sets_size k i ≡ true → is_
     → (is_a_call i ≡ false) × (has r (written i) ≡ false)
 size_writes k (instrs.Move W32 (places.Register Rax) (operands.Immediate v)) r e nv =
     (refl, one_register 0 r (λ z. false≢true (ap is_nonvolatile (sym z) ∙ nv)))
+size_writes k (instrs.Move W64 (places.Register Rax) (operands.Immediate v)) r e nv =
+    (refl, one_register 0 r (λ z. false≢true (ap is_nonvolatile (sym z) ∙ nv)))
 size_writes k i r e nv = absurd (false≢true e)
 
 subtracts_writes : (i : Instr) (r : ℕ) → subtracts i ≡ true → r ≢ 4

@@ -77,6 +77,30 @@ sized s u a k (instrs.Move W32 (places.Register Rax) (operands.Immediate v)) n e
       kept = λ q nv. now q ∙ set_other s.cpu.registers 0 q w
           (λ z. false≢true (ap is_nonvolatile (sym z) ∙ nv));
     }
+sized s u a k (instrs.Move W64 (places.Register Rax) (operands.Immediate v)) n e ef =
+    let parts = and_parts (eqb v k) (ltb k (2 ^ 32)) e in
+    let same : v ≡ k = eqb-true v k parts.0 in
+    let small = ltb-true k (2 ^ 32) parts.1 in
+    let w = v % 2 ^ 64 % 2 ^ 64 in
+    let b = became (record s {
+      cpu = record {
+        registers = set s.cpu.registers 0 w;
+        rip = a;
+        flags = s.cpu.flags;
+      };
+    }) u
+    (effect (with_rip s a) (instrs.Move W64 (places.Register Rax) (operands.Immediate v))) refl
+    ef in
+    let now : (q : ℕ) → registers u q ≡ get_or (set s.cpu.registers 0 w) q 0 = λ q. ap
+    (λ (xs : List ℕ). get_or xs q 0) b.registers in
+    record {
+      length = ap (λ (xs : List ℕ). length xs) b.registers ∙ length-set s.cpu.registers 0 w ∙ n;
+      memory = b.memory;
+      rax = now 0 ∙ set_same s.cpu.registers 0 w n (omega arith)
+          ∙ (let z : w ≡ k = omega arith in z);
+      kept = λ q nv. now q ∙ set_other s.cpu.registers 0 q w
+          (λ z. false≢true (ap is_nonvolatile (sym z) ∙ nv));
+    }
 sized s u a k i n e ef = absurd (false≢true e)
 
 pub size_plain : (k : ℕ) (i : Instr) → sets_size k i ≡ true → is_call i ≡ false

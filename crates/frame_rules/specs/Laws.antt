@@ -96,6 +96,11 @@ abbrev pub RulesAreRight : Type 0
 RulesAreRight =
     (i : Info) (xs ys : List FetchedInstr) → keeps_rules i xs ys ≡ true → HasForm i xs ys
 
+-- and what has it passes them
+abbrev pub RightPassesRules : Type 0
+RightPassesRules =
+    (i : Info) (xs ys : List FetchedInstr) → HasForm i xs ys → keeps_rules i xs ys ≡ true
+
 -- ---- emission
 
 -- prologue, bodies and epilogues of a plan are a function that is right

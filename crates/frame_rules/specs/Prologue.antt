@@ -43,9 +43,12 @@ does f offset (Save r n) (instrs.Move W64 (places.Memory a) (operands.Register q
     (number q == r) && is_stack n a
 does f offset op x = false
 
--- a large allocation: its size to EAX, a call that probes the pages, and RAX subtracted from RSP
+-- a large allocation: its size to EAX or RAX, a call that probes the pages, and RAX subtracted from
+-- RSP
 abbrev pub sets_size : ℕ → Instr → Bool
 sets_size n (instrs.Move W32 (places.Register Rax) (operands.Immediate v)) =
+    (v == n) && nat_lt n (2 ^ 32)
+sets_size n (instrs.Move W64 (places.Register Rax) (operands.Immediate v)) =
     (v == n) && nat_lt n (2 ^ 32)
 sets_size n x = false
 

@@ -6,7 +6,7 @@ use Rattle.x64_instr.specs.declared.instruction.Instr.{Instr}
 use Rattle.eh_tables.specs.declared.code.UnwindOperation.{UnwindOperation}
 use Rattle.eh_tables.specs.Infos.{Info}
 use Rattle.virtual_unwind.specs.Undone.{operations}
-use Rattle.virtual_unwind.specs.Tail.{FetchedInstr, fetched_at, tail, tail_at}
+use Rattle.virtual_unwind.specs.Tail.{FetchedInstr, tail, tail_at}
 use Rattle.frame_rules.specs.Epilogue.{is_epilogue}
 use Rattle.frame_rules.specs.Body.{are_restored}
 use Rattle.frame_rules.specs.Prologue.{bytes}
@@ -118,33 +118,3 @@ module _ (m : Memory) (i : Info) (at : ℕ) (loaded : List ℕ) (x : FetchedInst
       → (let r : Result Known Fault = Err (record { at = at; rule = Epilogue }) in
       r ≡ past_rest i at loaded x xs rest_there)
   past_other k zs z there low e own = past_some k zs z there low e false own
-
-pub cleared : (rs : List ℕ) (k j : ℕ) (r : Result Known Fault) → rs ≡ [] → k ≡ j
-    → (let o : Result Known Fault = Ok ([], j) in o ≡ r)
-    → (let o : Result Known Fault = Ok (rs, k) in o ≡ r)
-cleared rs k j r e s h =
-    ap (λ (ys : List ℕ). let o : Result Known Fault = Ok (ys, k) in o) e
-    ∙ ap (λ n. let o : Result Known Fault = Ok ([], n) in o) s ∙ h
-
--- ---- the first of some instructions that stand there, and the others
-
-module _ (m : Memory) (at : ℕ) (zs : List FetchedInstr) (x : FetchedInstr) (xs : List FetchedInstr)
-    (z : zs ≡ x ∷ xs) (there : HasItems m at zs (at + bytes zs)) where
-  parts_there : HasItems m at (x ∷ xs) (at + bytes zs)
-  parts_there = subst (λ (ys : List FetchedInstr). HasItems m at ys (at + bytes zs)) z there
-
-  pub first_there : fetched_at m at ≡ Some x
-  first_there = parts_there.0
-
-  pub first_sized : 0 < x.size
-  first_sized = parts_there.1
-
-  pub bytes_there : bytes zs ≡ x.size + bytes xs
-  bytes_there = ap bytes z
-
-  pub others_there : (k : ℕ) → k ≡ x.size → HasItems m (at + k) xs (at + k + bytes xs)
-  others_there k e =
-      let sum = bytes_there in
-      let end : at + bytes zs ≡ at + x.size + bytes xs = omega (arith, sum) in
-      subst (λ n. HasItems m (at + n) xs (at + n + bytes xs)) (sym e)
-      (subst (HasItems m (at + x.size) xs) end parts_there.2)

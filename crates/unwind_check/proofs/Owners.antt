@@ -1,7 +1,7 @@
--- The parts of a function in a table without a fault: its own entry and its fragments.
-use Rattle.std.proofs.Common.{◌≡◌, ℕ, ◌+◌, ◌^◌, ◌<◌, Bool, true, false, List, [], ◌∷◌, Option, Some, None, Ok, refl, sym, ap, subst, ◌∙◌, arith}
-use Rattle.std.specs.Prelude.{All, Contains, slice_index_or}
-use Rattle.std.proofs.lemmas.List.Elements.{All-head, All-tail, All-contains, Contains-get_or}
+-- The parts of a function, in none of which a rule fails: its own entry and its fragments.
+use Rattle.std.proofs.Common.{◌≡◌, ℕ, ◌+◌, ◌^◌, ◌<◌, Bool, true, false, List, [], ◌∷◌, Option, Some, None, Ok, refl, sym, ap, subst, ◌∙◌, arith, inl, inr}
+use Rattle.std.specs.Prelude.{All, Contains}
+use Rattle.std.proofs.lemmas.List.Elements.{All-head, All-tail, All-contains, All-contains_itself}
 use Rattle.x64_machine.specs.Contexts.{context_of}
 use Rattle.x64_machine.specs.Effect.{State}
 use Rattle.eh_tables.specs.declared.layout.TheConstants.{MOST_PARENTS}
@@ -21,8 +21,8 @@ use Rattle.frame_rules.specs.Rules.{FramedFunction, FindsContext}
 use Rattle.unwind_check.specs.Faults.{entry_fault}
 use Rattle.unwind_check.specs.Fragments.{AllKeepRules}
 use Rattle.unwind_check.specs.Fragments as fragments
-use Rattle.unwind_check.specs.Laws.{HasRightFunction, HasRightFragment, rest_of, names, part_if, fragments_of, parts_of}
-use Rattle.unwind_check.specs.Verdicts.{ImageCode, entry_in, IsKept, AllAreKept}
+use Rattle.unwind_check.specs.Laws.{HasRightFunction, HasRightFragment, rest_of, names, part_if, fragments_of, parts_of, IsPartOf}
+use Rattle.unwind_check.specs.Verdicts.{ImageCode, entry_in, IsKept}
 use Rattle.unwind_check.proofs.Entries.{faultless_is_right, kept_none}
 use Rattle.unwind_check.proofs.FragmentEntries.{faultless_is_fragment}
 use Rattle.unwind_check.proofs.Fragments.{parts_find_callers}
@@ -40,7 +40,8 @@ names_it None r h = absurd (none h)
     none h = cc
 
 module _ (t : Tables) (c : ImageCode) (rva : ℕ) (entry : Entry)
-    (covers : holding rva (entries_of t) ≡ Some entry) (all : AllAreKept c (entries_of t))
+    (covers : holding rva (entries_of t) ≡ Some entry) (range : RuntimeFunction)
+    (all : (e : Entry) → Contains (entries_of t) e → IsPartOf range e → IsKept c e)
     (low : All (λ (e : Entry). t.image.base + e.range.end < 2 ^ 63) (entries_of t)) where
   abbrev es : List Entry
   es = entries_of t
@@ -54,9 +55,9 @@ module _ (t : Tables) (c : ImageCode) (rva : ℕ) (entry : Entry)
     pub was : WasRead t.image e
     pub end : e.range.end < 2 ^ 63
 
-  pub known : (e : Entry) → Contains es e → Known e
-  known e here = record {
-    kept = All-contains (IsKept c) es e all here;
+  pub known : (e : Entry) → Contains es e → IsPartOf range e → Known e
+  known e here part = record {
+    kept = all e here part;
     was = All-contains (WasRead t.image) es e read here;
     end = let z = All-contains (λ (x : Entry). t.image.base + x.range.end < 2 ^ 63) es e low here in
         omega (arith, z);
@@ -71,10 +72,11 @@ module _ (t : Tables) (c : ImageCode) (rva : ℕ) (entry : Entry)
 
   -- ---- the entry of a function
 
-  module _ (owner : Entry) (here : Contains es owner) (single : owner.info.parent ≡ None) where
+  module _ (owner : Entry) (here : Contains es owner) (its : owner.range ≡ range)
+      (single : owner.info.parent ≡ None) where
     pub right : HasRightFunction c.memory owner.range.begin owner.range.end owner.info
     right =
-        let k = known owner here in
+        let k = known owner here (inl its) in
         let near = k.kept.near in
         faultless_is_right c.memory c.probe c.ranges owner.range.begin owner.range.end owner.info
         (omega (arith, near)) k.end (sym (ap (entry_fault c.memory c.probe c.ranges
@@ -110,12 +112,13 @@ module _ (t : Tables) (c : ImageCode) (rva : ℕ) (entry : Entry)
 
   -- ---- all parts keep the rules
 
-  module _ (owner : Entry) (here : Contains es owner) (single : owner.info.parent ≡ None) where
+  module _ (owner : Entry) (here : Contains es owner) (its : owner.range ≡ range)
+      (single : owner.info.parent ≡ None) where
     abbrev g : FramedFunction
-    g = f owner here single
+    g = f owner here its single
 
     abbrev r : HasRightFunction c.memory owner.range.begin owner.range.end owner.info
-    r = right owner here single
+    r = right owner here its single
 
     keeps_by : (i : Info) (xs : List FetchedInstr) → g.info ≡ i
         → is_body (following i.frame_register i.frame_offset (operations i.codes) xs (Body []))
@@ -129,29 +132,29 @@ module _ (t : Tables) (c : ImageCode) (rva : ℕ) (entry : Entry)
     pub fragment_keeps : (e : Entry) → Known e → e.info.parent ≡ Some owner.range
         → fragments.KeepsRules g (rest_of c.memory e)
     fragment_keeps e k named = keeps_by owner.info (rest_of c.memory e) r.is.info
-        (fragment owner e (known owner here) k named).right.keeps
+        (fragment owner e (known owner here (inl its)) k named).right.keeps
 
-    fragments_keep : (ds : List Entry) → All Known ds
+    fragments_keep : (ds : List Entry) → All (Contains es) ds
         → AllKeepRules g (fragments_of c.memory owner.range ds)
     fragments_keep [] ks = tt
     fragments_keep (e ∷ ds) ks = go (names e.info.parent owner.range) refl
-        (fragments_keep ds (All-tail Known e ds ks))
+        (fragments_keep ds (All-tail (Contains es) e ds ks))
       where
         go : (b : Bool) → names e.info.parent owner.range ≡ b
             → AllKeepRules g (fragments_of c.memory owner.range ds)
             → AllKeepRules g (part_if (rest_of c.memory e)
             (fragments_of c.memory owner.range ds) b)
         go false q rest = rest
-        go true q rest = (
-          fragment_keeps e (All-head Known e ds ks) (names_it e.info.parent owner.range q),
-          rest,
-        )
-
-    all_known : All Known es
-    all_known k d lt = known (slice_index_or es k d) (Contains-get_or es k d lt)
+        go true q rest =
+            let named = names_it e.info.parent owner.range q in
+            let part : IsPartOf range e = inr (named
+            ∙ ap (λ (x : RuntimeFunction). Some x) its) in (
+              fragment_keeps e (known e (All-head (Contains es) e ds ks) part) named,
+              rest,
+            )
 
     all_keep : AllKeepRules g (parts_of c.memory es owner)
-    all_keep = (own_keeps, fragments_keep es all_known)
+    all_keep = (own_keeps, fragments_keep es (All-contains_itself es))
 
     -- past the prologue of the function, and in a fragment
     module _ (e s : State) (past : ℕ) (xs : List FetchedInstr) (begin to : ℕ)

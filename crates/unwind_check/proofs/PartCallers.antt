@@ -1,4 +1,4 @@
--- Where the verdict on a table is yes, the callers of all parts of its functions are found.
+-- Where no rule fails in the parts of a function, the callers of all of them are found.
 use Rattle.std.proofs.Common.{◌≡◌, ℕ, ◌+◌, ◌-◌, ◌^◌, ◌<◌, true, ltb, List, [], ◌∷◌, ◌++◌, Option, Some, None, refl, sym, ap, subst, ◌∙◌, arith, inl, inr}
 use Rattle.std.specs.Prelude.{Contains}
 use Rattle.std.proofs.lemmas.Bool.{lt-ltb}
@@ -22,8 +22,8 @@ use Rattle.frame_rules.specs.Rules.{FramedFunction, InPrologue, FindsContext, Is
 use Rattle.frame_rules.proofs.Callers.{entries_are_found}
 use Rattle.unwind_check.specs.Fragments.{AllKeepRules}
 use Rattle.unwind_check.specs.Fragments as fragments
-use Rattle.unwind_check.specs.Laws.{HasRightFunction, rest_of, parts_of, IsFunctionOf, IsPast, Stands, IsPlaced, RulesFindCallers}
-use Rattle.unwind_check.specs.Verdicts.{ImageCode, AllAreKept}
+use Rattle.unwind_check.specs.Laws.{HasRightFunction, rest_of, parts_of, IsFunctionOf, IsPast, Stands, IsPlaced, function_range, IsPartOf, PartsFindTheirCallers, RulesFindCallers}
+use Rattle.unwind_check.specs.Verdicts.{ImageCode, IsKept}
 use Rattle.unwind_check.proofs.Owners.{known, alone, right, fragment, own_keeps, fragment_keeps, both}
 use Rattle.unwind_check.proofs.ReadTables.{held}
 use Rattle.unwind_check.proofs.RightPrologues.{items_split}
@@ -73,7 +73,8 @@ bare_is p = record { codes = refl; prologue = refl; register = refl; offset = re
 module _ (t : Tables) (c : ImageCode) (entry : Entry) (e s : State) (d : ℕ)
     (covers : holding (distance t.image.base s.cpu.rip) (entries_of t) ≡ Some entry)
     (away : distance t.image.base s.cpu.rip ≡ entry.range.begin + d)
-    (all : AllAreKept c (entries_of t))
+    (range : RuntimeFunction)
+    (all : (x : Entry) → Contains (entries_of t) x → IsPartOf range x → IsKept c x)
     (placed : IsPlaced c.memory (entries_of t) entry t.image.base s.memory)
     (rip : s.cpu.rip ≡ t.image.base + entry.range.begin + d) where
   abbrev rva : ℕ
@@ -103,15 +104,15 @@ module _ (t : Tables) (c : ImageCode) (entry : Entry) (e s : State) (d : ℕ)
 
   -- ---- an entry that isn't chained
 
-  module _ (single : entry.info.parent ≡ None) (f : FramedFunction)
+  module _ (single : entry.info.parent ≡ None) (its : entry.range ≡ range) (f : FramedFunction)
       (is : IsFunctionOf c.memory entry.range.begin entry.range.end entry.info f)
       (entered : IsEntry (depth (operations entry.info.codes)) e) where
     abbrev has : HasRightFunction c.memory entry.range.begin entry.range.end entry.info
-    has = right t c rva entry covers all placed.low entry here single
+    has = right t c rva entry covers range all placed.low entry here its single
 
     above : entry.parents ≡ []
-    above = alone t c rva entry covers all placed.low entry
-        (known t c rva entry covers all placed.low entry here) single
+    above = alone t c rva entry covers range all placed.low entry
+        (known t c rva entry covers range all placed.low entry here (inl its)) single
 
     in_prologue : InPrologue f e s d → Found
     in_prologue h =
@@ -136,11 +137,11 @@ module _ (t : Tables) (c : ImageCode) (entry : Entry) (e s : State) (d : ℕ)
         HasItems c.memory (entry.range.begin + entry.info.prologue_size) xs entry.range.end)
         has.is.rest (subst (λ k. HasItems c.memory k g.rest entry.range.end) at split) in
         let distance = h.distance in
-        let found = (both t c rva entry covers all placed.low entry here single e s h.past
+        let found = (both t c rva entry covers range all placed.low entry here its single e s h.past
         (rest_of c.memory entry) (base + (entry.range.begin + entry.info.prologue_size))
         (base + entry.range.end) (omega (arith, rip, distance)) low_end
         (items_placed (entry.range.begin + entry.info.prologue_size) (rest_of c.memory entry) there)
-        (own_keeps t c rva entry covers all placed.low entry here single) entered
+        (own_keeps t c rva entry covers range all placed.low entry here its single) entered
         (same_part f g (is.info ∙ sym has.is.info) (is.prologue ∙ sym has.is.prologue) e s h.past
         (parts_of c.memory es entry) (rest_of c.memory entry) h.state) (bare entry.info)
         (bare_is entry.info)).1 in
@@ -150,25 +151,26 @@ module _ (t : Tables) (c : ImageCode) (entry : Entry) (e s : State) (d : ℕ)
 
   -- ---- a fragment
 
-  in_fragment : (owner : Entry) (f : FramedFunction) → Contains es owner
+  in_fragment : (owner : Entry) (f : FramedFunction) → Contains es owner → owner.range ≡ range
       → entry.info.parent ≡ Some owner.range
       → IsFunctionOf c.memory owner.range.begin owner.range.end owner.info f
       → IsEntry (depth (operations owner.info.codes)) e
       → IsPast c.memory es entry owner f e s d → Found
-  in_fragment owner f its named is entered h =
-      let ko = known t c rva entry covers all placed.low owner its in
-      let ke = known t c rva entry covers all placed.low entry here in
-      let w = fragment t c rva entry covers all placed.low owner entry ko ke named in
+  in_fragment owner f there its named is entered h =
+      let ko = known t c rva entry covers range all placed.low owner there (inl its) in
+      let ke = known t c rva entry covers range all placed.low entry here
+      (inr (named ∙ ap (λ (x : RuntimeFunction). Some x) its)) in
+      let w = fragment t c rva entry covers range all placed.low owner entry ko ke named in
       let single = w.right.function in
-      let q = right t c rva entry covers all placed.low owner its single in
+      let q = right t c rva entry covers range all placed.low owner there its single in
       let g = q.function in
       let none = w.right.fragment.prologue in
       let distance = h.distance in
-      let found = (both t c rva entry covers all placed.low owner its single e s h.past
+      let found = (both t c rva entry covers range all placed.low owner there its single e s h.past
       (rest_of c.memory entry) (base + entry.range.begin) (base + entry.range.end)
       (omega (arith, rip, distance, none)) low_end
       (items_placed entry.range.begin (rest_of c.memory entry) w.right.is_there)
-      (fragment_keeps t c rva entry covers all placed.low owner its single entry ke named) entered
+      (fragment_keeps t c rva entry covers range all placed.low owner there its single entry ke named) entered
       (same_part f g (is.info ∙ sym q.is.info) (is.prologue ∙ sym q.is.prologue) e s h.past
       (parts_of c.memory es owner) (rest_of c.memory entry) h.state) entry.info
       w.right.fragment).0 in
@@ -179,23 +181,28 @@ module _ (t : Tables) (c : ImageCode) (entry : Entry) (e s : State) (d : ℕ)
   -- ---- each
 
   stands : (owner : Entry) (f : FramedFunction) (o : Option RuntimeFunction)
-      → entry.info.parent ≡ o
+      → entry.info.parent ≡ o → function_range entry.range o ≡ range
       → IsFunctionOf c.memory owner.range.begin owner.range.end owner.info f
       → IsEntry (depth (operations owner.info.codes)) e
       → Stands c.memory es entry owner f e s d o → Found
-  stands owner f None single is entered (same, state) =
+  stands owner f None single its is entered (same, state) =
       let is_own = subst (λ (x : Entry).
       IsFunctionOf c.memory x.range.begin x.range.end x.info f) same is in
       let first = subst (λ (x : Entry). IsEntry (depth (operations x.info.codes)) e) same entered in
       elim state [
-        | inl h ↦ in_prologue single f is_own first h
-        | inr h ↦ in_part single f is_own first
+        | inl h ↦ in_prologue single its f is_own first h
+        | inr h ↦ in_part single its f is_own first
             (subst (λ (x : Entry). IsPast c.memory es entry x f e s d) same h)
       ]
-  stands owner f (Some q) named is entered (same, its, h) = in_fragment owner f its
-      (named ∙ ap (λ (x : RuntimeFunction). Some x) (sym same)) is entered h
+  stands owner f (Some q) named its is entered (same, there, h) = in_fragment owner f there
+      (same ∙ its) (named ∙ ap (λ (x : RuntimeFunction). Some x) (sym same)) is entered h
+
+pub parts_find_their_callers : PartsFindTheirCallers
+parts_find_their_callers t c entry e s d kept covers away placed rip st =
+    stands t c entry e s d covers away (function_range entry.range entry.info.parent) kept placed
+    rip st.owner st.function entry.info.parent refl refl st.is st.entered st.stands
 
 pub rules_find_callers : RulesFindCallers
 rules_find_callers t c n entry e s d v covers away placed rip st =
-    stands t c entry e s d covers away v.0 placed rip st.owner st.function entry.info.parent refl
-    st.is st.entered st.stands
+    parts_find_their_callers t c entry e s d
+    (λ x here part. All-contains (IsKept c) (entries_of t) x v.0 here) covers away placed rip st

@@ -13,6 +13,7 @@ use Rattle.frame_rules.specs.States.{HasItems}
 use Rattle.frame_rules.specs.Rules.{FramedFunction, IsRight}
 use Rattle.frame_rules.specs.Validated.{turned}
 use Rattle.frame_rules.proofs.Tails.{items_rise}
+use Rattle.frame_rules.proofs.Keeping.{turned_onto}
 use Rattle.unwind_check.specs.declared.rule.Rule.{Rule}
 use Rattle.unwind_check.specs.declared.rule.Rule.TheVariants.{Decode, Codes, Prologue}
 use Rattle.unwind_check.specs.declared.rule.Fault.{Fault}
@@ -26,7 +27,7 @@ use Rattle.unwind_check.specs.RightFunctions.{CallsProbe, RightFunctionsKeepRule
 use Rattle.unwind_check.proofs.FirstFaults.{faults_are_first}
 use Rattle.unwind_check.proofs.RightBodies.{right_body}
 use Rattle.unwind_check.proofs.RightCodes.{right_registers, at_ends}
-use Rattle.unwind_check.proofs.RightPrologues.{decoded_whole, items_split, turned_onto, right_prologue}
+use Rattle.unwind_check.proofs.RightPrologues.{decoded_whole, items_split, right_prologue}
 
 pub neither : (a b : Option Fault) → a ≡ None → b ≡ None → or_next a b ≡ None
 neither a b p q = ap (λ (o : Option Fault). or_next o b) p ∙ q

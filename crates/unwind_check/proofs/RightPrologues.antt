@@ -1,21 +1,16 @@
 -- A prologue of the right form has no fault.
-use Rattle.std.proofs.Common.{◌≡◌, ℕ, ◌+◌, true, false, ◌&&◌, eqb, List, [], ◌∷◌, ◌++◌, None, refl, ap, subst, ◌∙◌, arith}
-use Rattle.std.proofs.lemmas.Bool.{false≢true, and_parts, and_from, eq-eqb}
+use Rattle.std.proofs.Common.{◌≡◌, ℕ, ◌+◌, true, ◌&&◌, List, [], ◌∷◌, ◌++◌, None, refl, ap, subst, ◌∙◌, arith}
+use Rattle.std.proofs.lemmas.Bool.{false≢true, and_parts, and_from}
 use Rattle.flat_memory.specs.Memory.{Memory}
-use Rattle.seh_num.specs.declared.width.Width.TheVariants.{W64}
-use Rattle.x64_instr.specs.declared.register.Reg.TheVariants.{Rsp}
-use Rattle.x64_instr.specs.declared.operand.RegisterOrMemory.TheVariants as places
-use Rattle.x64_instr.specs.declared.operand.Operand.TheVariants as operands
-use Rattle.x64_instr.specs.declared.instruction.Operation.TheVariants.{Sub}
 use Rattle.x64_instr.specs.declared.instruction.Instr.{Instr}
-use Rattle.x64_instr.specs.declared.instruction.Instr.TheVariants as instrs
 use Rattle.eh_tables.specs.declared.code.UnwindCode.{UnwindCode}
 use Rattle.eh_tables.specs.declared.code.UnwindOperation.{UnwindOperation}
 use Rattle.eh_tables.specs.declared.code.UnwindOperation.TheVariants.{Allocate}
 use Rattle.virtual_unwind.specs.Tail.{FetchedInstr}
-use Rattle.frame_rules.specs.Prologue.{bytes, does, sets_size, is_call, subtracts, allocates, is_step, are_sized, PrologueStep, items, codes_onto, ArePrologueSteps}
+use Rattle.frame_rules.specs.Prologue.{bytes, does, sets_size, is_call, subtracts, allocates, is_step, are_sized, PrologueStep, items, ArePrologueSteps}
 use Rattle.frame_rules.specs.States.{HasItems}
-use Rattle.frame_rules.specs.Validated.{turned, fits}
+use Rattle.frame_rules.specs.Validated.{fits}
+use Rattle.frame_rules.proofs.Keeping.{codes_of, fit, misses_one}
 use Rattle.frame_rules.proofs.Tails.{items_rise}
 use Rattle.unwind_check.specs.declared.rule.Rule.TheVariants.{Prologue}
 use Rattle.unwind_check.specs.Boundaries.{fault, with_item, between}
@@ -46,27 +41,7 @@ items_split m at (x ∷ xs) ys to h =
       subst (λ k. HasItems m k ys to) e r.1,
     )
 
--- ---- the codes in the order of execution
-
-abbrev pub codes_of : List PrologueStep → List UnwindCode → List UnwindCode
-codes_of [] cs = cs
-codes_of (s ∷ ss) cs = s.code ∷ codes_of ss cs
-
-pub turned_onto : (cs done : List UnwindCode) (ss : List PrologueStep)
-    → turned cs (codes_onto done ss) ≡ turned (codes_of ss cs) done
-turned_onto cs done [] = refl
-turned_onto cs done (s ∷ ss) = turned_onto cs (s.code ∷ done) ss
-
 -- ---- one step
-
--- what sets the size of an allocation isn't the allocation
-not_one : (f offset : ℕ) (op : UnwindOperation) (x y z : Instr) → allocates op x y z ≡ true
-    → does f offset op x ≡ false
-not_one f offset (Allocate n)
-    (instrs.Arithmetic Sub W64 (places.Register Rsp) (operands.Immediate v)) y z h =
-    absurd (false≢true h)
-not_one f offset (Allocate n) x y z h = refl
-not_one f offset op x y z h = absurd (false≢true h)
 
 probes_rest : (m : Memory) (probe : List ℕ) (at : ℕ) (xs ys : List FetchedInstr)
     → CallsProbe m probe at (xs ++ ys) → CallsProbe m probe (at + bytes xs) ys
@@ -83,14 +58,6 @@ module _ (s : Site) where
   abbrev offset : ℕ
   offset = s.frame_offset
 
-  fit : (d : ℕ) (c : UnwindCode) (xs : List FetchedInstr)
-      → is_step f offset c.operation xs ≡ true → are_sized xs ≡ true → c.offset ≡ d + bytes xs
-      → fits f offset d c xs ≡ true
-  fit d c xs does sized end = and_from (is_step f offset c.operation xs)
-      (are_sized xs && eqb c.offset (d + bytes xs)) does
-      (and_from (are_sized xs) (eqb c.offset (d + bytes xs)) sized
-      (eq-eqb c.offset (d + bytes xs) end))
-
   step_passes : (d : ℕ) (c : UnwindCode) (cs : List UnwindCode) (xs ys : List FetchedInstr)
       → is_step f offset c.operation xs ≡ true → are_sized xs ≡ true → c.offset ≡ d + bytes xs
       → CallsProbe s.memory s.probe (s.begin + d) (xs ++ ys)
@@ -99,14 +66,13 @@ module _ (s : Site) where
   step_passes d c cs (x ∷ []) ys does sized end probes =
       ap (λ b. cont (prologue_from s true c.offset cs ys) b
       (by_three s (prologue_from s true c.offset cs) d c (x ∷ ys)))
-      (fit d c (x ∷ []) does sized end)
+      (fit f offset d c (x ∷ []) does sized end)
   step_passes d c cs (x ∷ y ∷ []) ys does sized end probes = absurd (false≢true does)
   step_passes d c cs (x ∷ y ∷ z ∷ []) ys alloc sized end probes =
-      let miss = ap (λ b. b && (are_sized (x ∷ []) && eqb c.offset (d + bytes (x ∷ []))))
-      (not_one f offset c.operation x.instr y.instr z.instr alloc) in
+      let miss = misses_one f offset d c x y z alloc in
       let probed = and_from (fits f offset d c (x ∷ y ∷ z ∷ []))
       (is_call_of s.memory s.probe (s.begin + d + x.size + y.size) y.instr)
-      (fit d c (x ∷ y ∷ z ∷ []) alloc sized end)
+      (fit f offset d c (x ∷ y ∷ z ∷ []) alloc sized end)
       (probes.1.0 (calls c.operation x.instr y.instr z.instr alloc)) in
       ap (λ b. cont (prologue_from s true c.offset cs (y ∷ z ∷ ys)) b
       (by_three s (prologue_from s true c.offset cs) d c (x ∷ y ∷ z ∷ ys))) miss

@@ -85,10 +85,10 @@ one_answer e = cc
 -- the info of the table's entry that an info names is the first of those that it is chained to
 module _ (c : ImageCode) (t : Tables) (w : TablesAreWhole t) (listed : c.ranges ≡ t.ranges)
     (begin to : ℕ) (i : Info) where
-  abbrev as_read : Option RuntimeFunction → Option Fault
+  abbrev pub as_read : Option RuntimeFunction → Option Fault
   as_read o = info_fault c.memory c.probe begin to i o (info_named (entries_of t) o)
 
-  abbrev as_said : List Info → Option Fault
+  abbrev pub as_said : List Info → Option Fault
   as_said ps = entry_fault c.memory c.probe c.ranges begin to i ps
 
   by_name : (index : ℕ) (r : RuntimeFunction) (p : Info) (ps : List Info) → i.parent ≡ Some r
@@ -109,7 +109,7 @@ module _ (c : ImageCode) (t : Tables) (w : TablesAreWhole t) (listed : c.ranges 
       (fragment_fault c.memory begin to i p (b && is_secondary i p)))
       (sym (ap (has_range r) listed ∙ not_there) ∙ ap (names_entry c.ranges) (sym is))
 
-  by_chain : (n index : ℕ) (o : Option RuntimeFunction) (ps : List Info) → i.parent ≡ o
+  pub by_chain : (n index : ℕ) (o : Option RuntimeFunction) (ps : List Info) → i.parent ≡ o
       → parents n t.image index o ≡ Ok ps → as_read o ≡ as_said ps
   unfolding info_fault entry_fault
   by_chain zero index None ps is h = let same : [] ≡ ps = cc in ap as_said same

@@ -1,9 +1,10 @@
 //! The instructions of a part of an entry, from one address up to another.
 
-ghost use Rattle.std.specs.Prelude.{◌≡◌, ◌≤◌, ◌<◌, ◌^◌, IfOk};
+ghost use Rattle.std.specs.Prelude.{◌≡◌, ◌≤◌, ◌<◌, ◌^◌, take, IfOk};
 ghost use Rattle.frame_rules.specs.Prologue.{bytes};
 ghost use Rattle.unwind_check.specs.Boundaries as spec;
 ghost use Rattle.unwind_check.specs.Codes as rules;
+ghost use Rattle.unwind_check.specs.Steps as steps;
 
 use crate::fetched::{FetchedInstr, fetched_at};
 use std::alloc::{AllocError, Global};
@@ -41,6 +42,40 @@ impl DecodedInstrs {
     }
 }
 
+/// The instruction at an address, where it ends at another one or before it.
+pub fn item_before<S: CodeSpace>(space: &S, at: u64, end: u64) -> Option<FetchedInstr>
+    requires { at ≤ end }
+    ensures { steps.IsFirst (S.memory space.now) at end result }
+{
+    if at == end {
+        return None;
+    }
+    match fetched_at(space, at) {
+        None => None,
+        Some(item) => {
+            let size = item.size();
+            if size == 0 {
+                return None;
+            }
+            if end - at < size {
+                return None;
+            }
+            Some(item)
+        }
+    }
+}
+
+/// Whether there is one.
+pub fn has_item<S: CodeSpace>(space: &S, at: u64, end: u64) -> bool
+    requires { at ≤ end }
+    ensures { result ≡ spec.is_some (spec.between (S.memory space.now) at end).items }
+{
+    match item_before(space, at, end) {
+        None => false,
+        Some(_) => true,
+    }
+}
+
 /// The instructions from an address up to another one. One that passes the end isn't counted.
 /// Refused for want of memory alone.
 pub fn decoded_between<S: CodeSpace>(
@@ -55,7 +90,7 @@ pub fn decoded_between<S: CodeSpace>(
     let mut items = Vec::new(alloc);
     let mut at = begin;
     while at < end {
-        match fetched_at(space, at) {
+        match item_before(space, at, end) {
             None => {
                 return Ok(DecodedInstrs {
                     items,
@@ -64,12 +99,6 @@ pub fn decoded_between<S: CodeSpace>(
             }
             Some(item) => {
                 let size = item.size();
-                if size == 0 || end - at < size {
-                    return Ok(DecodedInstrs {
-                        items,
-                        is_whole: false,
-                    });
-                }
                 items.push(item)?;
                 at += size;
             }
@@ -79,6 +108,34 @@ pub fn decoded_between<S: CodeSpace>(
         items,
         is_whole: true,
     })
+}
+
+/// The first so many of the instructions from an address up to another one, or all where there are
+/// fewer. Refused for want of memory alone.
+pub fn first_between<S: CodeSpace>(
+    alloc: Global,
+    space: &S,
+    begin: u64,
+    end: u64,
+    count: u64,
+) -> Result<Vec<FetchedInstr>, AllocError>
+    requires { begin ≤ end }
+    ensures { IfOk result
+        (λ v. v.items ≡ take count (spec.between (S.memory space.now) begin end).items) }
+{
+    let mut items = Vec::new(alloc);
+    let mut at = begin;
+    for _n in 0..count {
+        match item_before(space, at, end) {
+            None => return Ok(items),
+            Some(item) => {
+                let size = item.size();
+                items.push(item)?;
+                at += size;
+            }
+        }
+    }
+    Ok(items)
 }
 
 /// Where each instruction of a prologue ends, from the prologue's first byte. Refused for want of

@@ -2,8 +2,8 @@
 
 ghost use Rattle.std.specs.Prelude.{◌≡◌, ◌≤◌, ◌+◌, ◌<◌, ◌^◌, [], IfOk, IfNone};
 ghost use Rattle.frame_rules.specs.Prologue.{bytes};
-ghost use Rattle.frame_rules.specs.States.{HasItems};
 ghost use Rattle.frame_rules.specs.Validated.{turned};
+ghost use Rattle.unwind_check.specs.Boundaries.{between};
 ghost use Rattle.unwind_check.specs.Chains as chains;
 ghost use Rattle.unwind_check.specs.Faults as spec;
 
@@ -11,7 +11,7 @@ use crate::body::body_fault;
 use crate::chain::is_secondary;
 use crate::code_order::is_ordered;
 use crate::codes::keep_codes;
-use crate::decoded::{DecodedInstrs, decoded_between, ends};
+use crate::decoded::{DecodedInstrs, decoded_between, ends, has_item};
 use crate::prologue::prologue_fault;
 use crate::rule::{Fault, Rule};
 use eh_tables::{Info, UnwindCode};
@@ -38,26 +38,25 @@ fn ordered_codes(alloc: Global, info: &Info) -> Result<OrderedCodes, AllocError>
     Ok(OrderedCodes { codes, steps })
 }
 
-/// The first fault of the prologue and of what follows it, from `middle` on.
+/// The first fault of the prologue and of what follows it, from `middle` up to `end`.
 fn parts_fault<S: CodeSpace>(
     alloc: Global,
     space: &S,
     probe: &[u8],
     begin: u64,
     middle: u64,
+    end: u64,
     info: &Info,
     codes: &OrderedCodes,
     prologue: &DecodedInstrs,
-    body: &DecodedInstrs,
 ) -> Result<Option<Fault>, AllocError>
     requires codes { codes.now.codes.items ≡ info.now.codes }
     requires steps { codes.now.steps.items ≡ turned [] info.now.codes }
     requires prologue_low { begin + bytes prologue.now.items < 2 ^ 63 }
-    requires body_there { HasItems (S.memory space.now) middle body.now.items
-        (middle + bytes body.now.items) }
-    requires body_low { middle + bytes body.now.items < 2 ^ 63 }
+    requires order { middle ≤ end }
+    requires low { end < 2 ^ 63 }
     ensures fault { IfOk result (λ o. o ≡ spec.fault_of_parts (S.memory space.now) probe.now begin
-        middle info.now prologue.now body.now) }
+        middle info.now prologue.now (between (S.memory space.now) middle end)) }
     ensures near { info.now.frame_offset < 2 ^ 8 }
 {
     let frame = info.frame_register();
@@ -67,11 +66,7 @@ fn parts_fault<S: CodeSpace>(
     let whole = prologue.is_whole();
     match prologue_fault(space, probe, begin, frame, offset, whole, 0, steps, first) {
         Some(fault) => Ok(Some(fault)),
-        None => {
-            let whole = body.is_whole();
-            let second = body.items();
-            body_fault(alloc, space, info, &codes.codes, whole, middle, second)
-        }
+        None => body_fault(alloc, space, info, &codes.codes, middle, end),
     }
 }
 
@@ -84,14 +79,12 @@ fn codes_fault<S: CodeSpace>(
     end: u64,
     info: &Info,
     prologue: &DecodedInstrs,
-    body: &DecodedInstrs,
 ) -> Result<Option<Fault>, AllocError>
     requires order { begin ≤ middle }
     requires order_2 { middle ≤ end }
     requires low { end < 2 ^ 63 }
     requires middle { middle ≡ spec.prologue_end begin end info.now }
     requires prologue { prologue.now ≡ spec.prologue_of (S.memory space.now) begin end info.now }
-    requires body { body.now ≡ spec.body_of (S.memory space.now) begin end info.now }
     ensures fault { IfOk result (λ o. o
         ≡ spec.codes_fault (S.memory space.now) probe.now begin end info.now) }
     ensures near { IfOk result (λ o. IfNone o (info.now.frame_offset < 2 ^ 8)) }
@@ -105,7 +98,7 @@ fn codes_fault<S: CodeSpace>(
         Rule::Prologue
     } else {
         return parts_fault(
-            alloc, space, probe, begin, middle, info, &all, prologue, body,
+            alloc, space, probe, begin, middle, end, info, &all, prologue,
         );
     };
     Ok(Some(Fault { at: begin, rule }))
@@ -121,12 +114,10 @@ fn fragment_fault<S: CodeSpace>(
     end: u64,
     info: &Info,
     primary: &Info,
-    body: &DecodedInstrs,
 ) -> Result<Option<Fault>, AllocError>
     requires order { middle ≤ end }
     requires low { end < 2 ^ 63 }
     requires middle { middle ≡ spec.prologue_end begin end info.now }
-    requires body { body.now ≡ spec.body_of (S.memory space.now) begin end info.now }
     ensures fault { IfOk result (λ o. o ≡ spec.fragment_fault (S.memory space.now) begin end
         info.now primary.now (chains.is_secondary info.now primary.now)) }
     ensures near { info.now.frame_offset < 2 ^ 8 }
@@ -138,9 +129,7 @@ fn fragment_fault<S: CodeSpace>(
         }));
     }
     let all = ordered_codes(alloc, primary)?;
-    let whole = body.is_whole();
-    let items = body.items();
-    body_fault(alloc, space, primary, &all.codes, whole, middle, items)
+    body_fault(alloc, space, primary, &all.codes, middle, end)
 }
 
 /// The first fault of an entry: at its first boundary at which a rule fails, the first rule that
@@ -173,19 +162,16 @@ pub fn entry_fault<S: CodeSpace>(
         }));
     }
     let prologue = decoded_between(alloc, space, begin, middle)?;
-    let body = decoded_between(alloc, space, middle, end)?;
-    if prologue.items().is_empty() && (size != 0 || body.items().is_empty()) {
+    if prologue.items().is_empty() && (size != 0 || !has_item(space, middle, end)) {
         return Ok(Some(Fault {
             at: begin,
             rule: Rule::Decode,
         }));
     }
     match info.parent() {
-        None => codes_fault(
-            alloc, space, probe, begin, middle, end, info, &prologue, &body,
-        ),
+        None => codes_fault(alloc, space, probe, begin, middle, end, info, &prologue),
         Some(_) => match named {
-            Some(primary) => fragment_fault(alloc, space, begin, middle, end, info, primary, &body),
+            Some(primary) => fragment_fault(alloc, space, begin, middle, end, info, primary),
             None => Ok(Some(Fault {
                 at: begin,
                 rule: Rule::Chain,

@@ -69,7 +69,8 @@ pub fn restored_by(frame: u8, offset: u64, codes: &[UnwindCode], instr: &Instr) 
     }
 }
 
-fn has(register: u8, registers: &[u8]) -> bool
+/// Whether a register is among these, by their numbers.
+pub fn has(register: u8, registers: &[u8]) -> bool
     ensures { result ≡ bodies.has register registers.now }
 {
     match registers {

@@ -96,7 +96,7 @@ fn sets_size(size: u32, instr: &Instr) -> bool
 {
     match instr {
         Instr::Move {
-            width: Width::W32,
+            width: Width::W32 | Width::W64,
             to: RegisterOrMemory::Register(Reg::Rax),
             from: Operand::Immediate(value),
         } => *value == size as u64,
@@ -127,8 +127,8 @@ fn subtracts(instr: &Instr) -> bool
     }
 }
 
-/// Whether three instructions are an allocation by a call that probes its pages: `mov eax,n`, a
-/// relative call, and `sub rsp,rax`.
+/// Whether three instructions are an allocation by a call that probes its pages: `mov eax,n` or
+/// `mov rax,n`, a relative call, and `sub rsp,rax`.
 pub fn probes(operation: UnwindOperation, first: &Instr, second: &Instr, third: &Instr) -> bool
     ensures { result ≡ rules.allocates operation first.now second.now third.now }
 {

@@ -1,4 +1,4 @@
-use Rattle.std.proofs.Common.{◌≡◌, ◌+◌, ◌-◌, ◌%◌, ◌^◌, ap, ◌∙◌, arith}
+use Rattle.std.proofs.Common.{◌+◌, ◌-◌, ◌%◌, ◌^◌, ap, ◌∙◌, arith}
 use Rattle.x64_machine.specs.declared.context.Context.{Context}
 use Rattle.virtual_unwind.specs.Undone.{Answer}
 use Rattle.abi_unwind.specs.Tail.{pops}

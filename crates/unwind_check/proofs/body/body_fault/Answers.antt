@@ -1,41 +1,73 @@
-use Rattle.std.proofs.Common.{◌≡◌, ◌+◌, ◌-◌, ◌∷◌, List, length, take, drop, sym, ap, ◌∙◌, arith}
-use Rattle.virtual_unwind.specs.Tail.{FetchedInstr}
-use Rattle.frame_rules.specs.Prologue.{bytes}
-use Rattle.unwind_check.specs.Bodies.{body_from}
-use Rattle.unwind_check.proofs.Owned.{others_there}
-use Rattle.unwind_check.proofs.Passing.{failing_first, going_first, split, split_drop, all_others}
+use Rattle.std.proofs.Common.{◌+◌, [], refl, sym, ap, subst, arith}
+use Rattle.unwind_check.specs.Steps.{body_between}
+use Rattle.unwind_check.proofs.SameLoads.{same_none}
+use Rattle.unwind_check.proofs.BodySteps.{IsAhead, missing, fails, goes, at_end_none}
 use Rattle.unwind_check.proofs.body.body_fault.Goals as goal
+
+pub loop-at-init : goal.loop-at-init
+loop-at-init g c = record {
+  inside = c.requires.order;
+  ahead = record {
+    loaded = [];
+    same = same_none c.new-loaded.result.items c.new-loaded.ensures.items;
+    is = refl;
+  };
+}
+
+pub returns-in-None : goal.returns-in-None
+returns-in-None g c =
+    let m = g.S.CodeSpace.memory c.args.space.now in
+    let i = c.args.info.now in
+    missing m i c.loop-at.loaded.items c.loop-at.at c.args.end c.loop-at.left
+    (body_between m i c.args.begin c.args.end [] 0) c.loop-at.invariant.ahead c.in-None.ensures
+    c.loop-at-test.true
 
 pub returns-in-Err : goal.returns-in-Err
 returns-in-Err g c =
     let m = g.S.CodeSpace.memory c.args.space.now in
-    let zs = c.loop-rest.rest.now in
-    let z : zs ≡ c.item-item.result ∷ drop 1 zs = split_drop zs c.item-item.result
-    c.in-len1-up.len_at_least c.item-item.is in
-    sym (failing_first m c.args.info.now c.args.is_whole zs c.item-item.result (drop 1 zs)
-    c.loop-rest.at c.loop-rest.loaded.items c.step.new.loaded.items c.loop-rest.left
-    c.in_ok-fault.field-0 c.in-Err.fault z c.in_ok-fault.ensures c.in-Err.is)
-    ∙ c.loop-rest.invariant.same
+    let i = c.args.info.now in
+    let a = c.loop-at.invariant.ahead in
+    fails m i c.loop-at.loaded.items c.loop-at.at c.args.end c.loop-at.left
+    (body_between m i c.args.begin c.args.end [] 0) a c.in-Some.item c.in-Some.ensures
+    c.step.new.loaded.items c.in_ok-passed-in-Some.passed c.in-Err.fault
+    (c.in_ok-passed-in-Some.ensures a.loaded a.same) c.in-Err.is
 
-pub loop-rest-preserved : goal.loop-rest-preserved
-loop-rest-preserved g c =
+pub overflow_add-at : goal.overflow_add-at
+overflow_add-at g c =
+    let inside = c.in-Some.ensures.inside in
+    let z = c.size-at.ensures in
+    omega (arith, inside, z)
+
+pub loop-at-smaller : goal.loop-at-smaller
+loop-at-smaller g c =
+    let inside = c.in-Some.ensures.inside in
+    let sized = c.in-Some.ensures.sized in
+    let z = c.size-at.ensures in
+    omega (arith, inside, sized, z)
+
+pub loop-at-preserved : goal.loop-at-preserved
+loop-at-preserved g c =
     let m = g.S.CodeSpace.memory c.args.space.now in
-    let zs = c.loop-rest.rest.now in
-    let x = c.item-item.result in
-    let ts = take (length zs - 1) (drop 1 zs) in
-    let some = c.in-len1-up.len_at_least in
-    let t : zs ≡ x ∷ ts = split zs x some c.item-item.is in
-    let z : zs ≡ x ∷ drop 1 zs = split_drop zs x some c.item-item.is in
-    let size : bytes zs ≡ x.size + bytes ts = ap bytes t in
+    let i = c.args.info.now in
+    let a = c.loop-at.invariant.ahead in
+    let z = c.size-at.ensures in
+    let inside = c.in-Some.ensures.inside in
+    let all = body_between m i c.args.begin c.args.end [] 0 in
     record {
-      there = others_there m c.loop-rest.at zs x ts t c.loop-rest.invariant.there
-          c.size-at.result c.size-at.ensures;
-      low = omega (arith, size, c.size-at.ensures, c.loop-rest.invariant.low);
-      same = ap (λ k. body_from m c.args.info.now c.args.is_whole ts (c.loop-rest.at + k)
-          c.step.new.loaded.items c.in-Ok.still) c.size-at.ensures
-          ∙ ap (λ (ys : List FetchedInstr). body_from m c.args.info.now c.args.is_whole ys
-          (c.loop-rest.at + x.size) c.step.new.loaded.items c.in-Ok.still) (all_others zs some)
-          ∙ sym (going_first m c.args.info.now c.args.is_whole zs x (drop 1 zs) c.loop-rest.at
-          c.loop-rest.loaded.items c.step.new.loaded.items c.loop-rest.left c.in_ok-fault.field-0
-          c.in-Ok.still z c.in_ok-fault.ensures c.in-Ok.is) ∙ c.loop-rest.invariant.same;
+      inside = omega (arith, inside, z);
+      ahead = subst (λ k. IsAhead m i c.step.new.loaded.items k c.args.end c.in-Ok.still all)
+          (ap (λ k. c.loop-at.at + k) (sym z))
+          (goes m i c.loop-at.loaded.items c.loop-at.at c.args.end c.loop-at.left all a
+          c.in-Some.item c.in-Some.ensures c.step.new.loaded.items c.in_ok-passed-in-Some.passed
+          c.in-Ok.still (c.in_ok-passed-in-Some.ensures a.loaded a.same) c.in-Ok.is);
     }
+
+pub returns : goal.returns
+returns g c =
+    let m = g.S.CodeSpace.memory c.args.space.now in
+    let i = c.args.info.now in
+    let test = c.loop-at-test.false in
+    let inside = c.loop-at.invariant.inside in
+    at_end_none m i c.loop-at.loaded.items c.loop-at.at c.args.end c.loop-at.left
+    (body_between m i c.args.begin c.args.end [] 0) c.loop-at.invariant.ahead
+    (omega (arith, test, inside))

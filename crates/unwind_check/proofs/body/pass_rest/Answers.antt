@@ -1,39 +1,101 @@
-use Rattle.std.proofs.Common.{ℕ, ◌-◌, List, drop, ap, ◌∙◌}
-use Rattle.virtual_unwind.specs.Tail.{tail_at}
+use Rattle.std.proofs.Common.{◌≡◌, ◌+◌, ◌-◌, ◌≤◌, ◌∷◌, List, length, sym, ap, ◌∙◌, arith}
+use Rattle.virtual_unwind.specs.Tail.{FetchedInstr, tail_at}
 use Rattle.virtual_unwind.specs.Undone.{operations}
-use Rattle.unwind_check.specs.Steps.{past_rest, counted, is_own_part}
-use Rattle.unwind_check.proofs.Owned.{past_own, past_other, cleared}
+use Rattle.unwind_check.specs.Boundaries.{between}
+use Rattle.frame_rules.specs.Body.{has}
+use Rattle.unwind_check.specs.declared.rule.Rule.TheVariants.{Epilogue}
+use Rattle.unwind_check.specs.Steps.{past_rest, counted}
+use Rattle.unwind_check.proofs.Decoding.{first_items}
+use Rattle.unwind_check.proofs.Fitting.{part_fits, part_stands}
+use Rattle.unwind_check.proofs.Rests.{none_counted}
+use Rattle.unwind_check.proofs.Owned.{past_own, past_other}
+use Rattle.unwind_check.proofs.OwnParts.{not_inside}
+use Rattle.unwind_check.proofs.BodySteps.{plain_shown, error_shown, cleared_shown}
 use Rattle.unwind_check.proofs.body.pass_rest.Goals as goal
 
-pub returns-then-is_own : goal.returns-then-is_own
-returns-then-is_own g c =
+pub returns-in_ok-passed-in-Missing : goal.returns-in_ok-passed-in-Missing
+returns-in_ok-passed-in-Missing g c rs h =
     let m = g.S.CodeSpace.memory c.args.space.now in
     let i = c.args.info.now in
     let at = c.args.at in
-    let loaded = c.args.loaded.now.items in
-    let zs = c.args.items.now in
-    let xs = drop 1 zs in
-    let count = c.in-Some.count in
-    let so_many = c.in-Some.ensures
-    ∙ ap (λ f. counted 0 (tail_at f m at)) c.frame_register.ensures in
-    let own = c.if-is_own.ensures ∙ ap (λ (rs : List ℕ). is_own_part i.frame_register i.frame_offset
-    (operations i.codes) rs zs count) c.deref.ensures.value in
-    cleared c.clear.new.self.items c.saturating_sub.result (count - 1)
-    (past_rest i at loaded c.args.item.now xs (tail_at i.frame_register m at))
-    c.clear.ensures.items c.saturating_sub.ensures
-    (past_own m i at loaded c.args.item.now xs count zs c.requires.first c.requires.there
-    c.requires.low so_many own)
+    let x = c.args.item.now in
+    let rest = tail_at i.frame_register m at in
+    let none = ap (λ f. counted 0 (tail_at f m at)) (sym c.frame_register.ensures)
+    ∙ c.in-Missing.ensures in
+    plain_shown m i at x (between m (at + x.size) c.args.end).items c.pass_plain.new.loaded.items rs
+    c.in_ok-passed-in-Missing.passed rest (none_counted rest none) (c.in_ok-passed-in-Missing.ensures rs h)
 
-pub returns-else-is_own : goal.returns-else-is_own
-returns-else-is_own g c =
+pub returns-in-Outside : goal.returns-in-Outside
+returns-in-Outside g c rs h =
     let m = g.S.CodeSpace.memory c.args.space.now in
     let i = c.args.info.now in
     let at = c.args.at in
-    let zs = c.args.items.now in
-    let count = c.in-Some.count in
-    let so_many = c.in-Some.ensures
-    ∙ ap (λ f. counted 0 (tail_at f m at)) c.frame_register.ensures in
-    let own = c.if-is_own.ensures ∙ ap (λ (rs : List ℕ). is_own_part i.frame_register i.frame_offset
-    (operations i.codes) rs zs count) c.deref.ensures.value in
-    past_other m i at c.args.loaded.now.items c.args.item.now (drop 1 zs) count zs
-    c.requires.first c.requires.there c.requires.low so_many own
+    let x = c.args.item.now in
+    let xs = (between m (at + x.size) c.args.end).items in
+    let zs = (between m at c.args.end).items in
+    let inside = c.requires.first.inside in
+    let low = c.requires.low in
+    let le : at ≤ c.args.end = omega (arith, inside) in
+    let z : zs ≡ x ∷ xs = first_items m c.args.end at x c.requires.first in
+    let it = c.in-Outside.ensures in
+    let n = it.0 in
+    let past = it.2 in
+    let long = ap (λ (ys : List FetchedInstr). length ys) z in
+    let fits = part_fits m at c.args.end le in
+    error_shown c.args.loaded.now.items (record { at = at; rule = Epilogue })
+    (past_rest i at rs x xs (tail_at i.frame_register m at))
+    (past_other m i at rs x xs n zs z (part_stands m at c.args.end le) (omega (arith, fits, low))
+    (sym (ap (λ f. counted 0 (tail_at f m at)) (sym c.frame_register.ensures) ∙ it.1))
+    (sym (not_inside i.frame_register i.frame_offset (operations i.codes) rs zs n
+    (omega (arith, past, long)))))
+
+pub is_own-requires-clause-inside : goal.is_own-requires-clause-inside
+is_own-requires-clause-inside g c =
+    let m = g.S.CodeSpace.memory c.args.space.now in
+    let long = ap (λ (ys : List FetchedInstr). length ys)
+    (first_items m c.args.end c.args.at c.args.item.now c.requires.first) in
+    let most = c.in-Inside.ensures.1 in
+    omega (arith, long, most)
+
+pub returns-then-own : goal.returns-then-own
+returns-then-own g c rs h =
+    let m = g.S.CodeSpace.memory c.args.space.now in
+    let i = c.args.info.now in
+    let at = c.args.at in
+    let x = c.args.item.now in
+    let xs = (between m (at + x.size) c.args.end).items in
+    let zs = (between m at c.args.end).items in
+    let inside = c.requires.first.inside in
+    let low = c.requires.low in
+    let le : at ≤ c.args.end = omega (arith, inside) in
+    let z : zs ≡ x ∷ xs = first_items m c.args.end at x c.requires.first in
+    let fits = part_fits m at c.args.end le in
+    let n = c.in-Inside.count in
+    cleared_shown c.clear.new.self.items c.saturating_sub.result (n - 1)
+    (past_rest i at rs x xs (tail_at i.frame_register m at)) c.clear.ensures.items
+    c.saturating_sub.ensures
+    (past_own m i at rs x xs n zs z (part_stands m at c.args.end le) (omega (arith, fits, low))
+    (sym (ap (λ f. counted 0 (tail_at f m at)) (sym c.frame_register.ensures)
+    ∙ c.in-Inside.ensures.0))
+    (sym c.if-own.true ∙ c.in_ok-own-in-Inside.ensures rs (λ r. ap (has r) c.deref.ensures.value ∙ h r)))
+
+pub returns-else-own : goal.returns-else-own
+returns-else-own g c rs h =
+    let m = g.S.CodeSpace.memory c.args.space.now in
+    let i = c.args.info.now in
+    let at = c.args.at in
+    let x = c.args.item.now in
+    let xs = (between m (at + x.size) c.args.end).items in
+    let zs = (between m at c.args.end).items in
+    let inside = c.requires.first.inside in
+    let low = c.requires.low in
+    let le : at ≤ c.args.end = omega (arith, inside) in
+    let z : zs ≡ x ∷ xs = first_items m c.args.end at x c.requires.first in
+    let fits = part_fits m at c.args.end le in
+    let n = c.in-Inside.count in
+    error_shown c.args.loaded.now.items (record { at = at; rule = Epilogue })
+    (past_rest i at rs x xs (tail_at i.frame_register m at))
+    (past_other m i at rs x xs n zs z (part_stands m at c.args.end le) (omega (arith, fits, low))
+    (sym (ap (λ f. counted 0 (tail_at f m at)) (sym c.frame_register.ensures)
+    ∙ c.in-Inside.ensures.0))
+    (sym c.if-own.false ∙ c.in_ok-own-in-Inside.ensures rs (λ r. ap (has r) c.deref.ensures.value ∙ h r)))

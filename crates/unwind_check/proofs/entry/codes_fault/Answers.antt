@@ -1,9 +1,8 @@
-use Rattle.std.proofs.Common.{◌+◌, ap, sym, subst, arith}
+use Rattle.std.proofs.Common.{ap, arith}
 use Rattle.unwind_check.specs.Boundaries.{Decoded}
 use Rattle.unwind_check.specs.Faults.{prologue_end}
 use Rattle.frame_rules.specs.Prologue.{bytes}
-use Rattle.frame_rules.specs.States.{HasItems}
-use Rattle.unwind_check.proofs.Fitting.{part_fits, part_stands}
+use Rattle.unwind_check.proofs.Fitting.{part_fits}
 use Rattle.unwind_check.proofs.entry.codes_fault.Goals as goal
 
 pub ends-requires : goal.ends-requires
@@ -30,27 +29,3 @@ parts_fault-requires-clause-prologue_low g c =
     (omega (arith, middle, order)) in
     let e = ap (λ (d : Decoded). bytes d.items) c.requires.prologue in
     omega (arith, middle, order_2, low, f, e)
-
-pub parts_fault-requires-clause-body_low : goal.parts_fault-requires-clause-body_low
-parts_fault-requires-clause-body_low g c =
-    let m = g.S.CodeSpace.memory c.args.space.now in
-    let middle = c.requires.middle in
-    let order_2 = c.requires.order_2 in
-    let low = c.requires.low in
-    let f = part_fits m (prologue_end c.args.begin c.args.end c.args.info.now) c.args.end
-    (omega (arith, middle, order_2)) in
-    let e = ap (λ (d : Decoded). bytes d.items) c.requires.body in
-    omega (arith, middle, low, f, e)
-
-pub parts_fault-requires-clause-body_there : goal.parts_fault-requires-clause-body_there
-parts_fault-requires-clause-body_there g c =
-    let m = g.S.CodeSpace.memory c.args.space.now in
-    let middle = c.requires.middle in
-    let order_2 = c.requires.order_2 in
-    let stands = part_stands m (prologue_end c.args.begin c.args.end c.args.info.now) c.args.end
-    (omega (arith, middle, order_2)) in
-    subst (λ k. HasItems m k c.args.body.now.items (k + bytes c.args.body.now.items)) (sym middle)
-    (subst (λ (d : Decoded). HasItems m
-    (prologue_end c.args.begin c.args.end c.args.info.now) d.items
-    (prologue_end c.args.begin c.args.end c.args.info.now + bytes d.items)) (sym c.requires.body)
-    stands)

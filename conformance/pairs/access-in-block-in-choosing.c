@@ -1,0 +1,27 @@
+// A refused access, in an __except block, in a section whose filter takes one code.
+void fail(int n) { RaiseException(0xE0000000 + n, 0, 0, 0); }
+void part0(void) {
+  __try {
+    __try {
+      fail(4);
+    } __except (1) {
+      put(1);
+      put(2);
+      *(int *)0x20000000 = 1;
+      put(3);
+    }
+  } __except (GetExceptionCode() == 0xE0000003) {
+    put(4);
+  }
+  put(5);
+}
+int main(void) {
+  __try {
+    part0();
+    put(6);
+  } __except (1) {
+    put(GetExceptionCode() % 256);
+  }
+  put(7);
+  return 0;
+}

@@ -1,0 +1,22 @@
+// A refused access, in an __except block.
+void fail(int n) { RaiseException(0xE0000000 + n, 0, 0, 0); }
+void part0(void) {
+  __try {
+    fail(4);
+  } __except (1) {
+    put(1);
+    put(2);
+    *(int *)0x20000000 = 1;
+    put(3);
+  }
+}
+int main(void) {
+  __try {
+    part0();
+    put(4);
+  } __except (1) {
+    put(GetExceptionCode() % 256);
+  }
+  put(5);
+  return 0;
+}

@@ -1,0 +1,35 @@
+// A refused access, in a routine, in a section whose filter mends and continues, in a section
+// with a __finally block.
+int mending(unsigned code) {
+  put(code % 256);
+  protect((void *)0x20000000, 2);
+  return code == 0xC0000025 || code == 0xC0000094 ? 1 : -1;
+}
+void part1(void) {
+  put(1);
+  *(int *)0x20000000 = 1;
+  put(2);
+}
+void part0(void) {
+  __try {
+    __try {
+      part1();
+      put(3);
+    } __except (mending(GetExceptionCode())) {
+      put(4);
+    }
+  } __finally {
+    put(5 + AbnormalTermination());
+  }
+  put(7);
+}
+int main(void) {
+  __try {
+    part0();
+    put(8);
+  } __except (1) {
+    put(GetExceptionCode() % 256);
+  }
+  put(9);
+  return 0;
+}

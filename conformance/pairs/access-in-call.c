@@ -1,0 +1,20 @@
+// A refused access, in a routine.
+void part1(void) {
+  put(1);
+  *(int *)0x20000000 = 1;
+  put(2);
+}
+void part0(void) {
+  part1();
+  put(3);
+}
+int main(void) {
+  __try {
+    part0();
+    put(4);
+  } __except (1) {
+    put(GetExceptionCode() % 256);
+  }
+  put(5);
+  return 0;
+}

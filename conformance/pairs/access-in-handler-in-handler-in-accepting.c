@@ -1,0 +1,38 @@
+// A refused access, in a routine of a __finally block, in a routine of a __finally block, in a
+// section whose filter accepts.
+void fail(int n) { RaiseException(0xE0000000 + n, 0, 0, 0); }
+void part2(void) {
+  put(1);
+  *(int *)0x20000000 = 1;
+  put(2);
+}
+void part1(void) {
+  __try {
+    fail(5);
+  } __finally {
+    part2();
+    put(3);
+  }
+}
+void part0(void) {
+  __try {
+    __try {
+      fail(5);
+    } __finally {
+      part1();
+      put(4);
+    }
+  } __except (put(5), 1) {
+    put(6);
+  }
+}
+int main(void) {
+  __try {
+    part0();
+    put(7);
+  } __except (1) {
+    put(GetExceptionCode() % 256);
+  }
+  put(8);
+  return 0;
+}

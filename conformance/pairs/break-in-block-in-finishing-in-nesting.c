@@ -1,0 +1,41 @@
+// A break, in an __except block, in a section with a __finally block, in a section whose filter
+// raises once.
+int asked;
+void fail(int n) { RaiseException(0xE0000000 + n, 0, 0, 0); }
+int raising(void) {
+  asked = asked + 1;
+  if (asked == 1) fail(2);
+  return 0;
+}
+void part0(void) {
+  int i;
+  for (i = 0; i < 2; i++) {
+    __try {
+      __try {
+        __try {
+          fail(4);
+        } __except (1) {
+          put(1);
+          put(2);
+          break;
+        }
+      } __finally {
+        put(3 + AbnormalTermination());
+      }
+      put(5);
+    } __except (raising()) {
+      put(6);
+    }
+    put(7);
+  }
+}
+int main(void) {
+  __try {
+    part0();
+    put(8);
+  } __except (1) {
+    put(GetExceptionCode() % 256);
+  }
+  put(9);
+  return 0;
+}

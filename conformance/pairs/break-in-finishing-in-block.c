@@ -1,0 +1,30 @@
+// A break, in a section with a __finally block, in an __except block.
+void fail(int n) { RaiseException(0xE0000000 + n, 0, 0, 0); }
+void part0(void) {
+  int i;
+  for (i = 0; i < 2; i++) {
+    __try {
+      fail(4);
+    } __except (1) {
+      put(1);
+      __try {
+        put(2);
+        break;
+      } __finally {
+        put(3 + AbnormalTermination());
+      }
+      put(5);
+    }
+    put(6);
+  }
+}
+int main(void) {
+  __try {
+    part0();
+    put(7);
+  } __except (1) {
+    put(GetExceptionCode() % 256);
+  }
+  put(8);
+  return 0;
+}

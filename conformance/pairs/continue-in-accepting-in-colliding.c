@@ -1,0 +1,30 @@
+// A continue, in a section whose filter accepts, in a section whose __finally block raises.
+void fail(int n) { RaiseException(0xE0000000 + n, 0, 0, 0); }
+void part0(void) {
+  int i;
+  for (i = 0; i < 2; i++) {
+    __try {
+      __try {
+        put(1);
+        continue;
+      } __except (put(2), 1) {
+        put(3);
+      }
+    } __finally {
+      put(4);
+      if (AbnormalTermination()) fail(3);
+    }
+    put(5);
+    put(6);
+  }
+}
+int main(void) {
+  __try {
+    part0();
+    put(7);
+  } __except (1) {
+    put(GetExceptionCode() % 256);
+  }
+  put(8);
+  return 0;
+}

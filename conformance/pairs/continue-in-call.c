@@ -1,0 +1,23 @@
+// A continue, in a routine.
+void part1(void) {
+  int i;
+  for (i = 0; i < 2; i++) {
+    put(1);
+    continue;
+    put(2);
+  }
+}
+void part0(void) {
+  part1();
+  put(3);
+}
+int main(void) {
+  __try {
+    part0();
+    put(4);
+  } __except (1) {
+    put(GetExceptionCode() % 256);
+  }
+  put(5);
+  return 0;
+}

@@ -1,0 +1,37 @@
+// A continue, in a section whose __finally block raises, in a section whose filter accepts, in a
+// section whose __finally block raises.
+void fail(int n) { RaiseException(0xE0000000 + n, 0, 0, 0); }
+void part0(void) {
+  int i;
+  for (i = 0; i < 2; i++) {
+    __try {
+      __try {
+        __try {
+          put(1);
+          continue;
+        } __finally {
+          put(2);
+          if (AbnormalTermination()) fail(3);
+        }
+        put(3);
+      } __except (put(4), 1) {
+        put(5);
+      }
+    } __finally {
+      put(6);
+      if (AbnormalTermination()) fail(3);
+    }
+    put(7);
+    put(8);
+  }
+}
+int main(void) {
+  __try {
+    part0();
+    put(9);
+  } __except (1) {
+    put(GetExceptionCode() % 256);
+  }
+  put(10);
+  return 0;
+}

@@ -1,0 +1,30 @@
+// A continue, in a section whose __finally block raises, in a section whose filter accepts.
+void fail(int n) { RaiseException(0xE0000000 + n, 0, 0, 0); }
+void part0(void) {
+  int i;
+  for (i = 0; i < 2; i++) {
+    __try {
+      __try {
+        put(1);
+        continue;
+      } __finally {
+        put(2);
+        if (AbnormalTermination()) fail(3);
+      }
+      put(3);
+    } __except (put(4), 1) {
+      put(5);
+    }
+    put(6);
+  }
+}
+int main(void) {
+  __try {
+    part0();
+    put(7);
+  } __except (1) {
+    put(GetExceptionCode() % 256);
+  }
+  put(8);
+  return 0;
+}

@@ -1,0 +1,26 @@
+// A continue, in a section whose __finally block raises.
+void fail(int n) { RaiseException(0xE0000000 + n, 0, 0, 0); }
+void part0(void) {
+  int i;
+  for (i = 0; i < 2; i++) {
+    __try {
+      put(1);
+      continue;
+    } __finally {
+      put(2);
+      if (AbnormalTermination()) fail(3);
+    }
+    put(3);
+    put(4);
+  }
+}
+int main(void) {
+  __try {
+    part0();
+    put(5);
+  } __except (1) {
+    put(GetExceptionCode() % 256);
+  }
+  put(6);
+  return 0;
+}

@@ -1,0 +1,37 @@
+// A continue, in a section whose filter mends and continues, in a section whose filter mends and
+// continues, in a section whose filter accepts.
+int mending(unsigned code) {
+  put(code % 256);
+  protect((void *)0x20000000, 2);
+  return code == 0xC0000025 || code == 0xC0000094 ? 1 : -1;
+}
+void part0(void) {
+  int i;
+  for (i = 0; i < 2; i++) {
+    __try {
+      __try {
+        __try {
+          put(1);
+          continue;
+        } __except (mending(GetExceptionCode())) {
+          put(2);
+        }
+      } __except (mending(GetExceptionCode())) {
+        put(3);
+      }
+    } __except (put(4), 1) {
+      put(5);
+    }
+    put(6);
+  }
+}
+int main(void) {
+  __try {
+    part0();
+    put(7);
+  } __except (1) {
+    put(GetExceptionCode() % 256);
+  }
+  put(8);
+  return 0;
+}

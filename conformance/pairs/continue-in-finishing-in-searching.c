@@ -1,0 +1,28 @@
+// A continue, in a section with a __finally block, in a section whose filter goes on.
+void part0(void) {
+  int i;
+  for (i = 0; i < 2; i++) {
+    __try {
+      __try {
+        put(1);
+        continue;
+      } __finally {
+        put(2 + AbnormalTermination());
+      }
+      put(4);
+    } __except (put(5), 0) {
+      put(6);
+    }
+    put(7);
+  }
+}
+int main(void) {
+  __try {
+    part0();
+    put(8);
+  } __except (1) {
+    put(GetExceptionCode() % 256);
+  }
+  put(9);
+  return 0;
+}

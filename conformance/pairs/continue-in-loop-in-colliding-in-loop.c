@@ -1,0 +1,30 @@
+// A continue, in a loop, in a section whose __finally block raises, in a loop.
+void fail(int n) { RaiseException(0xE0000000 + n, 0, 0, 0); }
+void part0(void) {
+  int n0;
+  for (n0 = 0; n0 < 2; n0++) {
+    __try {
+      int n2;
+      for (n2 = 0; n2 < 2; n2++) {
+        put(1);
+        continue;
+        put(2);
+      }
+    } __finally {
+      put(3);
+      if (AbnormalTermination()) fail(3);
+    }
+    put(4);
+    put(5);
+  }
+}
+int main(void) {
+  __try {
+    part0();
+    put(6);
+  } __except (1) {
+    put(GetExceptionCode() % 256);
+  }
+  put(7);
+  return 0;
+}

@@ -1,0 +1,41 @@
+// A continue, in a section whose filter raises once, in a section whose filter takes one code, in
+// a section whose filter takes one code.
+int asked;
+void fail(int n) { RaiseException(0xE0000000 + n, 0, 0, 0); }
+int raising(void) {
+  asked = asked + 1;
+  if (asked == 1) fail(2);
+  return 0;
+}
+void part0(void) {
+  int i;
+  for (i = 0; i < 2; i++) {
+    __try {
+      __try {
+        __try {
+          put(1);
+          continue;
+        } __except (raising()) {
+          put(2);
+        }
+      } __except (GetExceptionCode() == 0xE0000003) {
+        put(3);
+      }
+      put(4);
+    } __except (GetExceptionCode() == 0xE0000003) {
+      put(5);
+    }
+    put(6);
+    put(7);
+  }
+}
+int main(void) {
+  __try {
+    part0();
+    put(8);
+  } __except (1) {
+    put(GetExceptionCode() % 256);
+  }
+  put(9);
+  return 0;
+}

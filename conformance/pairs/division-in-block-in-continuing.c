@@ -1,0 +1,32 @@
+// A division by zero, in an __except block, in a section whose filter mends and continues.
+void fail(int n) { RaiseException(0xE0000000 + n, 0, 0, 0); }
+int zero;
+int mending(unsigned code) {
+  put(code % 256);
+  protect((void *)0x20000000, 2);
+  return code == 0xC0000025 || code == 0xC0000094 ? 1 : -1;
+}
+void part0(void) {
+  __try {
+    __try {
+      fail(4);
+    } __except (1) {
+      put(1);
+      put(2);
+      put(1 / zero);
+      put(3);
+    }
+  } __except (mending(GetExceptionCode())) {
+    put(4);
+  }
+}
+int main(void) {
+  __try {
+    part0();
+    put(5);
+  } __except (1) {
+    put(GetExceptionCode() % 256);
+  }
+  put(6);
+  return 0;
+}

@@ -1,0 +1,23 @@
+// A division by zero, in an __except block.
+void fail(int n) { RaiseException(0xE0000000 + n, 0, 0, 0); }
+int zero;
+void part0(void) {
+  __try {
+    fail(4);
+  } __except (1) {
+    put(1);
+    put(2);
+    put(1 / zero);
+    put(3);
+  }
+}
+int main(void) {
+  __try {
+    part0();
+    put(4);
+  } __except (1) {
+    put(GetExceptionCode() % 256);
+  }
+  put(5);
+  return 0;
+}

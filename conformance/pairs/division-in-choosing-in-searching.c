@@ -1,0 +1,27 @@
+// A division by zero, in a section whose filter takes one code, in a section whose filter goes
+// on.
+int zero;
+void part0(void) {
+  __try {
+    __try {
+      put(1);
+      put(1 / zero);
+      put(2);
+    } __except (GetExceptionCode() == 0xE0000003) {
+      put(3);
+    }
+    put(4);
+  } __except (put(5), 0) {
+    put(6);
+  }
+}
+int main(void) {
+  __try {
+    part0();
+    put(7);
+  } __except (1) {
+    put(GetExceptionCode() % 256);
+  }
+  put(8);
+  return 0;
+}

@@ -1,0 +1,42 @@
+// A division by zero, in a routine of a filter, in a section whose filter goes on, in a routine
+// of a __finally block.
+void fail(int n) { RaiseException(0xE0000000 + n, 0, 0, 0); }
+int zero;
+int begun2;
+int part2(void) {
+  begun2 = begun2 + 1;
+  if (begun2 > 1) return 1;
+  put(1);
+  put(1 / zero);
+  put(2);
+  return 1;
+}
+void part1(void) {
+  __try {
+    __try {
+      fail(6);
+    } __except (part2()) {
+      put(3);
+    }
+  } __except (put(4), 0) {
+    put(5);
+  }
+}
+void part0(void) {
+  __try {
+    fail(5);
+  } __finally {
+    part1();
+    put(6);
+  }
+}
+int main(void) {
+  __try {
+    part0();
+    put(7);
+  } __except (1) {
+    put(GetExceptionCode() % 256);
+  }
+  put(8);
+  return 0;
+}

@@ -1,0 +1,18 @@
+// A normal end, in a routine.
+void part1(void) {
+  put(1);
+}
+void part0(void) {
+  part1();
+  put(2);
+}
+int main(void) {
+  __try {
+    part0();
+    put(3);
+  } __except (1) {
+    put(GetExceptionCode() % 256);
+  }
+  put(4);
+  return 0;
+}

@@ -1,0 +1,29 @@
+// A normal end, in a section with a __finally block, in an __except block, in a routine.
+void fail(int n) { RaiseException(0xE0000000 + n, 0, 0, 0); }
+void part1(void) {
+  __try {
+    fail(4);
+  } __except (1) {
+    put(1);
+    __try {
+      put(2);
+    } __finally {
+      put(3 + AbnormalTermination());
+    }
+    put(5);
+  }
+}
+void part0(void) {
+  part1();
+  put(6);
+}
+int main(void) {
+  __try {
+    part0();
+    put(7);
+  } __except (1) {
+    put(GetExceptionCode() % 256);
+  }
+  put(8);
+  return 0;
+}

@@ -1,0 +1,27 @@
+// A normal end, in a loop, in a routine of a __finally block.
+void fail(int n) { RaiseException(0xE0000000 + n, 0, 0, 0); }
+void part1(void) {
+  int n1;
+  for (n1 = 0; n1 < 2; n1++) {
+    put(1);
+    put(2);
+  }
+}
+void part0(void) {
+  __try {
+    fail(5);
+  } __finally {
+    part1();
+    put(3);
+  }
+}
+int main(void) {
+  __try {
+    part0();
+    put(4);
+  } __except (1) {
+    put(GetExceptionCode() % 256);
+  }
+  put(5);
+  return 0;
+}

@@ -1,0 +1,22 @@
+// A normal end, in a loop, in a section whose filter goes on.
+void part0(void) {
+  __try {
+    int n1;
+    for (n1 = 0; n1 < 2; n1++) {
+      put(1);
+      put(2);
+    }
+  } __except (put(3), 0) {
+    put(4);
+  }
+}
+int main(void) {
+  __try {
+    part0();
+    put(5);
+  } __except (1) {
+    put(GetExceptionCode() % 256);
+  }
+  put(6);
+  return 0;
+}

@@ -1,0 +1,35 @@
+// A __leave, in a section whose filter accepts, in a section whose filter raises once, in a
+// routine.
+int asked;
+void fail(int n) { RaiseException(0xE0000000 + n, 0, 0, 0); }
+int raising(void) {
+  asked = asked + 1;
+  if (asked == 1) fail(2);
+  return 0;
+}
+void part1(void) {
+  __try {
+    __try {
+      put(1);
+      __leave;
+    } __except (put(2), 1) {
+      put(3);
+    }
+  } __except (raising()) {
+    put(4);
+  }
+}
+void part0(void) {
+  part1();
+  put(5);
+}
+int main(void) {
+  __try {
+    part0();
+    put(6);
+  } __except (1) {
+    put(GetExceptionCode() % 256);
+  }
+  put(7);
+  return 0;
+}

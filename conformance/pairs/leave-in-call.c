@@ -1,0 +1,23 @@
+// A __leave, in a routine.
+void part1(void) {
+  __try {
+    put(1);
+    __leave;
+  } __finally {
+    put(2);
+  }
+}
+void part0(void) {
+  part1();
+  put(3);
+}
+int main(void) {
+  __try {
+    part0();
+    put(4);
+  } __except (1) {
+    put(GetExceptionCode() % 256);
+  }
+  put(5);
+  return 0;
+}

@@ -1,0 +1,34 @@
+// A __leave, in a routine of a __finally block, in a section whose __finally block raises.
+void fail(int n) { RaiseException(0xE0000000 + n, 0, 0, 0); }
+void part1(void) {
+  __try {
+    put(1);
+    __leave;
+  } __finally {
+    put(2);
+  }
+}
+void part0(void) {
+  __try {
+    __try {
+      fail(5);
+    } __finally {
+      part1();
+      put(3);
+    }
+  } __finally {
+    put(4);
+    if (AbnormalTermination()) fail(3);
+  }
+  put(5);
+}
+int main(void) {
+  __try {
+    part0();
+    put(6);
+  } __except (1) {
+    put(GetExceptionCode() % 256);
+  }
+  put(7);
+  return 0;
+}

@@ -1,0 +1,23 @@
+// A __leave, in a loop, in a section whose filter accepts.
+void part0(void) {
+  __try {
+    int n1;
+    for (n1 = 0; n1 < 2; n1++) {
+      put(1);
+      __leave;
+      put(2);
+    }
+  } __except (put(3), 1) {
+    put(4);
+  }
+}
+int main(void) {
+  __try {
+    part0();
+    put(5);
+  } __except (1) {
+    put(GetExceptionCode() % 256);
+  }
+  put(6);
+  return 0;
+}

@@ -1,0 +1,29 @@
+// A __leave, in a loop, in an __except block.
+void fail(int n) { RaiseException(0xE0000000 + n, 0, 0, 0); }
+void part0(void) {
+  __try {
+    fail(4);
+  } __except (1) {
+    put(1);
+    int n1;
+    for (n1 = 0; n1 < 2; n1++) {
+      __try {
+        put(2);
+        __leave;
+      } __finally {
+        put(3);
+      }
+      put(4);
+    }
+  }
+}
+int main(void) {
+  __try {
+    part0();
+    put(5);
+  } __except (1) {
+    put(GetExceptionCode() % 256);
+  }
+  put(6);
+  return 0;
+}

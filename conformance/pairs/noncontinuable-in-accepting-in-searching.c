@@ -1,0 +1,25 @@
+// A noncontinuable exception, in a section whose filter accepts, in a section whose filter goes
+// on.
+void part0(void) {
+  __try {
+    __try {
+      put(1);
+      RaiseException(0xE0000001, 1, 0, 0);
+      put(2);
+    } __except (put(3), 1) {
+      put(4);
+    }
+  } __except (put(5), 0) {
+    put(6);
+  }
+}
+int main(void) {
+  __try {
+    part0();
+    put(7);
+  } __except (1) {
+    put(GetExceptionCode() % 256);
+  }
+  put(8);
+  return 0;
+}

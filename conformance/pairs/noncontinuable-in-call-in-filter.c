@@ -1,0 +1,32 @@
+// A noncontinuable exception, in a routine, in a routine of a filter.
+void fail(int n) { RaiseException(0xE0000000 + n, 0, 0, 0); }
+int begun0;
+void part2(void) {
+  put(1);
+  RaiseException(0xE0000001, 1, 0, 0);
+  put(2);
+}
+int part1(void) {
+  begun0 = begun0 + 1;
+  if (begun0 > 1) return 1;
+  part2();
+  put(3);
+  return 1;
+}
+void part0(void) {
+  __try {
+    fail(6);
+  } __except (part1()) {
+    put(4);
+  }
+}
+int main(void) {
+  __try {
+    part0();
+    put(5);
+  } __except (1) {
+    put(GetExceptionCode() % 256);
+  }
+  put(6);
+  return 0;
+}

@@ -1,0 +1,40 @@
+// A noncontinuable exception, in a section with a __finally block, in a routine of a filter, in a
+// section whose __finally block raises.
+void fail(int n) { RaiseException(0xE0000000 + n, 0, 0, 0); }
+int begun1;
+int part1(void) {
+  begun1 = begun1 + 1;
+  if (begun1 > 1) return 1;
+  __try {
+    put(1);
+    RaiseException(0xE0000001, 1, 0, 0);
+    put(2);
+  } __finally {
+    put(3 + AbnormalTermination());
+  }
+  put(5);
+  return 1;
+}
+void part0(void) {
+  __try {
+    __try {
+      fail(6);
+    } __except (part1()) {
+      put(6);
+    }
+  } __finally {
+    put(7);
+    if (AbnormalTermination()) fail(3);
+  }
+  put(8);
+}
+int main(void) {
+  __try {
+    part0();
+    put(9);
+  } __except (1) {
+    put(GetExceptionCode() % 256);
+  }
+  put(10);
+  return 0;
+}

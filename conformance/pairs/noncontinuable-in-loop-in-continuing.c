@@ -1,0 +1,29 @@
+// A noncontinuable exception, in a loop, in a section whose filter mends and continues.
+int mending(unsigned code) {
+  put(code % 256);
+  protect((void *)0x20000000, 2);
+  return code == 0xC0000025 || code == 0xC0000094 ? 1 : -1;
+}
+void part0(void) {
+  __try {
+    int n1;
+    for (n1 = 0; n1 < 2; n1++) {
+      put(1);
+      RaiseException(0xE0000001, 1, 0, 0);
+      put(2);
+      put(3);
+    }
+  } __except (mending(GetExceptionCode())) {
+    put(4);
+  }
+}
+int main(void) {
+  __try {
+    part0();
+    put(5);
+  } __except (1) {
+    put(GetExceptionCode() % 256);
+  }
+  put(6);
+  return 0;
+}

@@ -1,0 +1,20 @@
+// A noncontinuable exception, in a section whose filter goes on.
+void part0(void) {
+  __try {
+    put(1);
+    RaiseException(0xE0000001, 1, 0, 0);
+    put(2);
+  } __except (put(3), 0) {
+    put(4);
+  }
+}
+int main(void) {
+  __try {
+    part0();
+    put(5);
+  } __except (1) {
+    put(GetExceptionCode() % 256);
+  }
+  put(6);
+  return 0;
+}

@@ -1,0 +1,26 @@
+// An exception, in an __except block, in a section whose filter accepts.
+void fail(int n) { RaiseException(0xE0000000 + n, 0, 0, 0); }
+void part0(void) {
+  __try {
+    __try {
+      fail(4);
+    } __except (1) {
+      put(1);
+      put(2);
+      fail(1);
+      put(3);
+    }
+  } __except (put(4), 1) {
+    put(5);
+  }
+}
+int main(void) {
+  __try {
+    part0();
+    put(6);
+  } __except (1) {
+    put(GetExceptionCode() % 256);
+  }
+  put(7);
+  return 0;
+}

@@ -1,0 +1,26 @@
+// An exception, in a section whose filter takes one code, in a loop.
+void fail(int n) { RaiseException(0xE0000000 + n, 0, 0, 0); }
+void part0(void) {
+  int n0;
+  for (n0 = 0; n0 < 2; n0++) {
+    __try {
+      put(1);
+      fail(1);
+      put(2);
+    } __except (GetExceptionCode() == 0xE0000003) {
+      put(3);
+    }
+    put(4);
+    put(5);
+  }
+}
+int main(void) {
+  __try {
+    part0();
+    put(6);
+  } __except (1) {
+    put(GetExceptionCode() % 256);
+  }
+  put(7);
+  return 0;
+}

@@ -1,0 +1,41 @@
+// An exception, in a section whose filter takes one code, in a section whose filter raises once,
+// in a routine of a __finally block.
+int asked;
+void fail(int n) { RaiseException(0xE0000000 + n, 0, 0, 0); }
+int raising(void) {
+  asked = asked + 1;
+  if (asked == 1) fail(2);
+  return 0;
+}
+void part1(void) {
+  __try {
+    __try {
+      put(1);
+      fail(1);
+      put(2);
+    } __except (GetExceptionCode() == 0xE0000003) {
+      put(3);
+    }
+    put(4);
+  } __except (raising()) {
+    put(5);
+  }
+}
+void part0(void) {
+  __try {
+    fail(5);
+  } __finally {
+    part1();
+    put(6);
+  }
+}
+int main(void) {
+  __try {
+    part0();
+    put(7);
+  } __except (1) {
+    put(GetExceptionCode() % 256);
+  }
+  put(8);
+  return 0;
+}

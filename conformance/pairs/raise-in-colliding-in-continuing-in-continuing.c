@@ -1,0 +1,37 @@
+// An exception, in a section whose __finally block raises, in a section whose filter mends and
+// continues, in a section whose filter mends and continues.
+void fail(int n) { RaiseException(0xE0000000 + n, 0, 0, 0); }
+int mending(unsigned code) {
+  put(code % 256);
+  protect((void *)0x20000000, 2);
+  return code == 0xC0000025 || code == 0xC0000094 ? 1 : -1;
+}
+void part0(void) {
+  __try {
+    __try {
+      __try {
+        put(1);
+        fail(1);
+        put(2);
+      } __finally {
+        put(3);
+        if (AbnormalTermination()) fail(3);
+      }
+      put(4);
+    } __except (mending(GetExceptionCode())) {
+      put(5);
+    }
+  } __except (mending(GetExceptionCode())) {
+    put(6);
+  }
+}
+int main(void) {
+  __try {
+    part0();
+    put(7);
+  } __except (1) {
+    put(GetExceptionCode() % 256);
+  }
+  put(8);
+  return 0;
+}

@@ -1,0 +1,22 @@
+// An exception, in a section with a __finally block.
+void fail(int n) { RaiseException(0xE0000000 + n, 0, 0, 0); }
+void part0(void) {
+  __try {
+    put(1);
+    fail(1);
+    put(2);
+  } __finally {
+    put(3 + AbnormalTermination());
+  }
+  put(5);
+}
+int main(void) {
+  __try {
+    part0();
+    put(6);
+  } __except (1) {
+    put(GetExceptionCode() % 256);
+  }
+  put(7);
+  return 0;
+}

@@ -1,0 +1,20 @@
+// A return, in a section whose filter takes one code.
+void part0(void) {
+  __try {
+    put(1);
+    return;
+  } __except (GetExceptionCode() == 0xE0000003) {
+    put(2);
+  }
+  put(3);
+}
+int main(void) {
+  __try {
+    part0();
+    put(4);
+  } __except (1) {
+    put(GetExceptionCode() % 256);
+  }
+  put(5);
+  return 0;
+}

@@ -1,0 +1,38 @@
+// A return, in a routine of a filter, in a section whose filter takes one code, in an __except
+// block.
+void fail(int n) { RaiseException(0xE0000000 + n, 0, 0, 0); }
+int begun2;
+int part1(void) {
+  begun2 = begun2 + 1;
+  if (begun2 > 1) return 1;
+  put(2);
+  return 1;
+  return 1;
+}
+void part0(void) {
+  __try {
+    fail(4);
+  } __except (1) {
+    put(1);
+    __try {
+      __try {
+        fail(6);
+      } __except (part1()) {
+        put(3);
+      }
+    } __except (GetExceptionCode() == 0xE0000003) {
+      put(4);
+    }
+    put(5);
+  }
+}
+int main(void) {
+  __try {
+    part0();
+    put(6);
+  } __except (1) {
+    put(GetExceptionCode() % 256);
+  }
+  put(7);
+  return 0;
+}

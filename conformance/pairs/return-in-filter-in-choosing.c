@@ -1,0 +1,32 @@
+// A return, in a routine of a filter, in a section whose filter takes one code.
+void fail(int n) { RaiseException(0xE0000000 + n, 0, 0, 0); }
+int begun1;
+int part1(void) {
+  begun1 = begun1 + 1;
+  if (begun1 > 1) return 1;
+  put(1);
+  return 1;
+  return 1;
+}
+void part0(void) {
+  __try {
+    __try {
+      fail(6);
+    } __except (part1()) {
+      put(2);
+    }
+  } __except (GetExceptionCode() == 0xE0000003) {
+    put(3);
+  }
+  put(4);
+}
+int main(void) {
+  __try {
+    part0();
+    put(5);
+  } __except (1) {
+    put(GetExceptionCode() % 256);
+  }
+  put(6);
+  return 0;
+}

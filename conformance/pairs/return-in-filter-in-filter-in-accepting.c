@@ -1,0 +1,43 @@
+// A return, in a routine of a filter, in a routine of a filter, in a section whose filter
+// accepts.
+void fail(int n) { RaiseException(0xE0000000 + n, 0, 0, 0); }
+int begun1;
+int begun2;
+int part2(void) {
+  begun2 = begun2 + 1;
+  if (begun2 > 1) return 1;
+  put(1);
+  return 1;
+  return 1;
+}
+int part1(void) {
+  begun1 = begun1 + 1;
+  if (begun1 > 1) return 1;
+  __try {
+    fail(6);
+  } __except (part2()) {
+    put(2);
+  }
+  return 1;
+}
+void part0(void) {
+  __try {
+    __try {
+      fail(6);
+    } __except (part1()) {
+      put(3);
+    }
+  } __except (put(4), 1) {
+    put(5);
+  }
+}
+int main(void) {
+  __try {
+    part0();
+    put(6);
+  } __except (1) {
+    put(GetExceptionCode() % 256);
+  }
+  put(7);
+  return 0;
+}

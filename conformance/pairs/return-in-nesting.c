@@ -1,0 +1,26 @@
+// A return, in a section whose filter raises once.
+int asked;
+void fail(int n) { RaiseException(0xE0000000 + n, 0, 0, 0); }
+int raising(void) {
+  asked = asked + 1;
+  if (asked == 1) fail(2);
+  return 0;
+}
+void part0(void) {
+  __try {
+    put(1);
+    return;
+  } __except (raising()) {
+    put(2);
+  }
+}
+int main(void) {
+  __try {
+    part0();
+    put(3);
+  } __except (1) {
+    put(GetExceptionCode() % 256);
+  }
+  put(4);
+  return 0;
+}

@@ -1,0 +1,28 @@
+// A return, in a section whose filter goes on, in a section whose filter mends and continues.
+int mending(unsigned code) {
+  put(code % 256);
+  protect((void *)0x20000000, 2);
+  return code == 0xC0000025 || code == 0xC0000094 ? 1 : -1;
+}
+void part0(void) {
+  __try {
+    __try {
+      put(1);
+      return;
+    } __except (put(2), 0) {
+      put(3);
+    }
+  } __except (mending(GetExceptionCode())) {
+    put(4);
+  }
+}
+int main(void) {
+  __try {
+    part0();
+    put(5);
+  } __except (1) {
+    put(GetExceptionCode() % 256);
+  }
+  put(6);
+  return 0;
+}

@@ -1,0 +1,42 @@
+use Rattle.std.proofs.Common.{◌≡◌, ◌+◌, ◌%◌, ◌^◌, Bool, true, false, Some, length, sym, ap, ◌∙◌, arith}
+use Rattle.virtual_unwind.specs.Tail.{tail, tail_at}
+use Rattle.unwind_check.specs.Boundaries.{between}
+use Rattle.unwind_check.specs.Steps.{counted}
+use Rattle.unwind_check.proofs.Rests.{no_part, last_part, next_part, same_tail}
+use Rattle.unwind_check.proofs.tail.tail_from.Goals as goal
+
+pub returns-in-None : goal.returns-in-None
+unfolding tail_at
+returns-in-None g c =
+    no_part (g.S.CodeSpace.memory c.args.space.now) c.args.register c.args.at true 0
+    0xFFFF_FFFF_FFFF_FFFF c.args.item.now c.requires.there (sym c.in-None.ensures)
+
+pub returns-then-last : goal.returns-then-last
+unfolding tail_at
+returns-then-last g c = (
+  last_part (g.S.CodeSpace.memory c.args.space.now) c.args.register c.args.at true 0
+      0xFFFF_FFFF_FFFF_FFFF c.args.item.now (omega arith) c.requires.there
+      (sym c.in-Some.ensures ∙ ap (λ (b : Bool). Some b) c.if-last.true),
+  omega arith,
+)
+
+pub returns-else-last : goal.returns-else-last
+unfolding tail_at
+returns-else-last g c =
+    let m = g.S.CodeSpace.memory c.args.space.now in
+    let x = c.args.item.now in
+    let z = c.size.ensures in
+    let inside = c.requires.inside in
+    let low = c.requires.low in
+    let f = c.args.register in
+    let at = c.args.at in
+    same_tail (1 + length (between m (at + c.size.result) c.args.end).items)
+    (1 + length (between m (at + x.size) c.args.end).items)
+    (counted 1 (tail 0xFFFF_FFFF_FFFF_FFFE false f m (at + c.size.result)))
+    (counted 0 (tail 0xFFFF_FFFF_FFFF_FFFF true f m at)) c.later_tail.result
+    (ap (λ k. 1 + length (between m (at + k) c.args.end).items) z)
+    (ap (λ k. counted 1 (tail 0xFFFF_FFFF_FFFF_FFFE false f m k))
+    (let y : at + c.size.result ≡ (at + x.size) % 2 ^ 64 = omega (arith, z, inside, low) in y)
+    ∙ sym (next_part m f at true 0 0xFFFF_FFFF_FFFF_FFFF 0xFFFF_FFFF_FFFF_FFFE x (omega arith)
+    c.requires.there (sym c.in-Some.ensures ∙ ap (λ (b : Bool). Some b) c.if-last.false)))
+    c.later_tail.ensures
