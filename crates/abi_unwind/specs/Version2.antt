@@ -3,7 +3,7 @@
 -- Microsoft x64 ABI has it).
 --
 -- The main definition: `abi_caller_2`.
-use Rattle.std.specs.Prelude.{ℕ, ◌+◌, ◌-◌, ◌*◌, ◌/◌, ◌%◌, Bool, true, false, ◌==◌, ◌&&◌, ◌||◌, nat_le, nat_lt, if◌then◌else◌, List, [], ◌∷◌, Option, Some, None}
+use Rattle.std.specs.Prelude.{ℕ, ◌+◌, ◌-◌, ◌*◌, ◌/◌, ◌%◌, Bool, true, false, ◌==◌, ◌&&◌, ◌||◌, nat_le, nat_lt, if◌then◌else◌, List, [], ◌∷◌, Option, None}
 use Rattle.flat_memory.specs.Memory.{Memory}
 use Rattle.eh_tables.specs.Codes as slots
 use Rattle.eh_tables.specs.Infos.{Info, info_of, is_framed, slots_of}

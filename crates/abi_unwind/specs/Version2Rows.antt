@@ -3,7 +3,7 @@ use Rattle.std.specs.Prelude.{◌≡◌, ℕ, List, [], ◌∷◌}
 use Rattle.eh_tables.specs.Infos.{slots_of}
 use Rattle.eh_tables.specs.Tables.{Entry}
 use Rattle.abi_unwind.specs.Rows.{functions, worked_memory, context_at, numbers_of}
-use Rattle.abi_unwind.specs.Version2.{Epilogues, epilogues_of, info_2, abi_caller_2}
+use Rattle.abi_unwind.specs.Version2.{epilogues_of, info_2, abi_caller_2}
 
 -- `push rdi; sub rsp,20h; nop`, then twice `add rsp,20h; pop rdi; ret` with a `nop` between: pops
 -- and `ret` at 0A and at 11. RDI pushed at 01, 32 bytes allocated at 05
