@@ -1,4 +1,9 @@
 -- The caller of a frame, and the entry of an address: of all entries that one alone is read.
+--
+-- `unwound`, `walked_in`, `found_in`, `scopes_in`, `checked`: what the calls answer, from the bytes
+-- of an image on, in a file or mapped.
+--
+-- The main definition: `caller_in`.
 use Rattle.std.specs.Prelude.{◌≡◌, ℕ, List, Option, option_map, Result, Ok, Err}
 use Rattle.seh_num.specs.Answers.{◌>>=◌}
 use Rattle.flat_memory.specs.Memory.{Memory}
@@ -28,7 +33,8 @@ caller_at t rva m c = do
   o ← of_table (entry_covering t rva)
   caller_by m c rva o
 
--- in an image that lies at a base
+-- the caller by the rules of `caller_of`, with the entry that covers RIP read when it is asked;
+-- what is refused is an image, a table, that entry, or a word of the stack
 abbrev pub caller_in : Tables → ℕ → Memory → Context → Answer Caller
 caller_in t base m c = caller_at t (distance base c.rip) m c
 
