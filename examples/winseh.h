@@ -15,6 +15,7 @@
 #define BOOL int
 #define CHAR char
 #define CCHAR char
+#define TCHAR char
 #define BYTE unsigned char
 #define UCHAR unsigned char
 #define BOOLEAN unsigned char
@@ -78,6 +79,8 @@
 #define LPSTR char *
 #define PCSTR char *
 #define LPCSTR char *
+#define LPTSTR char *
+#define LPCTSTR char *
 #define PBYTE unsigned char *
 #define LPBYTE unsigned char *
 #define PUCHAR unsigned char *

@@ -4,9 +4,12 @@ from dataclasses import dataclass, field
 
 from . import constants
 from .structure import Structure
-from .tokens import joined
+from .tokens import joined, pairs, split
 
 ALWAYS = "EXCEPTION_EXECUTE_HANDLER"
+# a division by zero, a quotient that doesn't fit, a continued noncontinuable exception; a refused
+# access has more words in its line
+OF_MACHINE = {0xC0000094, 0xC0000095, 0xC0000025}
 
 
 @dataclass
@@ -87,13 +90,18 @@ class Reader:
         self.accepted = self.asked = self.raised = None
 
     def read_raises(self):
-        """The calls of RaiseException with a literal code: the indices by the code."""
-        found = {}
+        """The calls of RaiseException by their codes: none where a call's code isn't constant, since
+        that call may raise any code; and not the codes that the machine raises too."""
+        found, close = {}, pairs(self.tokens)
         for i, token in enumerate(self.tokens[:-2]):
-            if token.text == "RaiseException" and self.tokens[i + 2].kind == "number":
-                code = constants.number(self.tokens[i + 2].text) & 0xFFFFFFFF
-                found.setdefault(code, []).append(i)
-        return found
+            if token.text != "RaiseException" or self.tokens[i + 1].text != "(":
+                continue
+            try:
+                code = constants.evaluated((split(self.tokens[i + 2 : close[i + 1]]) or [[]])[0])
+            except constants.NotConstant:
+                return {}
+            found.setdefault(code & 0xFFFFFFFF, []).append(i)
+        return {code: places for code, places in found.items() if code not in OF_MACHINE}
 
     def event(self, line):
         words = line.split()

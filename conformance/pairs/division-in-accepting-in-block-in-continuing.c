@@ -15,7 +15,7 @@ void part0(void) {
       put(1);
       __try {
         put(2);
-        put(1 / zero);
+        put(7 / zero);
         put(3);
       } __except (put(4), 1) {
         put(5);

@@ -15,7 +15,7 @@ void part0(void) {
       } __except (1) {
         put(1);
         put(2);
-        put(1 / zero);
+        put(7 / zero);
         put(3);
       }
     } __except (mending(GetExceptionCode())) {

@@ -2,7 +2,7 @@
 int zero;
 void part1(void) {
   put(1);
-  put(1 / zero);
+  put(7 / zero);
   put(2);
 }
 void part0(void) {

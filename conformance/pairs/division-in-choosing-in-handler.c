@@ -5,7 +5,7 @@ int zero;
 void part1(void) {
   __try {
     put(1);
-    put(1 / zero);
+    put(7 / zero);
     put(2);
   } __except (GetExceptionCode() == 0xE0000003) {
     put(3);

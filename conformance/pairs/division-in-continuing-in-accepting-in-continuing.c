@@ -11,7 +11,7 @@ void part0(void) {
     __try {
       __try {
         put(1);
-        put(1 / zero);
+        put(7 / zero);
         put(2);
       } __except (mending(GetExceptionCode())) {
         put(3);

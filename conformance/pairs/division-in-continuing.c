@@ -8,7 +8,7 @@ int mending(unsigned code) {
 void part0(void) {
   __try {
     put(1);
-    put(1 / zero);
+    put(7 / zero);
     put(2);
   } __except (mending(GetExceptionCode())) {
     put(3);

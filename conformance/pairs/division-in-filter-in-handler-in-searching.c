@@ -7,7 +7,7 @@ int part2(void) {
   begun2 = begun2 + 1;
   if (begun2 > 1) return 1;
   put(1);
-  put(1 / zero);
+  put(7 / zero);
   put(2);
   return 1;
 }

@@ -6,7 +6,7 @@ int part1(void) {
   begun1 = begun1 + 1;
   if (begun1 > 1) return 1;
   put(1);
-  put(1 / zero);
+  put(7 / zero);
   put(2);
   return 1;
 }

@@ -6,7 +6,7 @@ int part1(void) {
   begun0 = begun0 + 1;
   if (begun0 > 1) return 1;
   put(1);
-  put(1 / zero);
+  put(7 / zero);
   put(2);
   return 1;
 }

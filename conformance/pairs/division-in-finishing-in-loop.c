@@ -5,7 +5,7 @@ void part0(void) {
   for (n0 = 0; n0 < 2; n0++) {
     __try {
       put(1);
-      put(1 / zero);
+      put(7 / zero);
       put(2);
     } __finally {
       put(3 + AbnormalTermination());

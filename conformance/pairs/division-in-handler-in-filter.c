@@ -4,7 +4,7 @@ int zero;
 int begun0;
 void part2(void) {
   put(1);
-  put(1 / zero);
+  put(7 / zero);
   put(2);
 }
 int part1(void) {

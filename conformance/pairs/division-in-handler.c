@@ -3,7 +3,7 @@ void fail(int n) { RaiseException(0xE0000000 + n, 0, 0, 0); }
 int zero;
 void part1(void) {
   put(1);
-  put(1 / zero);
+  put(7 / zero);
   put(2);
 }
 void part0(void) {

@@ -7,7 +7,7 @@ void part0(void) {
       int n2;
       for (n2 = 0; n2 < 2; n2++) {
         put(1);
-        put(1 / zero);
+        put(7 / zero);
         put(2);
         put(3);
       }

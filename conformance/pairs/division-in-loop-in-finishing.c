@@ -5,7 +5,7 @@ void part0(void) {
     int n1;
     for (n1 = 0; n1 < 2; n1++) {
       put(1);
-      put(1 / zero);
+      put(7 / zero);
       put(2);
       put(3);
     }

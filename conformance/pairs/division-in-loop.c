@@ -4,7 +4,7 @@ void part0(void) {
   int n0;
   for (n0 = 0; n0 < 2; n0++) {
     put(1);
-    put(1 / zero);
+    put(7 / zero);
     put(2);
     put(3);
   }

@@ -15,7 +15,7 @@ int part1(void) {
   __try {
     __try {
       put(1);
-      put(1 / zero);
+      put(7 / zero);
       put(2);
     } __except (raising()) {
       put(3);

@@ -10,7 +10,7 @@ int raising(void) {
 void part0(void) {
   __try {
     put(1);
-    put(1 / zero);
+    put(7 / zero);
     put(2);
   } __except (raising()) {
     put(3);

@@ -7,7 +7,7 @@ int part1(void) {
   if (begun0 > 1) return 1;
   __try {
     put(1);
-    put(1 / zero);
+    put(7 / zero);
     put(2);
   } __except (put(3), 0) {
     put(4);

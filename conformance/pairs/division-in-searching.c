@@ -3,7 +3,7 @@ int zero;
 void part0(void) {
   __try {
     put(1);
-    put(1 / zero);
+    put(7 / zero);
     put(2);
   } __except (put(3), 0) {
     put(4);

@@ -8,7 +8,7 @@ int main(void) {
         RaiseException(0xE0000001, 0, 0, 0);
       } __finally {
         put(1);
-        put(1 / zero);
+        put(7 / zero);
       }
     } __except (GetExceptionCode() == 0xC0000094) {
       put(2);

@@ -3,7 +3,7 @@
 int zero;
 int main(void) {
   __try {
-    put(1 / zero);
+    put(7 / zero);
   } __except (put(GetExceptionInformation()->ExceptionRecord->NumberParameters), 1) {
     put(1);
   }

@@ -8,10 +8,10 @@ int sum(int *a, int n) {
   return s;
 }
 int large(int n) {
-  int a[2000];
+  int a[1100];
   int i;
-  for (i = 0; i < 2000; i++) a[i] = n;
-  return sum(a, 2000) + a[1999];
+  for (i = 0; i < 1100; i++) a[i] = n;
+  return sum(a, 1100) + a[1099];
 }
 int main(void) {
   int x = 5;

@@ -2,14 +2,14 @@
 // Microsoft x64 ABI, "x64 exception handling", Unwind procedure.
 void fail(void) { RaiseException(0xE0000001, 0, 0, 0); }
 void large(int n) {
-  int a[1500];
+  int a[1100];
   int i;
-  for (i = 0; i < 1500; i++) a[i] = i + n;
+  for (i = 0; i < 1100; i++) a[i] = i + n;
   __try {
     a[0] = 3;
     fail();
   } __finally {
-    put(a[0] + a[1499]);
+    put(a[0] + a[1099]);
   }
 }
 int main(void) {

@@ -71,7 +71,8 @@ module _ (t : Tables) (base : ℕ) (m : Memory) (c : AbiContext) (e : Entry) whe
         (
           w.1.1.1,
           ap (λ x. x >>= frame_at base m c e)
-              (kept_by t base e (tail_at e.info.frame_register m c.general.rip) w.0 end r w.1.0 w.1.1.0 k),
+              (kept_by t base e (tail_at e.info.frame_register m c.general.rip) w.0 end r w.1.0
+              w.1.1.0 k),
         ),
       )
 

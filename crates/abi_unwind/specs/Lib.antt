@@ -3,6 +3,8 @@ pub mod Tail
 pub mod Undone
 pub mod Caller
 pub mod Each
+pub mod Version2
+pub mod Version2Rows
 pub mod Views
 pub mod Ran
 pub mod Laws

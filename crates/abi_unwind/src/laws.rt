@@ -2,6 +2,7 @@
 
 ghost use Rattle.abi_unwind.specs.Laws.{TheyAgree, TheyRefuse};
 ghost use Rattle.abi_unwind.specs.Rows.{Tails, NoTails, Cases, Jumps, Parts, Edges, Frames, Vectors, MachineFrames};
+ghost use Rattle.abi_unwind.specs.Version2Rows.{ListedEpilogues};
 
 /// What the trailing parts of worked bytes are, and which have none.
 pub fn trailing_parts()
@@ -20,6 +21,12 @@ pub fn worked_callers()
     ensures frames { Frames }
     ensures vectors { Vectors }
     ensures machine_frames { MachineFrames }
+{}
+
+/// Callers of a worked function whose unwind info has version 2, with one epilogue listed and two:
+/// in them, before them, and where none is listed.
+pub fn worked_version_2()
+    ensures { ListedEpilogues }
 {}
 
 /// Past a prologue and in no entry, where no vector register is saved and neither unwinder sees an

@@ -292,10 +292,17 @@ module _ (program : Program) (linear : LinearProgram) (rate body : ℕ) where
       (claim_kept linear rate (at (conf context site pc [] st store)) st
       (price 0 0 (expression_weight e) (expression_weight e))
       (value_ways (pushed context site (pc + expression_size e) [])
-      (Within program linear rate body shapes store) context site)
-      (Stays names shapes context base)
+      (Within program linear rate body shapes store) context site) (Stays names shapes context base)
       (within program n (Eval e) context st) (stays_through names shapes context base store kept.1)
-      (ih.eval e names false z shapes context site store pc [] st store steps light fits has
-      (env_now names z shapes context site base store kept.1 standing.env)
+      (ih.eval e (record {
+        names = names;
+        info = false;
+        z = z;
+        shapes = shapes;
+        context = context;
+        site = site;
+        base = store;
+        around = env_now names z shapes context site base store kept.1 standing.env;
+      }) pc [] st store steps light fits has
       (kept.0, kept_itself everywhere shapes store, kept.2) held))
       (λ v mid after lower kept held. go v mid after (omega arith) kept held)

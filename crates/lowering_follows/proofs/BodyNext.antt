@@ -2,7 +2,7 @@
 use Rattle.std.proofs.Common.{◌≡◌, ◌≤◌, ℕ, zero, suc, ◌+◌, List, [], ◌∷◌, ◌++◌, length, refl, ap, sym, subst, ◌∙◌, arith}
 use Rattle.std.specs.Prelude.{◌-◌, Bool, true, false, Option, Some, None}
 use Rattle.seh_num.specs.declared.event.Event.TheVariants as events
-use Rattle.lowering_follows.specs.Words.{Statements, Program, State, Normal, Target, Outcome, Gives, emit, hold, let_go, and_then, Context, DataPart, reset_pointer_if, Run, ForIteration, DoIteration, TryBody, RunFinally, of_test, no_exception, all, perform, within, LinearProgram, FuncletBody, Item, Store, Configuration, with_some, set_local, local_of, deeper, begin_finally, end_funclet, end_finally, exec, Names, finally_names, finally_scope, statement_size, statements_size, statements_notes, expression_weight, optional_weight, statement_weight, statements_weight, HasAt, finally_begin, HasFunclet, FinallyPlaced, for_end, do_end}
+use Rattle.lowering_follows.specs.Words.{LoweringContext, Statements, Program, State, Normal, Target, Outcome, Gives, emit, hold, let_go, and_then, Context, DataPart, reset_pointer_if, Run, ForIteration, DoIteration, TryBody, RunFinally, of_test, no_exception, all, perform, within, LinearProgram, FuncletBody, Item, Store, Configuration, with_some, set_local, local_of, deeper, begin_finally, end_funclet, end_finally, exec, Names, finally_names, finally_scope, statement_size, statements_size, statements_notes, expression_weight, optional_weight, statement_weight, statements_weight, HasAt, finally_begin, HasFunclet, FinallyPlaced, for_end, do_end}
 use Rattle.linear_code.specs.declared.slot.Slot.TheVariants.{Local}
 use Rattle.linear_code.specs.declared.instruction.Instruction.TheVariants as instructions
 use Rattle.linear_code.specs.declared.program.FuncletKind.TheVariants as kinds
@@ -17,6 +17,7 @@ use Rattle.lowering_follows.proofs.BodySteps.{for_runs, do_runs}
 use Rattle.lowering_follows.proofs.BodyStatements.{statement_runs}
 use Rattle.lowering_follows.proofs.StackPointers.{reset_store_if, reset_stays_if, finally_reach}
 use Rattle.lowering_follows.proofs.Tries.{surroundings_finally, noted_kept, noted_stays, stays_out}
+use Rattle.lowering_follows.proofs.StatementSettings.{StatementSetting, statement_setting}
 
 reset_asked : (flag : Bool) (part : Option DataPart) (activation k : ℕ) (st : State)
     → reset_pointer_if flag part activation (emit (events.Finally k flag) (hold st))
@@ -165,8 +166,7 @@ module _ (program : Program) (linear : LinearProgram) (rate body : ℕ) where
         (λ st. perform program (within program n) (RunFinally k last flag) context st)
         (omega arith)
         (shown_deep linear rate 2 held store st.events (exec linear zero begins)
-        (prefix_less st.events _ (events.Finally (j + 1) flag)
-        (from_none linear zero begins)))
+        (prefix_less st.events _ (events.Finally (j + 1) flag) (from_none linear zero begins)))
         (λ m less.
         let low : State = record st { steps_left = m } in
         let first_asked : State = emit (events.Finally k flag) (hold low) in
@@ -182,8 +182,7 @@ module _ (program : Program) (linear : LinearProgram) (rate body : ℕ) where
         let o = and_then (all (within program n) last inner asked)
         (λ st. Gives Normal (let_go st)) in
         deep_claim linear rate 2 held store (at (place (j + 1))) low (price 16 1 y y) w
-        (λ st. and_then (all (within program n) last inner
-        (emit (events.Finally k flag)
+        (λ st. and_then (all (within program n) last inner (emit (events.Finally k flag)
         (hold (reset_pointer_if flag context.data_part context.activation st))))
         (λ st. Gives Normal (let_go st))) deep same_held
         (sooner linear rate (at (place (j + 1))) low first_asked (price 16 1 y y) w o refl
@@ -196,8 +195,7 @@ module _ (program : Program) (linear : LinearProgram) (rate body : ℕ) where
         (subst (λ part. HasAt linear (FuncletBody j) [] 0 (finally_begin part names.free))
         standing.part placed.begins))
         (subst (λ q. Claim linear rate (at (conf inner fsite 3 [] q store')) q (price 1 0 x x) w o)
-        (sym reset_is)
-        (final_end j names below held flag context site pc temps
+        (sym reset_is) (final_end j names below held flag context site pc temps
         (Stays program linear rate body names' shapes inner base')
         (Stays program linear rate body names shapes context base) (3 + statements_size last) out
         (λ st store p. out st store p) placed.funclet placed.returns isf
@@ -213,6 +211,11 @@ module _ (program : Program) (linear : LinearProgram) (rate body : ℕ) where
         (noted_kept program linear rate body names names' z shapes context base (of_test flag) st
         store refl standing.env.shape standing.past kept))) held_is)))))))
 
+    abbrev inside : (scope : LoweringContext) (z : Shape) (shapes : List Shape) (context : Context)
+        (site : Site) (base : Store) → StatementSetting
+    inside scope z shapes context site base =
+        statement_setting program linear rate body n ih bih scope z shapes context site base
+
     pub body_next : BodyRuns program linear rate body (suc n)
     body_next = record {
       run = λ s scope z shapes context site base pc st store steps light has inner standing kept
@@ -223,8 +226,8 @@ module _ (program : Program) (linear : LinearProgram) (rate body : ℕ) where
           (pc + statement_size s)) st 0 (statement_weight s) (statement_weight s)
           (λ st. perform program (within program n) (Run s) context st) (omega arith)
           (from_none linear zero (conf context site pc [] st store))
-          (λ m less. statement_runs program linear rate body roomy n ih bih scope z shapes context
-          site base s pc (record st { steps_left = m }) store (omega arith) light has inner
+          (λ m less. statement_runs (inside scope z shapes context site base) roomy s pc
+          (record st { steps_left = m }) store (omega arith) light has inner
           standing kept held);
       for_run = λ c next s scope z shapes context site base pc st store steps light has inner
           standing kept held.
@@ -235,8 +238,8 @@ module _ (program : Program) (linear : LinearProgram) (rate body : ℕ) where
           st 0 wi wi
           (λ st. perform program (within program n) (ForIteration c next s) context st)
           (omega arith) (from_none linear zero (conf context site pc [] st store))
-          (λ m less. for_runs program linear rate body roomy n ih bih scope z shapes context site
-          base c next s pc (record st { steps_left = m }) store (omega arith) light has inner
+          (λ m less. for_runs (inside scope z shapes context site base) roomy c next s pc
+          (record st { steps_left = m }) store (omega arith) light has inner
           standing kept held);
       do_run = λ s c scope z shapes context site base pc st store steps light has inner standing
           kept held.
@@ -247,8 +250,8 @@ module _ (program : Program) (linear : LinearProgram) (rate body : ℕ) where
           wi wi
           (λ st. perform program (within program n) (DoIteration s c) context st) (omega arith)
           (from_none linear zero (conf context site pc [] st store))
-          (λ m less. do_runs program linear rate body roomy n ih bih scope z shapes context site
-          base s c pc (record st { steps_left = m }) store (omega arith) light has inner standing
+          (λ m less. do_runs (inside scope z shapes context site base) roomy s c pc
+          (record st { steps_left = m }) store (omega arith) light has inner standing
           kept held);
       try_run = λ ss scope z shapes context site base pc st store steps light has inner standing
           kept held.

@@ -8,7 +8,7 @@ use Rattle.linear_code.specs.Program.{depth_weight}
 use Rattle.source_meaning.specs.State.{counting}
 use Rattle.linear_code.specs.declared.instruction.Instruction.TheVariants as instructions
 use Rattle.linear_machine.specs.Frames as machine
-use Rattle.lowering_follows.proofs.Lemmas.{Part, at, Site, conf, Picked, Ways, price, found, Reaches, Arrives, Claim, value_ways, more, attains_out, reaches_after, stepped, first, fetch, sooner, deep_claim, prefix_self, handlers_below, leaves, asking_within}
+use Rattle.lowering_follows.proofs.Lemmas.{Part, at, Site, conf, Picked, Ways, price, found, Arrives, Claim, value_ways, more, attains_out, reaches_after, stepped, first, fetch, sooner, deep_claim, prefix_self, handlers_below, leaves, asking_within}
 use Rattle.linear_machine.proofs.Stretch.{Kept, To}
 use Rattle.lowering_follows.proofs.Stores.{at_push_old, Shape, FrameAlike, Places, NotesKept, everywhere, below_slot, kept_itself, kept_through, get_push_new, get_pushed, push_alike, take_alike, call_kept, push_functions, push_inwards, take_functions}
 use Rattle.lowering_follows.proofs.Environments.{FlagBound, HowFits, Match, match_kept}

@@ -2,6 +2,7 @@ mod Lemmas
 pub mod Stores
 pub mod Places
 pub mod BodyClaims
+pub mod StatementSettings
 pub mod BodySequences
 pub mod BodyParts
 pub mod StackedVariables
@@ -21,6 +22,7 @@ pub mod Lengths
 pub mod Handlers
 pub mod Environments
 pub mod TaskClaims
+pub mod NodeSettings
 pub mod Raises
 pub mod VectoredHandlers
 pub mod Turns

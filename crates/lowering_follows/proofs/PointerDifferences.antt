@@ -3,13 +3,13 @@ use Rattle.std.proofs.Common.{◌≡◌, ◌<◌, ◌≤◌, ℕ, zero, suc, ◌
 use Rattle.std.proofs.lemmas.Bool.{lt-ltb, ltb-true, ltb-false}
 use Rattle.std.proofs.lemmas.List.{length_push}
 use Rattle.std.specs.Prelude.{◌-◌, ◌/◌, nat_lt, negsuc, ◌-ℤ◌, int_div, neg_ℤ, Bool, true, false, if◌then◌else◌, ℤ, pos}
-use Rattle.lowering_follows.specs.Words.{W64, low, signed, wrapped, limit, half, Expression, Program, State, Value, Gives, Context, Temporary, LinearProgram, Store, with_temporary, exec, Names, expression_size, constant, combine, node_code, NodeFits, expression_weight, node_weight, HasAt, Long, result_of, performed, signed_part, is_reserved, Memory, computed, apart}
+use Rattle.lowering_follows.specs.Words.{W64, low, signed, wrapped, limit, half, Expression, State, Value, Gives, Temporary, Store, with_temporary, exec, expression_size, constant, combine, node_code, NodeFits, expression_weight, node_weight, HasAt, Long, result_of, performed, signed_part, is_reserved, Memory, computed, apart}
 use Rattle.c_operations.specs.declared.operation.Operation.TheVariants as operations
 use Rattle.c_operations.specs.declared.operation.Pure.TheVariants as pures
 use Rattle.c_checked.specs.Expression as nodes
-use Rattle.lowering_follows.proofs.Lemmas.{Site, conf}
-use Rattle.lowering_follows.proofs.Stores.{Shape}
-use Rattle.lowering_follows.proofs.TaskClaims.{pushed, Around, Runs}
+use Rattle.lowering_follows.proofs.Lemmas.{conf}
+use Rattle.lowering_follows.proofs.NodeSettings.{NodeSetting}
+use Rattle.lowering_follows.proofs.TaskClaims.{pushed}
 use Rattle.lowering_follows.proofs.Turns.{combining, pure_turn, constant_turn}
 use Rattle.lowering_follows.proofs.Operations.{push_put}
 use Rattle.lowering_follows.proofs.NodeParts.{Kp, turn, here_other}
@@ -64,64 +64,54 @@ divides reserved q n m p h =
     ∙ ap (signed_part (λ x. x.0) W64 m) (sym (divided W64 (signed W64 q) (pos n) p
     (quotient_small (signed W64 q) n (signed_is q) p)))
 
-module _ (program : Program) (linear : LinearProgram) (rate body : ℕ)
-    (same_globals : linear.globals ≡ program.globals) (roomy : 4 ≤ rate) (n : ℕ)
-    (ih : Runs program linear rate body n) where
-  module _ (names : Names) (info : Bool) (z : Shape) (shapes : List Shape) (context : Context)
-      (site : Site) (base : Store) (around : Around program linear rate body names info z shapes
-      context site base) where
-    pub difference_node : (size : ℕ) (e f : Expression) (pc : ℕ) (temps : List ℕ) (st : State)
-        (store : Store) → st.steps_left ≤ n → 1 + node_weight (nodes.PointerDifference size e f)
-        + body + 4 ≤ rate → NodeFits program z.own info (nodes.PointerDifference size e f)
-        → HasAt linear site.body site.regions pc
-        (node_code names (nodes.PointerDifference size e f) (length temps) pc)
-        → Kp program linear rate body same_globals roomy n ih names info z shapes context site base
-        around st store → st.held ≡ site.held
-        → NodeRuns program linear rate body same_globals roomy n ih names info z shapes context site
-        base around (nodes.PointerDifference size e f) pc temps st store
-    difference_node size e f pc temps st store steps light fits has kept held =
-        let d = length temps in
-        let w = 1 + (expression_weight e + expression_weight f) in
-        let debt = 1 + expression_weight e + expression_weight f in
-        let pc2 = pc + expression_size e + expression_size f in
-        let last_pc = pc + (expression_size e + (expression_size f + 3)) in
-        let part = pushed context site last_pc temps in
-        let end : pc2 + 1 + 1 + 1 ≡ last_pc = omega arith in
-        two_runs program linear rate body same_globals roomy n ih names info z shapes context site
-        base around e f (combine d (operations.Pure (pures.Subtract Long)) ∷ constant (d + 1) size
-        ∷ combine d (operations.Divide Signed Long) ∷ []) pc temps st store 13 w part
-        (λ x y st. Gives (Value (apart size x y)) st) steps (omega arith) (omega arith) fits.0
-        fits.1 has kept held
-        (λ x y mid after steps kept held last.
-        let q = result_of (pures.Subtract Long) x y in
-        let v = apart size x y in
-        let small : size < 2 ^ 64 = let s = fits.2.small in omega arith in
-        turn program linear rate body same_globals roomy n ih names info z shapes context site base
-        around pc2 (pc2 + 1) ((temps ++ x ∷ []) ++ y ∷ []) (temps ++ q ∷ []) mid after 12 debt w w
-        part (Gives (Value v) mid)
-        (λ k. pure_turn linear rate context site (pures.Subtract Long) d d (d + 1) x y
-        (λ u. temps ++ u ∷ []) pc2 ((temps ++ x ∷ []) ++ y ∷ []) mid after k refl
-        (last.0, last.1, tt) (combining temps x y))
-        (turn program linear rate body same_globals roomy n ih names info z shapes context site base
-        around (pc2 + 1) (pc2 + 1 + 1) (temps ++ q ∷ []) ((temps ++ q ∷ []) ++ size ∷ []) mid
-        after 11 debt w w part (Gives (Value v) mid)
-        (λ k. constant_turn linear rate context site size (d + 1) ((temps ++ q ∷ []) ++ size ∷ [])
-        (pc2 + 1) (temps ++ q ∷ []) mid after k small (last.2.0, last.2.1, tt)
-        (ap (λ i. with_temporary (temps ++ q ∷ []) i size) (sym (length_push temps q))
-        ∙ push_put (temps ++ q ∷ []) size))
-        (turn program linear rate body same_globals roomy n ih names info z shapes context site base
-        around (pc2 + 1 + 1) (pc2 + 1 + 1 + 1) ((temps ++ q ∷ []) ++ size ∷ []) (temps ++ v ∷ [])
-        mid after 10 debt w w part (Gives (Value v) mid)
-        (λ k.
-        computes linear rate context site (operations.Divide Signed Long) d d (d + 1) q size
-        (λ u. temps ++ u ∷ []) (pc2 + 1 + 1) ((temps ++ q ∷ []) ++ size ∷ []) mid after k refl
-        last.2.2 (combining temps q size)
-        ∙ ap (computed linear (exec linear k) (Temporary d)
-        (conf context site (pc2 + 1 + 1) ((temps ++ q ∷ []) ++ size ∷ []) mid after))
-        (divides (is_reserved linear.globals) q size after.memory fits.2.positive fits.2.small)
-        ∙ computed_gives linear rate context site d (pc2 + 1 + 1) ((temps ++ q ∷ []) ++ size ∷ [])
-        (temps ++ v ∷ []) mid after v after.memory (exec linear k)
-        ((combining temps q size).writes v))
-        (here_other program linear rate body same_globals roomy n ih names info z shapes context
-        site base around (pc2 + 1 + 1 + 1) last_pc temps v mid after 10 debt w w end (omega arith)
-        kept held))))
+module _ (setting : NodeSetting) (roomy : 4 ≤ setting.rate) where
+  open setting use {program, linear, rate, body, n, code_place.{names, info, z, context, site}}
+
+  pub difference_node : (size : ℕ) (e f : Expression) (pc : ℕ) (temps : List ℕ) (st : State)
+      (store : Store) → st.steps_left ≤ n → 1 + node_weight (nodes.PointerDifference size e f)
+      + body + 4 ≤ rate → NodeFits program z.own info (nodes.PointerDifference size e f)
+      → HasAt linear site.body site.regions pc
+      (node_code names (nodes.PointerDifference size e f) (length temps) pc)
+      → Kp setting roomy st store → st.held ≡ site.held
+      → NodeRuns setting roomy (nodes.PointerDifference size e f) pc temps st store
+  difference_node size e f pc temps st store steps light fits has kept held =
+      let d = length temps in
+      let w = 1 + (expression_weight e + expression_weight f) in
+      let debt = 1 + expression_weight e + expression_weight f in
+      let pc2 = pc + expression_size e + expression_size f in
+      let last_pc = pc + (expression_size e + (expression_size f + 3)) in
+      let part = pushed context site last_pc temps in
+      let end : pc2 + 1 + 1 + 1 ≡ last_pc = omega arith in
+      two_runs setting roomy e f
+      (combine d (operations.Pure (pures.Subtract Long)) ∷ constant (d + 1) size
+      ∷ combine d (operations.Divide Signed Long) ∷ []) pc temps st store 13 w part
+      (λ x y st. Gives (Value (apart size x y)) st) steps (omega arith) (omega arith) fits.0
+      fits.1 has kept held
+      (λ x y mid after steps kept held last.
+      let q = result_of (pures.Subtract Long) x y in
+      let v = apart size x y in
+      let small : size < 2 ^ 64 = let s = fits.2.small in omega arith in
+      turn setting roomy pc2 (pc2 + 1) ((temps ++ x ∷ []) ++ y ∷ [])
+      (temps ++ q ∷ []) mid after 12 debt w w part (Gives (Value v) mid)
+      (λ k. pure_turn linear rate context site (pures.Subtract Long) d d (d + 1) x y
+      (λ u. temps ++ u ∷ []) pc2 ((temps ++ x ∷ []) ++ y ∷ []) mid after k refl
+      (last.0, last.1, tt) (combining temps x y))
+      (turn setting roomy (pc2 + 1) (pc2 + 1 + 1) (temps ++ q ∷ [])
+      ((temps ++ q ∷ []) ++ size ∷ []) mid after 11 debt w w part (Gives (Value v) mid)
+      (λ k. constant_turn linear rate context site size (d + 1) ((temps ++ q ∷ []) ++ size ∷ [])
+      (pc2 + 1) (temps ++ q ∷ []) mid after k small (last.2.0, last.2.1, tt)
+      (ap (λ i. with_temporary (temps ++ q ∷ []) i size) (sym (length_push temps q))
+      ∙ push_put (temps ++ q ∷ []) size))
+      (turn setting roomy (pc2 + 1 + 1) (pc2 + 1 + 1 + 1) ((temps ++ q ∷ []) ++ size ∷ [])
+      (temps ++ v ∷ []) mid after 10 debt w w part (Gives (Value v) mid) (λ k.
+      computes linear rate context site (operations.Divide Signed Long) d d (d + 1) q size
+      (λ u. temps ++ u ∷ []) (pc2 + 1 + 1) ((temps ++ q ∷ []) ++ size ∷ []) mid after k refl
+      last.2.2 (combining temps q size)
+      ∙ ap (computed linear (exec linear k) (Temporary d)
+      (conf context site (pc2 + 1 + 1) ((temps ++ q ∷ []) ++ size ∷ []) mid after))
+      (divides (is_reserved linear.globals) q size after.memory fits.2.positive fits.2.small)
+      ∙ computed_gives linear rate context site d (pc2 + 1 + 1) ((temps ++ q ∷ []) ++ size ∷ [])
+      (temps ++ v ∷ []) mid after v after.memory (exec linear k)
+      ((combining temps q size).writes v))
+      (here_other setting roomy (pc2 + 1 + 1 + 1) last_pc temps v mid after 10 debt w w end
+      (omega arith) kept held))))

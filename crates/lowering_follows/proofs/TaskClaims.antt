@@ -41,6 +41,21 @@ module _ (program : Program) (linear : LinearProgram) (rate body : ℕ) where
   Around names info z shapes context site base = Env program linear rate body everywhere names info
       z shapes context site base
 
+  -- where the code of a part of an expression stands, and what is known there
+  pub record CodePlace : Type 0 where
+    -- how the code names locals, and whether it stands in a filter
+    pub names : Names
+    pub info : Bool
+    -- the locals of the activation, and those of all
+    pub z : Shape
+    pub shapes : List Shape
+    -- where the source is, and where the linear code is
+    pub context : Context
+    pub site : Site
+    -- the store from which on notes are kept, and what is around the code in it
+    pub base : Store
+    pub around : Around names info z shapes context site base
+
   -- two operations come to the same in every memory
   abbrev pub SameOperation' : Operation → (x y a b : ℕ) → Type 0
   SameOperation' o x y a b = (m : Memory) → performed (is_reserved program.globals) o a b m
@@ -74,90 +89,96 @@ module _ (program : Program) (linear : LinearProgram) (rate body : ℕ) where
 
   -- what is claimed of each kind of task, inside at most n others
   pub record Runs (n : ℕ) : Type 0 where
-    pub eval : (e : Expression) (names : Names) (info : Bool) (z : Shape) (shapes : List Shape)
-        (context : Context) (site : Site) (base : Store) (pc : ℕ) (temps : List ℕ) (st : State)
+    pub eval : (e : Expression) (here : CodePlace) (pc : ℕ) (temps : List ℕ) (st : State)
         (store : Store)
         → st.steps_left ≤ n → expression_weight e + body + 4 ≤ rate
-        → ExpressionFits program z.own info e
-        → HasAt linear site.body site.regions pc (expression_code names e (length temps) pc)
-        → Around names info z shapes context site base → Within shapes base st store
-        → st.held ≡ site.held
-        → Claim linear rate (at (conf context site pc temps st store)) st
+        → ExpressionFits program here.z.own here.info e
+        → HasAt linear here.site.body here.site.regions pc
+        (expression_code here.names e (length temps) pc)
+        → Within here.shapes here.base st store
+        → st.held ≡ here.site.held
+        → Claim linear rate (at (conf here.context here.site pc temps st store)) st
         (price 0 0 (expression_weight e) (expression_weight e))
-        (value_ways (pushed context site (pc + expression_size e) temps) (Within shapes base)
-        context site) (within program n (Eval e) context st)
-    pub locate : (p : Lvalue) (names : Names) (info : Bool) (z : Shape) (shapes : List Shape)
-        (context : Context) (site : Site) (base : Store) (pc : ℕ) (temps : List ℕ) (st : State)
+        (value_ways (pushed here.context here.site (pc + expression_size e) temps)
+        (Within here.shapes here.base)
+        here.context here.site) (within program n (Eval e) here.context st)
+    pub locate : (p : Lvalue) (here : CodePlace) (pc : ℕ) (temps : List ℕ) (st : State)
         (store : Store)
         → st.steps_left ≤ n → 1 + lvalue_weight p + body + 4 ≤ rate
-        → LvalueFits program z.own info p → HasAt linear site.body site.regions pc
-        (locate_code names p (length temps) pc)
-        → Around names info z shapes context site base → Within shapes base st store
-        → st.held ≡ site.held
-        → Claim linear rate (at (conf context site pc temps st store)) st
+        → LvalueFits program here.z.own here.info p
+        → HasAt linear here.site.body here.site.regions pc
+        (locate_code here.names p (length temps) pc)
+        → Within here.shapes here.base st store
+        → st.held ≡ here.site.held
+        → Claim linear rate (at (conf here.context here.site pc temps st store)) st
         (price 0 0 (1 + lvalue_weight p) (1 + lvalue_weight p))
-        (value_ways (with_address context site (pc + locate_size p) p temps) (Within shapes base)
-        context site) (within program n (Locate p) context st)
-    pub raised : (exc : Exception) (resumption : Resumption) (names : Names) (info : Bool)
-        (z : Shape) (shapes : List Shape) (context : Context) (site : Site) (base : Store) (pc : ℕ)
+        (value_ways (with_address here.context here.site (pc + locate_size p) p temps)
+        (Within here.shapes here.base)
+        here.context here.site) (within program n (Locate p) here.context st)
+    pub raised : (exc : Exception) (resumption : Resumption) (here : CodePlace) (pc : ℕ)
         (temps : List ℕ) (st : State) (store : Store)
-        → st.steps_left ≤ n → regions_at linear site.body pc ≡ site.regions
-        → Around names info z shapes context site base → Within shapes base st store
-        → st.held ≡ site.held
+        → st.steps_left ≤ n → regions_at linear here.site.body pc ≡ here.site.regions
+        → Within here.shapes here.base st store
+        → st.held ≡ here.site.held
         → Claim linear rate (λ next. raise linear next exc resumption
-        (conf context site pc temps st store)) st (price 0 0 1 rate)
-        (normal_ways (resumes resumption context site pc temps) (Within shapes base) context site)
-        (within program n (Raise exc) context st)
-    pub retry : (o : Operation) (x y to first second a b : ℕ) (after : ℕ → List ℕ) (names : Names)
-        (info : Bool) (z : Shape) (shapes : List Shape) (context : Context) (site : Site)
-        (base : Store) (pc : ℕ) (temps : List ℕ) (st : State) (store : Store)
+        (conf here.context here.site pc temps st store)) st (price 0 0 1 rate)
+        (normal_ways (resumes resumption here.context here.site pc temps)
+        (Within here.shapes here.base) here.context here.site)
+        (within program n (Raise exc) here.context st)
+    pub retry : (o : Operation) (x y to first second a b : ℕ) (after : ℕ → List ℕ)
+        (here : CodePlace) (pc : ℕ) (temps : List ℕ) (st : State) (store : Store)
         → is_constant o ≡ false → st.steps_left ≤ n
-        → HasAt linear site.body site.regions pc
+        → HasAt linear here.site.body here.site.regions pc
         (instructions.Compute (Temporary to) o (Temporary first) (Temporary second) ∷ [])
         → Operands temps to first second a b after → SameOperation' o x y a b
-        → Around names info z shapes context site base → Within shapes base st store
-        → st.held ≡ site.held
-        → Claim linear rate (at (conf context site pc temps st store)) st (price 0 0 0 1)
-        (value_ways (λ v st store. at (conf context site (pc + 1) (after v) st store))
-        (Within shapes base) context site) (within program n (Retry o x y) context st)
+        → Within here.shapes here.base st store
+        → st.held ≡ here.site.held
+        → Claim linear rate (at (conf here.context here.site pc temps st store)) st (price 0 0 0 1)
+        (value_ways (λ v st store. at (conf here.context here.site (pc + 1) (after v) st store))
+        (Within here.shapes here.base) here.context here.site)
+        (within program n (Retry o x y) here.context st)
     pub filter : (k j : ℕ) (e : Expression) (h : Handler) (f : machine.Handler)
         (rest : List machine.Handler) (exc : Exception) (resumption : Resumption)
-        (names : Names) (info : Bool) (z : Shape) (shapes : List Shape) (context : Context)
-        (site : Site) (base : Store) (pc : ℕ) (temps : List ℕ) (st : State) (store : Store)
-        → st.steps_left ≤ n → regions_at linear site.body pc ≡ site.regions
-        → h.activation ≡ f.activation → FilterFits program linear rate body everywhere shapes base
+        (here : CodePlace) (pc : ℕ) (temps : List ℕ) (st : State) (store : Store)
+        → st.steps_left ≤ n → regions_at linear here.site.body pc ≡ here.site.regions
+        → h.activation ≡ f.activation
+        → FilterFits program linear rate body everywhere here.shapes here.base
         h.activation h.abnormal k j e
-        → Around names info z shapes context site base → Within shapes base st store
-        → st.held ≡ site.held
-        → Claim linear rate (λ next. deeper 2 site.held store st.events
-        (next (begin_filter j f rest exc resumption (conf context site pc temps st store)))) st
+        → Within here.shapes here.base st store
+        → st.held ≡ here.site.held
+        → Claim linear rate (λ next. deeper 2 here.site.held store st.events
+        (next (begin_filter j f rest exc resumption
+        (conf here.context here.site pc temps st store)))) st
         (price 0 1 0 (2 + expression_weight e))
-        (value_ways (answers_search exc resumption f rest context site pc temps)
-        (Within shapes base) context site) (within program n (RunFilter k e h exc) context st)
-    pub asked : (f place : ℕ) (exc : Exception) (resumption : Resumption) (names : Names)
-        (info : Bool) (z : Shape) (shapes : List Shape) (context : Context) (site : Site)
-        (base : Store) (pc : ℕ) (temps : List ℕ) (st : State) (store : Store)
+        (value_ways (answers_search exc resumption f rest here.context here.site pc temps)
+        (Within here.shapes here.base) here.context here.site)
+        (within program n (RunFilter k e h exc) here.context st)
+    pub asked : (f place : ℕ) (exc : Exception) (resumption : Resumption) (here : CodePlace)
+        (pc : ℕ) (temps : List ℕ) (st : State) (store : Store)
         → IsCalled program f 2 → st.steps_left ≤ n
-        → regions_at linear site.body pc ≡ site.regions
-        → Around names info z shapes context site base → Within shapes base st store
-        → st.held ≡ site.held
+        → regions_at linear here.site.body pc ≡ here.site.regions
+        → Within here.shapes here.base st store
+        → st.held ≡ here.site.held
         → Claim linear rate (λ next. ask_vectored linear next f place exc resumption
-        (conf context site pc temps st store)) st (price 0 1 1 rate)
-        (normal_ways (resumes resumption context site pc temps) (Within shapes base) context site)
-        (within program n (AskVectored f place exc) context st)
+        (conf here.context here.site pc temps st store)) st (price 0 1 1 rate)
+        (normal_ways (resumes resumption here.context here.site pc temps)
+        (Within here.shapes here.base) here.context here.site)
+        (within program n (AskVectored f place exc) here.context st)
     pub call : (k : ℕ) (fn : Function) (lf : LinearFunction) (vs : List ℕ) (below : List Item)
-        (held : ℕ) (part : ℕ → State → Store → Part) (names : Names)
-        (info : Bool) (z : Shape) (shapes : List Shape) (context : Context) (site : Site)
-        (base : Store) (pc : ℕ) (temps : List ℕ) (st : State) (store : Store)
+        (held : ℕ) (part : ℕ → State → Store → Part) (here : CodePlace) (pc : ℕ) (temps : List ℕ)
+        (st : State) (store : Store)
         → st.steps_left ≤ n → slice_get program.functions k ≡ Some fn
         → slice_get linear.functions k ≡ Some lf → length vs ≡ length fn.parameters
-        → ReturnsTo below context site pc temps part
-        → Around names info z shapes context site base → Within shapes base st store
+        → ReturnsTo below here.context here.site pc temps part
+        → Within here.shapes here.base st store
         → st.held ≡ held
         → Claim linear rate (λ next. deeper (depth_weight lf) held store st.events
         (next (begin_function k lf vs held below store st.events))) st (price 13 4 0 0)
-        (record (value_ways part (Within shapes base) context site) { held = held })
-        (enter program (within program n) k (Some fn) vs context st)
+        (record (value_ways part (Within here.shapes here.base) here.context here.site) {
+          held =
+              held;
+        })
+        (enter program (within program n) k (Some fn) vs here.context st)
 
   pub shown_asked : (f place : ℕ) (exc : Exception) (resumption : Resumption) (c : Configuration)
       → IsPrefixOf c.events

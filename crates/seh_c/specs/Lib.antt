@@ -5,6 +5,7 @@ pub mod Snapshots
 pub mod Statuses
 pub mod Openings
 pub mod Callers
+pub mod Views
 pub mod Validations
 pub mod Walks
 pub mod Answers

@@ -11,6 +11,8 @@ mod checks;
 #[cfg(test)]
 mod commands;
 #[cfg(test)]
+mod conformance;
+#[cfg(test)]
 mod damaged;
 #[cfg(test)]
 mod dispatches;

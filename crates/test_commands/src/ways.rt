@@ -138,3 +138,18 @@ pub fn all_show(rt: &impl Abort, alloc: Global, ways: &[&str], parts: &[&str], t
         shows_by_all(rt, alloc, ways, Row { text: &text, ..row });
     }
 }
+
+/// Compares what each way puts for a row.
+fn puts_by_all(rt: &impl Abort, alloc: Global, ways: &[&str], row: Row<'_>) {
+    for way in ways {
+        shows(rt, alloc, way, row, false);
+    }
+}
+
+/// The same of each row of a table of programs, whose lines are those without `--trace`.
+pub fn all_put(rt: &impl Abort, alloc: Global, ways: &[&str], table: &str) {
+    for part in table.split("\n# ").skip(1) {
+        let row = row_of(part).expect(rt, part);
+        puts_by_all(rt, alloc, ways, row);
+    }
+}

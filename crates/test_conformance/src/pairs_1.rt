@@ -74,29 +74,29 @@ pub const PROGRAMS: &str = r"
 => 0 1 / 1 / 4 / 5 / exit 0
 # continue-in-searching: void part0(void) { int i; for (i = 0; i < 2; i++) { __try { put(1); continue; } __except (put(2), 0) { put(3); } put(4); } } int main(void) { __try { part0(); put(5); } __except (1) { put(GetExceptionCode() % 256); } put(6); return 0; }
 => 0 1 / 1 / 5 / 6 / exit 0
-# division-in-accepting: int zero; void part0(void) { __try { put(1); put(1 / zero); put(2); } __except (put(3), 1) { put(4); } } int main(void) { __try { part0(); put(5); } __except (1) { put(GetExceptionCode() % 256); } put(6); return 0; }
+# division-in-accepting: int zero; void part0(void) { __try { put(1); put(7 / zero); put(2); } __except (put(3), 1) { put(4); } } int main(void) { __try { part0(); put(5); } __except (1) { put(GetExceptionCode() % 256); } put(6); return 0; }
 => 0 1 / 3 / 4 / 5 / 6 / exit 0
-# division-in-block: void fail(int n) { RaiseException(0xE0000000 + n, 0, 0, 0); } int zero; void part0(void) { __try { fail(4); } __except (1) { put(1); put(2); put(1 / zero); put(3); } } int main(void) { __try { part0(); put(4); } __except (1) { put(GetExceptionCode() % 256); } put(5); return 0; }
+# division-in-block: void fail(int n) { RaiseException(0xE0000000 + n, 0, 0, 0); } int zero; void part0(void) { __try { fail(4); } __except (1) { put(1); put(2); put(7 / zero); put(3); } } int main(void) { __try { part0(); put(4); } __except (1) { put(GetExceptionCode() % 256); } put(5); return 0; }
 => 0 1 / 2 / 148 / 5 / exit 0
-# division-in-call: int zero; void part1(void) { put(1); put(1 / zero); put(2); } void part0(void) { part1(); put(3); } int main(void) { __try { part0(); put(4); } __except (1) { put(GetExceptionCode() % 256); } put(5); return 0; }
+# division-in-call: int zero; void part1(void) { put(1); put(7 / zero); put(2); } void part0(void) { part1(); put(3); } int main(void) { __try { part0(); put(4); } __except (1) { put(GetExceptionCode() % 256); } put(5); return 0; }
 => 0 1 / 148 / 5 / exit 0
-# division-in-choosing: int zero; void part0(void) { __try { put(1); put(1 / zero); put(2); } __except (GetExceptionCode() == 0xE0000003) { put(3); } put(4); } int main(void) { __try { part0(); put(5); } __except (1) { put(GetExceptionCode() % 256); } put(6); return 0; }
+# division-in-choosing: int zero; void part0(void) { __try { put(1); put(7 / zero); put(2); } __except (GetExceptionCode() == 0xE0000003) { put(3); } put(4); } int main(void) { __try { part0(); put(5); } __except (1) { put(GetExceptionCode() % 256); } put(6); return 0; }
 => 0 1 / 148 / 6 / exit 0
-# division-in-colliding: void fail(int n) { RaiseException(0xE0000000 + n, 0, 0, 0); } int zero; void part0(void) { __try { put(1); put(1 / zero); put(2); } __finally { put(3); if (AbnormalTermination()) fail(3); } put(4); } int main(void) { __try { part0(); put(5); } __except (1) { put(GetExceptionCode() % 256); } put(6); return 0; }
+# division-in-colliding: void fail(int n) { RaiseException(0xE0000000 + n, 0, 0, 0); } int zero; void part0(void) { __try { put(1); put(7 / zero); put(2); } __finally { put(3); if (AbnormalTermination()) fail(3); } put(4); } int main(void) { __try { part0(); put(5); } __except (1) { put(GetExceptionCode() % 256); } put(6); return 0; }
 => 0 1 / 3 / 3 / 6 / exit 0
-# division-in-continuing: int zero; int mending(unsigned code) { put(code % 256); protect((void *)0x20000000, 2); return code == 0xC0000025 || code == 0xC0000094 ? 1 : -1; } void part0(void) { __try { put(1); put(1 / zero); put(2); } __except (mending(GetExceptionCode())) { put(3); } } int main(void) { __try { part0(); put(4); } __except (1) { put(GetExceptionCode() % 256); } put(5); return 0; }
+# division-in-continuing: int zero; int mending(unsigned code) { put(code % 256); protect((void *)0x20000000, 2); return code == 0xC0000025 || code == 0xC0000094 ? 1 : -1; } void part0(void) { __try { put(1); put(7 / zero); put(2); } __except (mending(GetExceptionCode())) { put(3); } } int main(void) { __try { part0(); put(4); } __except (1) { put(GetExceptionCode() % 256); } put(5); return 0; }
 => 0 1 / 148 / 3 / 4 / 5 / exit 0
-# division-in-filter: void fail(int n) { RaiseException(0xE0000000 + n, 0, 0, 0); } int zero; int begun0; int part1(void) { begun0 = begun0 + 1; if (begun0 > 1) return 1; put(1); put(1 / zero); put(2); return 1; } void part0(void) { __try { fail(6); } __except (part1()) { put(3); } } int main(void) { __try { part0(); put(4); } __except (1) { put(GetExceptionCode() % 256); } put(5); return 0; }
+# division-in-filter: void fail(int n) { RaiseException(0xE0000000 + n, 0, 0, 0); } int zero; int begun0; int part1(void) { begun0 = begun0 + 1; if (begun0 > 1) return 1; put(1); put(7 / zero); put(2); return 1; } void part0(void) { __try { fail(6); } __except (part1()) { put(3); } } int main(void) { __try { part0(); put(4); } __except (1) { put(GetExceptionCode() % 256); } put(5); return 0; }
 => 0 1 / 3 / 4 / 5 / exit 0
-# division-in-finishing: int zero; void part0(void) { __try { put(1); put(1 / zero); put(2); } __finally { put(3 + AbnormalTermination()); } put(5); } int main(void) { __try { part0(); put(6); } __except (1) { put(GetExceptionCode() % 256); } put(7); return 0; }
+# division-in-finishing: int zero; void part0(void) { __try { put(1); put(7 / zero); put(2); } __finally { put(3 + AbnormalTermination()); } put(5); } int main(void) { __try { part0(); put(6); } __except (1) { put(GetExceptionCode() % 256); } put(7); return 0; }
 => 0 1 / 4 / 148 / 7 / exit 0
-# division-in-handler: void fail(int n) { RaiseException(0xE0000000 + n, 0, 0, 0); } int zero; void part1(void) { put(1); put(1 / zero); put(2); } void part0(void) { __try { fail(5); } __finally { part1(); put(3); } } int main(void) { __try { part0(); put(4); } __except (1) { put(GetExceptionCode() % 256); } put(5); return 0; }
+# division-in-handler: void fail(int n) { RaiseException(0xE0000000 + n, 0, 0, 0); } int zero; void part1(void) { put(1); put(7 / zero); put(2); } void part0(void) { __try { fail(5); } __finally { part1(); put(3); } } int main(void) { __try { part0(); put(4); } __except (1) { put(GetExceptionCode() % 256); } put(5); return 0; }
 => 0 1 / 148 / 5 / exit 0
-# division-in-loop: int zero; void part0(void) { int n0; for (n0 = 0; n0 < 2; n0++) { put(1); put(1 / zero); put(2); put(3); } } int main(void) { __try { part0(); put(4); } __except (1) { put(GetExceptionCode() % 256); } put(5); return 0; }
+# division-in-loop: int zero; void part0(void) { int n0; for (n0 = 0; n0 < 2; n0++) { put(1); put(7 / zero); put(2); put(3); } } int main(void) { __try { part0(); put(4); } __except (1) { put(GetExceptionCode() % 256); } put(5); return 0; }
 => 0 1 / 148 / 5 / exit 0
-# division-in-nesting: int asked; void fail(int n) { RaiseException(0xE0000000 + n, 0, 0, 0); } int zero; int raising(void) { asked = asked + 1; if (asked == 1) fail(2); return 0; } void part0(void) { __try { put(1); put(1 / zero); put(2); } __except (raising()) { put(3); } } int main(void) { __try { part0(); put(4); } __except (1) { put(GetExceptionCode() % 256); } put(5); return 0; }
+# division-in-nesting: int asked; void fail(int n) { RaiseException(0xE0000000 + n, 0, 0, 0); } int zero; int raising(void) { asked = asked + 1; if (asked == 1) fail(2); return 0; } void part0(void) { __try { put(1); put(7 / zero); put(2); } __except (raising()) { put(3); } } int main(void) { __try { part0(); put(4); } __except (1) { put(GetExceptionCode() % 256); } put(5); return 0; }
 => 0 1 / 2 / 5 / exit 0
-# division-in-searching: int zero; void part0(void) { __try { put(1); put(1 / zero); put(2); } __except (put(3), 0) { put(4); } } int main(void) { __try { part0(); put(5); } __except (1) { put(GetExceptionCode() % 256); } put(6); return 0; }
+# division-in-searching: int zero; void part0(void) { __try { put(1); put(7 / zero); put(2); } __except (put(3), 0) { put(4); } } int main(void) { __try { part0(); put(5); } __except (1) { put(GetExceptionCode() % 256); } put(6); return 0; }
 => 0 1 / 3 / 148 / 6 / exit 0
 # end-in-accepting: void part0(void) { __try { put(1); } __except (put(2), 1) { put(3); } } int main(void) { __try { part0(); put(4); } __except (1) { put(GetExceptionCode() % 256); } put(5); return 0; }
 => 0 1 / 4 / 5 / exit 0

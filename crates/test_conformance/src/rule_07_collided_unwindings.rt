@@ -10,7 +10,7 @@ pub const PROGRAMS: &str = r"
 => 0 1 / 2 / exit 0
 # block_runs_once: int runs; int main(void) { __try { __try { __try { __try { RaiseException(0xE0000001, 0, 0, 0); } __finally { put(1); } } __finally { runs = runs + 1; put(2); RaiseException(0xE0000002, 0, 0, 0); } } __finally { put(3); } } __except (1) { put(runs); } return 0; }
 => 0 1 / 2 / 3 / 1 / exit 0
-# fault_in_the_block: int zero; int main(void) { __try { __try { __try { RaiseException(0xE0000001, 0, 0, 0); } __finally { put(1); put(1 / zero); } } __except (GetExceptionCode() == 0xC0000094) { put(2); } } __except (1) { put(11); } return 0; }
+# fault_in_the_block: int zero; int main(void) { __try { __try { __try { RaiseException(0xE0000001, 0, 0, 0); } __finally { put(1); put(7 / zero); } } __except (GetExceptionCode() == 0xC0000094) { put(2); } } __except (1) { put(11); } return 0; }
 => 0 1 / 2 / exit 0
 # in_a_loop: int main(void) { int i; int sum = 0; for (i = 0; i < 100; i++) { __try { __try { RaiseException(0xE0000001, 0, 0, 0); } __finally { RaiseException(0xE0000002, 0, 0, 0); } } __except (1) { sum = sum + (GetExceptionCode() == 0xE0000002); } } put(sum); return 0; }
 => 0 100 / exit 0

@@ -8,7 +8,7 @@ pub const PROGRAMS: &str = r"
 => 0 3 / 6 / 16 / 111 / exit 0
 # code: int same(unsigned code, unsigned other) { put(code == other); return 1; } int main(void) { __try { RaiseException(0xE0000001, 0, 0, 0); } __except (same(GetExceptionCode(), GetExceptionInformation()->ExceptionRecord->ExceptionCode)) { put(2); } return 0; }
 => 0 1 / 2 / exit 0
-# division: int zero; int main(void) { __try { put(1 / zero); } __except (put(GetExceptionInformation()->ExceptionRecord->NumberParameters), 1) { put(1); } return 0; }
+# division: int zero; int main(void) { __try { put(7 / zero); } __except (put(GetExceptionInformation()->ExceptionRecord->NumberParameters), 1) { put(1); } return 0; }
 => 0 0 / 1 / exit 0
 # in_two_filters: int *nowhere; int seen(int answer, unsigned long long kind, unsigned count) { put(kind * 10 + count); return answer; } int main(void) { __try { __try { *nowhere = 1; } __except (seen(0, GetExceptionInformation()->ExceptionRecord->ExceptionInformation[0], GetExceptionInformation()->ExceptionRecord->NumberParameters)) { put(11); } } __except (seen(1, GetExceptionInformation()->ExceptionRecord->ExceptionInformation[0], GetExceptionInformation()->ExceptionRecord->NumberParameters)) { put(1); } return 0; }
 => 0 12 / 12 / 1 / exit 0

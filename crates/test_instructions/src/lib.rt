@@ -3,6 +3,12 @@
 #![tactic(auto)]
 
 #[cfg(test)]
+mod assembled_1;
+#[cfg(test)]
+mod assembled_2;
+#[cfg(test)]
+mod measured;
+#[cfg(test)]
 mod refused;
 #[cfg(test)]
 mod spelling;
