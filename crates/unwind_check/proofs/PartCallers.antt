@@ -166,11 +166,13 @@ module _ (t : Tables) (c : ImageCode) (entry : Entry) (e s : State) (d : ℕ)
       let g = q.function in
       let none = w.right.fragment.prologue in
       let distance = h.distance in
+      let kept =
+      fragment_keeps t c rva entry covers range all placed.low owner there its single entry in
       let found = (both t c rva entry covers range all placed.low owner there its single e s h.past
       (rest_of c.memory entry) (base + entry.range.begin) (base + entry.range.end)
       (omega (arith, rip, distance, none)) low_end
       (items_placed entry.range.begin (rest_of c.memory entry) w.right.is_there)
-      (fragment_keeps t c rva entry covers range all placed.low owner there its single entry ke named) entered
+      (kept ke named) entered
       (same_part f g (is.info ∙ sym q.is.info) (is.prologue ∙ sym q.is.prologue) e s h.past
       (parts_of c.memory es owner) (rest_of c.memory entry) h.state) entry.info
       w.right.fragment).0 in

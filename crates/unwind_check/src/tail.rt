@@ -67,7 +67,8 @@ fn later_tail<S: CodeSpace>(space: &S, register: u8, begin: u64, end: u64) -> Ta
     requires order { begin ≤ end }
     requires low { end < 2 ^ 63 }
     ensures { steps.IsTail (1 + length (between (S.memory space.now) begin end).items)
-        (counted 1 (spec.tail 0xFFFF_FFFF_FFFF_FFFE false register (S.memory space.now) begin)) result }
+        (counted 1 (spec.tail 0xFFFF_FFFF_FFFF_FFFE false register (S.memory space.now) begin))
+        result }
 {
     let mut here = begin;
     let mut count = 1;

@@ -10,5 +10,8 @@ returns-in-Err c rs h =
     (plain_failed i c.args.at rs x c.in-Err.fault c.in-Err.ensures)
 
 pub returns-in_ok-note_load-in-Ok : goal.returns-in_ok-note_load-in-Ok
-returns-in_ok-note_load-in-Ok c rs h = plain_passed c.args.info.now c.args.at c.note_load.new.loaded.items rs
-    c.args.item.now c.in-Ok.register c.in-Ok.ensures (c.in_ok-note_load-in-Ok.ensures rs h)
+returns-in_ok-note_load-in-Ok c rs h =
+    let qs = c.note_load.new.loaded.items in
+    let x = c.args.item.now in
+    let is = c.in_ok-note_load-in-Ok.ensures rs h in
+    plain_passed c.args.info.now c.args.at qs rs x c.in-Ok.register c.in-Ok.ensures is

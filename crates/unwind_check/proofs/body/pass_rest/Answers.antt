@@ -23,7 +23,8 @@ returns-in_ok-passed-in-Missing g c rs h =
     let none = ap (λ f. counted 0 (tail_at f m at)) (sym c.frame_register.ensures)
     ∙ c.in-Missing.ensures in
     plain_shown m i at x (between m (at + x.size) c.args.end).items c.pass_plain.new.loaded.items rs
-    c.in_ok-passed-in-Missing.passed rest (none_counted rest none) (c.in_ok-passed-in-Missing.ensures rs h)
+    c.in_ok-passed-in-Missing.passed rest (none_counted rest none)
+    (c.in_ok-passed-in-Missing.ensures rs h)
 
 pub returns-in-Outside : goal.returns-in-Outside
 returns-in-Outside g c rs h =
@@ -77,7 +78,8 @@ returns-then-own g c rs h =
     (past_own m i at rs x xs n zs z (part_stands m at c.args.end le) (omega (arith, fits, low))
     (sym (ap (λ f. counted 0 (tail_at f m at)) (sym c.frame_register.ensures)
     ∙ c.in-Inside.ensures.0))
-    (sym c.if-own.true ∙ c.in_ok-own-in-Inside.ensures rs (λ r. ap (has r) c.deref.ensures.value ∙ h r)))
+    (sym c.if-own.true ∙ c.in_ok-own-in-Inside.ensures rs
+    (λ r. ap (has r) c.deref.ensures.value ∙ h r)))
 
 pub returns-else-own : goal.returns-else-own
 returns-else-own g c rs h =
@@ -98,4 +100,5 @@ returns-else-own g c rs h =
     (past_other m i at rs x xs n zs z (part_stands m at c.args.end le) (omega (arith, fits, low))
     (sym (ap (λ f. counted 0 (tail_at f m at)) (sym c.frame_register.ensures)
     ∙ c.in-Inside.ensures.0))
-    (sym c.if-own.false ∙ c.in_ok-own-in-Inside.ensures rs (λ r. ap (has r) c.deref.ensures.value ∙ h r)))
+    (sym c.if-own.false ∙ c.in_ok-own-in-Inside.ensures rs
+    (λ r. ap (has r) c.deref.ensures.value ∙ h r)))

@@ -33,7 +33,8 @@ loop-n-preserved g c =
           (between m (c.loop-n.at + x.size) c.args.end).items) c.in_ok-push-in-Some.ensures.items
           ∙ taken_more c.loop-n.items.items x (between m (c.loop-n.at + x.size) c.args.end).items
           (between m c.loop-n.at c.args.end).items (c.args.count - n) (c.args.count - (n + 1))
-          (first_items m c.args.end c.loop-n.at x h) (omega (arith, test)) ∙ c.loop-n.invariant.same;
+          (first_items m c.args.end c.loop-n.at x h) (omega (arith, test))
+          ∙ c.loop-n.invariant.same;
     }
 
 pub returns : goal.returns
