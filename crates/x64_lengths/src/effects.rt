@@ -220,6 +220,7 @@ fn flow_of(ending: Ending, count: u64, value: u64) -> Flow
 }
 
 /// What a cell means with its operands, of which the immediate has so many bytes.
+#[inline(always)]
 pub(crate) fn effects_of(
     spelled: Spelled,
     cell: Cell,

@@ -63,6 +63,7 @@ fn is_allowed(spelled: Spelled, ending: Ending, modrm: Option<ModRm>) -> bool
 }
 
 /// The immediate of a cell, and what it means with its operands.
+#[inline(always)]
 fn with_operands(
     spelled: Spelled,
     cell: Cell,
@@ -82,6 +83,7 @@ fn with_operands(
 }
 
 /// The rest of an instruction with ModRM, of which the first byte is read.
+#[inline(always)]
 fn with_modrm(spelled: Spelled, row: Row, modrm: u8, bytes: &[u8]) -> Option<(Effects, &[u8])>
     ensures { option_map (λ x. (x.0, x.1.now)) result
         ≡ spec.with_modrm spelled (cell_of (by_modrm modrm row)) modrm bytes.now }
@@ -95,6 +97,7 @@ fn with_modrm(spelled: Spelled, row: Row, modrm: u8, bytes: &[u8]) -> Option<(Ef
     }
 }
 
+#[inline(always)]
 fn without_modrm(spelled: Spelled, row: Row, bytes: &[u8]) -> Option<(Effects, &[u8])>
     ensures { option_map (λ x. (x.0, x.1.now)) result
         ≡ spec.without_modrm spelled (cell_of row) bytes.now }
@@ -105,6 +108,7 @@ fn without_modrm(spelled: Spelled, row: Row, bytes: &[u8]) -> Option<(Effects, &
     }
 }
 
+#[inline(always)]
 fn with_row(spelled: Spelled, row: Row, bytes: &[u8]) -> Option<(Effects, &[u8])>
     ensures { option_map (λ x. (x.0, x.1.now)) result ≡ spec.with_row spelled row bytes.now }
 {
