@@ -1,5 +1,5 @@
 -- One frame of a walk.
-use Rattle.std.proofs.Common.{◌≡◌, ℕ, zero, suc, ◌+◌, Bool, true, false, List, Result, Ok, Err, refl, sym, ap, ◌∙◌, arith, set}
+use Rattle.std.proofs.Common.{◌≡◌, ℕ, suc, ◌+◌, true, false, List, Ok, Err, ap, ◌∙◌, set}
 use Rattle.flat_memory.specs.Memory.{Memory}
 use Rattle.x64_machine.specs.declared.context.Context.{Context}
 use Rattle.eh_tables.specs.Tables.{Tables}
@@ -8,8 +8,8 @@ use Rattle.seh_c.specs.declared.refusal.Refusal.{Refusal}
 use Rattle.seh_c.specs.declared.unwinding.Step.{Step}
 use Rattle.seh_c.specs.Callers.{step_in}
 use Rattle.seh_c.specs.Shapes.{c_frame}
-use Rattle.seh_c.specs.Statuses.{ok, more, refusal_status}
-use Rattle.seh_c.specs.Walks.{Walked, is_inside, end, ended, with_frame, if_inside, walk_from}
+use Rattle.seh_c.specs.Statuses.{ok, refusal_status}
+use Rattle.seh_c.specs.Walks.{is_inside, end, ended, with_frame, if_inside, walk_from}
 
 module _ (t : Tables) (base : ℕ) (m : Memory) (size : ℕ) where
   pub frame_more : (n j k : ℕ) (c : Context) (fs : List SehFrame) (f : Step) → n ≡ suc j

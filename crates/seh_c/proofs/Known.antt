@@ -1,19 +1,16 @@
 -- The table of an image whose order a view knows.
-use Rattle.std.proofs.Common.{◌≡◌, ℕ, List, Option, Some, None, Ok, Err, refl, sym, ap, subst, ◌∙◌, option_map}
+use Rattle.std.proofs.Common.{◌≡◌, List, Ok, Err, refl, sym, ap, subst, ◌∙◌}
 use Rattle.seh_num.specs.Answers.{◌>>=◌}
 use Rattle.pe_image.specs.Image.{Image}
 use Rattle.eh_index.specs.Ordered.{IsOrdered}
 use Rattle.eh_index.specs.Indexes.{IsIndexOf}
 use Rattle.eh_tables.specs.declared.range.RuntimeFunction.{RuntimeFunction}
 use Rattle.eh_tables.specs.Answer.{Table}
-use Rattle.eh_tables.specs.Covering.{ranges_checked, entry_covering}
-use Rattle.eh_tables.specs.Tables.{Entry, Tables, directory}
-use Rattle.seh_c.specs.declared.c_types.SehFunction.{SehFunction}
+use Rattle.eh_tables.specs.Covering.{ranges_checked}
+use Rattle.eh_tables.specs.Tables.{Tables, directory}
 use Rattle.seh_c.specs.declared.c_types.SehView.{SehView}
-use Rattle.seh_c.specs.declared.refusal.Refusal.{Refusal}
 use Rattle.seh_c.specs.Openings.{Answer, of_table, opened, table_of}
-use Rattle.seh_c.specs.Callers.{found_within}
-use Rattle.seh_c.specs.Shapes.{c_function, index_of, layout}
+use Rattle.seh_c.specs.Shapes.{index_of, layout}
 use Rattle.seh_c.specs.Views.{IsKnown, IsViewOf}
 
 abbrev table_with : Image → List RuntimeFunction → Tables

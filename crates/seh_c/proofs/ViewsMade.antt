@@ -1,5 +1,5 @@
 -- A view that an opening makes.
-use Rattle.std.proofs.Common.{◌≡◌, ℕ, List, [], length, Bool, Ok, Err, refl, sym, ap, ◌∙◌, arith}
+use Rattle.std.proofs.Common.{◌≡◌, ℕ, List, [], length, Bool, Ok, sym, ap, ◌∙◌, arith}
 use Rattle.seh_num.specs.Answers.{◌>>=◌}
 use Rattle.pe_image.specs.Image.{Image}
 use Rattle.eh_index.specs.Indexes.{IsIndexOf}

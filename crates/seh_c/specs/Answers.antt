@@ -3,7 +3,7 @@
 --
 -- `Answers`, `WalkAnswers`, `FunctionAnswers`, `ScopeAnswers`: what a call returns and writes by such
 -- an answer; or memory is wanting, and nothing is written.
-use Rattle.std.specs.Prelude.{◌≡◌, ◌⊎◌, ℕ, List, Option, Some, None, Result, Ok, Err}
+use Rattle.std.specs.Prelude.{◌≡◌, ◌⊎◌, ℕ, List, Option, Some, None, Ok, Err}
 use Rattle.seh_c.specs.declared.c_types.SehFrame.{SehFrame}
 use Rattle.seh_c.specs.declared.c_types.SehFunction.{SehFunction}
 use Rattle.seh_c.specs.declared.c_types.SehStatus.{SehStatus}

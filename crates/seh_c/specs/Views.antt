@@ -1,7 +1,7 @@
 -- Views of images: what an opening makes of the bytes, and what is found by any view.
 --
 -- The main definitions: `IsViewOf`, `OpenAnswers`, `IsFunctionOf`.
-use Rattle.std.specs.Prelude.{◌≡◌, ◌⊎◌, ◌<◌, ℕ, List, length, Bool, Ok, Err}
+use Rattle.std.specs.Prelude.{◌≡◌, ◌⊎◌, ℕ, List, length, Bool, Ok, Err}
 use Rattle.pe_image.specs.Image.{Image}
 use Rattle.eh_tables.specs.Tables.{Entry, Tables, directory, entry_at}
 use Rattle.eh_index.specs.Indexes.{IsIndexOf, IsRowFor}

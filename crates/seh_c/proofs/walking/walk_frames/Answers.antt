@@ -1,7 +1,7 @@
-use Rattle.std.proofs.Common.{rules, ◌≡◌, ◌+◌, ◌-◌, Bool, true, false, Ok, Err, List, length, set, sym, ap, ◌∙◌, arith}
+use Rattle.std.proofs.Common.{rules, ◌≡◌, ◌+◌, ◌-◌, true, false, length, set, sym, ap, ◌∙◌, arith}
 use Rattle.seh_c.specs.declared.c_types.SehFrame.{SehFrame}
 use Rattle.seh_c.specs.declared.c_types.SehStatus.{SehStatus}
-use Rattle.seh_c.specs.Walks.{Walked, is_inside, end, ended, walk_from}
+use Rattle.seh_c.specs.Walks.{is_inside, end, ended, walk_from}
 use Rattle.seh_c.proofs.FramesMore.{frame_more, frame_refused, frame_none, frames_over}
 use Rattle.seh_c.proofs.walking.walk_frames.Goals as goal
 
