@@ -6,7 +6,7 @@
  * their own, and may be called from any number of threads at once. What each answers is proved to
  * be what the definitions say: those of the Microsoft x64 ABI ("x64 exception handling") as crates
  * pe_image, eh_tables, eh_index, virtual_unwind, unwind_check and seh_c have them, in specs/.
- * README.md ("From C") says how to build the library, and docs/LIBRARY.md how to use it: what to
+ * docs/LIBRARY.md says how to build the library, and how to use it: what to
  * pass, what each refusal means, what costs what, and which images are outside.
  *
  * seh_open looks at an image once, and fills a seh_view, plain data that the caller owns: nothing is
