@@ -6,12 +6,14 @@ ghost use Rattle.frame_rules.specs.Validated.{turned};
 ghost use Rattle.unwind_check.specs.Boundaries.{between};
 ghost use Rattle.unwind_check.specs.Chains as chains;
 ghost use Rattle.unwind_check.specs.Faults as spec;
+ghost use Rattle.unwind_check.specs.TailEnds.{AreEnded};
 
 use crate::body::body_fault;
 use crate::chain::is_secondary;
 use crate::code_order::is_ordered;
 use crate::codes::keep_codes;
 use crate::decoded::{DecodedInstrs, decoded_between, ends, has_item};
+use crate::known_tails::KnownTails;
 use crate::prologue::prologue_fault;
 use crate::rule::{Fault, Rule};
 use eh_tables::{Info, UnwindCode};
@@ -42,6 +44,7 @@ fn ordered_codes(alloc: Global, info: &Info) -> Result<OrderedCodes, AllocError>
 fn parts_fault<S: CodeSpace>(
     alloc: Global,
     space: &S,
+    known: &mut KnownTails,
     probe: &[u8],
     begin: u64,
     middle: u64,
@@ -55,9 +58,11 @@ fn parts_fault<S: CodeSpace>(
     requires prologue_low { begin + bytes prologue.now.items < 2 ^ 63 }
     requires order { middle ≤ end }
     requires low { end < 2 ^ 63 }
+    requires known { AreEnded (S.memory space.now) known.old }
     ensures fault { IfOk result (λ o. o ≡ spec.fault_of_parts (S.memory space.now) probe.now begin
         middle info.now prologue.now (between (S.memory space.now) middle end)) }
     ensures near { info.now.frame_offset < 2 ^ 8 }
+    ensures known { AreEnded (S.memory space.now) known.new }
 {
     let frame = info.frame_register();
     let offset = info.frame_offset() as u64;
@@ -66,13 +71,14 @@ fn parts_fault<S: CodeSpace>(
     let whole = prologue.is_whole();
     match prologue_fault(space, probe, begin, frame, offset, whole, 0, steps, first) {
         Some(fault) => Ok(Some(fault)),
-        None => body_fault(alloc, space, info, &codes.codes, middle, end),
+        None => body_fault(alloc, space, known, info, &codes.codes, middle, end),
     }
 }
 
 fn codes_fault<S: CodeSpace>(
     alloc: Global,
     space: &S,
+    known: &mut KnownTails,
     probe: &[u8],
     begin: u64,
     middle: u64,
@@ -85,9 +91,11 @@ fn codes_fault<S: CodeSpace>(
     requires low { end < 2 ^ 63 }
     requires middle { middle ≡ spec.prologue_end begin end info.now }
     requires prologue { prologue.now ≡ spec.prologue_of (S.memory space.now) begin end info.now }
+    requires known { AreEnded (S.memory space.now) known.old }
     ensures fault { IfOk result (λ o. o
         ≡ spec.codes_fault (S.memory space.now) probe.now begin end info.now) }
     ensures near { IfOk result (λ o. IfNone o (info.now.frame_offset < 2 ^ 8)) }
+    ensures known { AreEnded (S.memory space.now) known.new }
 {
     let all = ordered_codes(alloc, info)?;
     let first = prologue.items();
@@ -98,7 +106,7 @@ fn codes_fault<S: CodeSpace>(
         Rule::Prologue
     } else {
         return parts_fault(
-            alloc, space, probe, begin, middle, end, info, &all, prologue,
+            alloc, space, known, probe, begin, middle, end, info, &all, prologue,
         );
     };
     Ok(Some(Fault { at: begin, rule }))
@@ -109,6 +117,7 @@ fn codes_fault<S: CodeSpace>(
 fn fragment_fault<S: CodeSpace>(
     alloc: Global,
     space: &S,
+    known: &mut KnownTails,
     begin: u64,
     middle: u64,
     end: u64,
@@ -118,9 +127,11 @@ fn fragment_fault<S: CodeSpace>(
     requires order { middle ≤ end }
     requires low { end < 2 ^ 63 }
     requires middle { middle ≡ spec.prologue_end begin end info.now }
+    requires known { AreEnded (S.memory space.now) known.old }
     ensures fault { IfOk result (λ o. o ≡ spec.fragment_fault (S.memory space.now) begin end
         info.now primary.now (chains.is_secondary info.now primary.now)) }
     ensures near { info.now.frame_offset < 2 ^ 8 }
+    ensures known { AreEnded (S.memory space.now) known.new }
 {
     if !is_secondary(info, primary) {
         return Ok(Some(Fault {
@@ -129,7 +140,7 @@ fn fragment_fault<S: CodeSpace>(
         }));
     }
     let all = ordered_codes(alloc, primary)?;
-    body_fault(alloc, space, primary, &all.codes, middle, end)
+    body_fault(alloc, space, known, primary, &all.codes, middle, end)
 }
 
 /// The first fault of an entry: at its first boundary at which a rule fails, the first rule that
@@ -140,6 +151,7 @@ fn fragment_fault<S: CodeSpace>(
 pub fn entry_fault<S: CodeSpace>(
     alloc: Global,
     space: &S,
+    known: &mut KnownTails,
     probe: &[u8],
     begin: u64,
     end: u64,
@@ -148,10 +160,12 @@ pub fn entry_fault<S: CodeSpace>(
 ) -> Result<Option<Fault>, AllocError>
     requires begin { begin < 2 ^ 63 }
     requires low { end < 2 ^ 63 }
+    requires known { AreEnded (S.memory space.now) known.old }
     ensures fault { IfOk result (λ o. o
         ≡ spec.info_fault (S.memory space.now) probe.now begin end info.now info.now.parent
         named.now) }
     ensures near { IfOk result (λ o. IfNone o (info.now.frame_offset < 2 ^ 8)) }
+    ensures known { AreEnded (S.memory space.now) known.new }
 {
     let size = info.prologue_size() as u64;
     let middle = begin + size;
@@ -169,9 +183,11 @@ pub fn entry_fault<S: CodeSpace>(
         }));
     }
     match info.parent() {
-        None => codes_fault(alloc, space, probe, begin, middle, end, info, &prologue),
+        None => codes_fault(
+            alloc, space, known, probe, begin, middle, end, info, &prologue,
+        ),
         Some(_) => match named {
-            Some(primary) => fragment_fault(alloc, space, begin, middle, end, info, primary),
+            Some(primary) => fragment_fault(alloc, space, known, begin, middle, end, info, primary),
             None => Ok(Some(Fault {
                 at: begin,
                 rule: Rule::Chain,

@@ -6,8 +6,8 @@ use Rattle.unwind_check.proofs.Decoding.{none_left, first_items}
 use Rattle.unwind_check.proofs.Rests.{no_part, last_part, goes_on, same_tail}
 use Rattle.unwind_check.proofs.tail.later_tail.Goals as goal
 
-pub returns-in-None : goal.returns-in-None
-returns-in-None g c =
+pub returns-in-None-clause-tail : goal.returns-in-None-clause-tail
+returns-in-None-clause-tail g c =
     let m = g.S.CodeSpace.memory c.args.space.now in
     let count = c.loop-here.count in
     let none = ap (λ (xs : List FetchedInstr). length xs) c.in-None.ensures.none in
@@ -15,11 +15,11 @@ returns-in-None g c =
     same_tail count (1 + length (between m c.args.begin c.args.end).items)
     (counted count (tail (0xFFFF_FFFF_FFFF_FFFF - count) false c.args.register m c.loop-here.here))
     (counted 1 (tail 0xFFFF_FFFF_FFFF_FFFE false c.args.register m c.args.begin))
-    c.tail_outside.result (omega (arith, none, items)) c.loop-here.invariant.same
-    c.tail_outside.ensures
+    c.in_ok-tail-in-None.tail (omega (arith, none, items)) c.loop-here.invariant.same
+    c.in_ok-tail-in-None.ensures.tail
 
-pub returns-in-None-is_last : goal.returns-in-None-is_last
-returns-in-None-is_last g c =
+pub returns-in-None-is_last-clause-tail : goal.returns-in-None-is_last-clause-tail
+returns-in-None-is_last-clause-tail g c =
     let m = g.S.CodeSpace.memory c.args.space.now in
     let count = c.loop-here.count in
     sym c.loop-here.invariant.same
@@ -33,8 +33,8 @@ overflow_add-count g c =
     let low = c.requires.low in
     omega (arith, few, inside, low)
 
-pub returns-then-last : goal.returns-then-last
-returns-then-last g c =
+pub returns-then-last-clause-tail : goal.returns-then-last-clause-tail
+returns-then-last-clause-tail g c =
     let m = g.S.CodeSpace.memory c.args.space.now in
     let count = c.loop-here.count in
     let h = c.in-Some.ensures in
@@ -91,10 +91,11 @@ loop-here-preserved g c =
           (sym c.in-Some-is_last.ensures ∙ ap (λ (b : Bool). Some b) c.if-last.false)
           (let y : here + c.size-here.result ≡ (here + x.size) % 2 ^ 64 = omega
           (arith, z, inside, low) in y) refl ∙ c.loop-here.invariant.same;
+      ended = c.loop-here.invariant.ended;
     }
 
-pub returns : goal.returns
-returns g c =
+pub returns-clause-tail : goal.returns-clause-tail
+returns-clause-tail g c =
     let m = g.S.CodeSpace.memory c.args.space.now in
     let count = c.loop-here.count in
     let test = c.loop-here-test.false in
@@ -105,5 +106,19 @@ returns g c =
     same_tail count (1 + length (between m c.args.begin c.args.end).items)
     (counted count (tail (0xFFFF_FFFF_FFFF_FFFF - count) false c.args.register m c.loop-here.here))
     (counted 1 (tail 0xFFFF_FFFF_FFFF_FFFE false c.args.register m c.args.begin))
-    c.tail_outside-2.result (omega (arith, none, items)) c.loop-here.invariant.same
-    c.tail_outside-2.ensures
+    c.in_ok-outside.outside (omega (arith, none, items)) c.loop-here.invariant.same
+    c.in_ok-outside.ensures.tail
+
+pub tail_outside-requires-clause-few : goal.tail_outside-requires-clause-few
+tail_outside-requires-clause-few g c =
+    let few = c.loop-here.invariant.few in
+    let inside = c.loop-here.invariant.inside in
+    let low = c.requires.low in
+    omega (arith, few, inside, low)
+
+pub tail_outside-requires-2-clause-few : goal.tail_outside-requires-2-clause-few
+tail_outside-requires-2-clause-few g c =
+    let few = c.loop-here.invariant.few in
+    let inside = c.loop-here.invariant.inside in
+    let low = c.requires.low in
+    omega (arith, few, inside, low)

@@ -2,6 +2,7 @@ use Rattle.std.proofs.Common.{◌≡◌, ◌+◌, ◌-◌, ◌<◌, ◌≤◌, f
 use Rattle.virtual_unwind.specs.Tail.{tail}
 use Rattle.unwind_check.specs.Boundaries.{between}
 use Rattle.unwind_check.specs.Steps.{counted}
+use Rattle.unwind_check.specs.TailEnds.{AreEnded}
 use Rattle.unwind_check.proofs.tail.later_tail.Given as goal
 
 abbrev pub invariant-loop-here : goal.invariant-loop-here
@@ -16,6 +17,7 @@ invariant-loop-here g l =
       same : counted l.count
           (tail (0xFFFF_FFFF_FFFF_FFFF - l.count) false l.register m l.here)
           ≡ counted 1 (tail 0xFFFF_FFFF_FFFF_FFFE false l.register m l.begin);
+      ended : AreEnded m l.known;
     }
 
 abbrev pub decreases-loop-here : goal.decreases-loop-here

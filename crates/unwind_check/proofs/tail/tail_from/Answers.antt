@@ -5,24 +5,24 @@ use Rattle.unwind_check.specs.Steps.{counted}
 use Rattle.unwind_check.proofs.Rests.{no_part, last_part, next_part, same_tail}
 use Rattle.unwind_check.proofs.tail.tail_from.Goals as goal
 
-pub returns-in-None : goal.returns-in-None
+pub returns-in-None-clause-tail : goal.returns-in-None-clause-tail
 unfolding tail_at
-returns-in-None g c =
+returns-in-None-clause-tail g c =
     no_part (g.S.CodeSpace.memory c.args.space.now) c.args.register c.args.at true 0
     0xFFFF_FFFF_FFFF_FFFF c.args.item.now c.requires.there (sym c.in-None.ensures)
 
-pub returns-then-last : goal.returns-then-last
+pub returns-then-last-clause-tail : goal.returns-then-last-clause-tail
 unfolding tail_at
-returns-then-last g c = (
+returns-then-last-clause-tail g c = (
   last_part (g.S.CodeSpace.memory c.args.space.now) c.args.register c.args.at true 0
       0xFFFF_FFFF_FFFF_FFFF c.args.item.now (omega arith) c.requires.there
       (sym c.in-Some.ensures ∙ ap (λ (b : Bool). Some b) c.if-last.true),
   omega arith,
 )
 
-pub returns-else-last : goal.returns-else-last
+pub returns-in_ok-later-in-Some-clause-tail : goal.returns-in_ok-later-in-Some-clause-tail
 unfolding tail_at
-returns-else-last g c =
+returns-in_ok-later-in-Some-clause-tail g c =
     let m = g.S.CodeSpace.memory c.args.space.now in
     let x = c.args.item.now in
     let z = c.size.ensures in
@@ -33,10 +33,10 @@ returns-else-last g c =
     same_tail (1 + length (between m (at + c.size.result) c.args.end).items)
     (1 + length (between m (at + x.size) c.args.end).items)
     (counted 1 (tail 0xFFFF_FFFF_FFFF_FFFE false f m (at + c.size.result)))
-    (counted 0 (tail 0xFFFF_FFFF_FFFF_FFFF true f m at)) c.later_tail.result
+    (counted 0 (tail 0xFFFF_FFFF_FFFF_FFFF true f m at)) c.in_ok-later-in-Some.later
     (ap (λ k. 1 + length (between m (at + k) c.args.end).items) z)
     (ap (λ k. counted 1 (tail 0xFFFF_FFFF_FFFF_FFFE false f m k))
     (let y : at + c.size.result ≡ (at + x.size) % 2 ^ 64 = omega (arith, z, inside, low) in y)
     ∙ sym (next_part m f at true 0 0xFFFF_FFFF_FFFF_FFFF 0xFFFF_FFFF_FFFF_FFFE x (omega arith)
     c.requires.there (sym c.in-Some.ensures ∙ ap (λ (b : Bool). Some b) c.if-last.false)))
-    c.later_tail.ensures
+    c.in_ok-later-in-Some.ensures.tail
