@@ -5,10 +5,19 @@
  * registers, all of which the caller passes. They look at no file, no process and no state of
  * their own, and may be called from any number of threads at once. What each answers is proved to
  * be what the definitions say: those of the Microsoft x64 ABI ("x64 exception handling") as crates
- * pe_image, eh_tables, virtual_unwind, unwind_check and seh_c have them, in specs/. README.md
- * ("From C") says how to build the library, and what is proved of it.
+ * pe_image, eh_tables, eh_index, virtual_unwind, unwind_check and seh_c have them, in specs/.
+ * README.md ("From C") says how to build the library, and docs/LIBRARY.md how to use it: what to
+ * pass, what each refusal means, what costs what, and which images are outside.
  *
- * The bytes of an image are given in one of two forms, and each function has a parameter for it, as
+ * seh_open looks at an image once, and fills a seh_view, plain data that the caller owns: nothing is
+ * to be closed. The other functions but seh_validate take a view. A view may be copied, and lasts as long as the bytes
+ * and the index that it points to. But for these two pointers and their counts a view is trusted for
+ * nothing: whatever its numbers are, a call is safe and ends. By a view that seh_open filled, with
+ * the bytes and the index as they were then, each answer is exact: that of opening the image anew. By
+ * any other, an entry that is found is still one of the table in these bytes, and covers the address;
+ * it may be missed.
+ *
+ * The bytes of an image are given in one of two forms, and there is a parameter for it, as
  * ImageDirectoryEntryToDataEx of dbghelp has:
  *
  *  - mapped is false: they are the image's file, whole. A section's bytes are its raw data.
@@ -45,11 +54,14 @@
 extern "C" {
 #endif
 
+/* The version of what is declared here. It grows where a declaration changes. */
+#define SEH_VERSION 2
+
 /* How a call ended. Where it isn't SEH_OK, `at` and `more` of seh_status are what is said here, and
    0 where nothing is. */
 enum seh_code {
     SEH_OK = 0,
-    SEH_RANGE = 1,       /* the memory range number `at` begins below the end of the one before, or
+    SEH_BAD_RANGES = 1,  /* the memory range number `at` begins below the end of the one before, or
                             passes the end of the addresses */
     SEH_NO_MEMORY = 2,   /* malloc answered null; nothing is said of what was passed */
     SEH_MORE = 3,        /* the array is full, and there is more */
@@ -64,8 +76,8 @@ enum seh_code {
     SEH_IMAGE_IMPORT = 21,    /* import number `at` can't be read; by seh_scopes and seh_validate */
 
     /* The function table, or the entry that is asked, can't be read: the first check that fails.
-       `at` is the number of the entry, but for the first two. Other entries aren't looked at, but
-       for their ranges; by seh_validate all. */
+       `at` is the number of the entry, but for the first two. seh_open looks at the ranges of all
+       entries and at nothing else of them, seh_validate at all, the others at the one entry. */
     SEH_TABLE_TRUNCATED = 32,   /* the table or unwind info at RVA `at` isn't stored whole */
     SEH_TABLE_MISALIGNED = 33,  /* the table or unwind info at RVA `at` isn't 4-aligned */
     SEH_TABLE_EMPTY_RANGE = 34, /* the entry's begin isn't below its end */
@@ -106,15 +118,33 @@ typedef struct seh_context {
     uint64_t rip, rsp, rbx, rbp, rsi, rdi, r12, r13, r14, r15;
 } seh_context;
 
+/* An image that was opened, and where it lies in a process; seh_open fills it. */
+typedef struct seh_view {
+    const uint8_t *bytes; /* the image, of `size` bytes, in the form that was passed */
+    size_t size;
+    const uint32_t *index; /* the index of its function table, of `index_count` numbers */
+    size_t index_count;
+    uint64_t base;           /* where it lies in the process; it may be set anew */
+    uint64_t preferred_base; /* the image's own, ImageBase */
+    uint64_t image_size;     /* how many bytes it takes in memory, SizeOfImage */
+    uint64_t entry_point;    /* the RVA of its entry point */
+    uint64_t functions;      /* how many entries its function table has */
+    uint32_t shift;          /* how many low bits of an RVA the index leaves out */
+    uint32_t mapped;         /* 0: the bytes are the image's file; else as a loader mapped it */
+} seh_view;
+
 /* A frame. */
 typedef struct seh_frame {
-    seh_context caller; /* the registers of its caller, after the return */
-    uint64_t frame;     /* the establisher frame: the frame register less its offset where it is
-                           set, else RSP */
-    uint32_t handler;   /* the RVA of its language handler, where has_handler */
-    bool has_handler;   /* in a body with a handler, which may then be asked */
-    bool in_body;       /* RIP is in the body of a function, and not in its prologue or epilogue,
-                           nor in a leaf function */
+    seh_context caller;    /* the registers of its caller, after the return */
+    uint64_t establisher;  /* the establisher frame: the frame register less its offset where it is
+                              set, else RSP */
+    uint64_t module_index; /* 0 */
+    uint32_t begin, end;   /* RVAs: the code of the entry that covers RIP, from begin to before end;
+                              both are 0 in a leaf function, which has no entry */
+    uint32_t handler;      /* the RVA of its language handler, where has_handler */
+    bool has_handler;      /* in a body with a handler, which may then be asked */
+    bool in_body;          /* RIP is in the body of a function, and not in its prologue or epilogue,
+                              nor in a leaf function */
 } seh_frame;
 
 /* An entry of a function table, with its unwind info (Microsoft x64 ABI, "struct
@@ -139,14 +169,6 @@ typedef struct seh_scope {
                                   1, which always accepts */
     uint32_t jump_target;      /* its __except block, or 0 */
 } seh_scope;
-
-/* An image, by its headers. */
-typedef struct seh_image {
-    uint64_t base;        /* its preferred base, ImageBase */
-    uint64_t size;        /* how many bytes it takes in memory, SizeOfImage */
-    uint64_t entry_point; /* the RVA of its entry point */
-    uint64_t functions;   /* how many entries its function table has */
-} seh_image;
 
 /* A rule on an entry of a function table and its code (Microsoft x64 ABI, "x64 exception handling"
    and "Prolog and epilog"). */
@@ -176,14 +198,22 @@ typedef struct seh_verdict {
 } seh_verdict;
 
 /*
- * Tells whether bytes are an image whose headers, sections and function table can be read, and what
- * it is. No entry's unwind info is read.
+ * Opens an image: reads its headers and sections, and checks the order of its function table, whose
+ * entries have to ascend. No entry's unwind info is read, and none of the imports. It costs the
+ * sections, the entries and the room for the index together.
  *
  * bytes, size   the image
  * mapped        false: its file, whole; true: as a loader mapped it
- * image         what is found; written with SEH_OK alone
+ * base          where the image lies in the process; where that isn't known, any number will do for
+ *               the functions that take an RVA
+ * view          what is filled; written with SEH_OK alone
+ * index, room   an array for an index of the function table, which the view then points to; what it
+ *               holds with another status is not said. With none, where `room` is 0, a look-up halves
+ *               the whole table. With n numbers it halves what begins or ends in one n-th of the
+ *               image: 1,024 of them are much for most images
  */
-seh_status seh_check(const uint8_t *bytes, size_t size, bool mapped, seh_image *image);
+seh_status seh_open(const uint8_t *bytes, size_t size, bool mapped, uint64_t base, seh_view *view,
+                    uint32_t *index, size_t room);
 
 /*
  * Finds the entry of the function table whose range covers an address. Of all entries that one
@@ -192,26 +222,22 @@ seh_status seh_check(const uint8_t *bytes, size_t size, bool mapped, seh_image *
  * rva           the address, from the image's base
  * function      what is found; written with SEH_OK alone
  */
-seh_status seh_find_function(const uint8_t *bytes, size_t size, bool mapped, uint32_t rva,
-                             seh_function *function);
+seh_status seh_find_function(const seh_view *view, uint32_t rva, seh_function *function);
 
 /*
  * Finds the caller of a frame: one virtual unwind, as of a leaf function, or of a place in the
- * prologue, the body or an epilogue of the entry that covers RIP.
+ * prologue, the body or an epilogue of the entry that covers RIP. The code of the image is at the
+ * view's base as its bytes have it, but where a range has other bytes.
  *
- * base          where the image lies in the process; its code is there as `bytes` have it, but
- *               where a range has other bytes
  * ranges, count the memory, in ascending order
  * context       the registers in the frame
  * frame         what is found; written with SEH_OK alone
  */
-seh_status seh_unwind(const uint8_t *bytes, size_t size, bool mapped, uint64_t base,
-                      const seh_range *ranges, size_t count, const seh_context *context,
-                      seh_frame *frame);
+seh_status seh_unwind(const seh_view *view, const seh_range *ranges, size_t count,
+                      const seh_context *context, seh_frame *frame);
 
 /*
- * Finds the frames from a context on, innermost first, as far as RIP lies in the image. The image
- * is opened once, so that this costs less than as many calls of seh_unwind.
+ * Finds the frames from a context on, innermost first, as far as RIP lies in the image.
  *
  * frames, room  an array, and how many frames it has room for
  * written       how many were written; set by each call, to 0 where the image or the memory is
@@ -224,23 +250,23 @@ seh_status seh_unwind(const uint8_t *bytes, size_t size, bool mapped, uint64_t b
  * Where a frame is refused, the frames below it have been written, and the answer is that of
  * seh_unwind for it.
  */
-seh_status seh_walk(const uint8_t *bytes, size_t size, bool mapped, uint64_t base,
-                    const seh_range *ranges, size_t count, const seh_context *context,
-                    seh_frame *frames, size_t room, uint64_t *written);
+seh_status seh_walk(const seh_view *view, const seh_range *ranges, size_t count,
+                    const seh_context *context, seh_frame *frames, size_t room, uint64_t *written);
 
 /*
  * Finds the scope records of the entry that covers an address which hold it, innermost first: the
  * order in which a search asks their filters. None are there where the entry's handler isn't
  * __C_specific_handler. Which one is, the image's imports tell, so they are read too, all of them,
- * and refused with SEH_IMAGE_IMPORT where one can't be read or is by ordinal.
+ * and refused with SEH_IMAGE_IMPORT where one can't be read or is by ordinal. The image is opened
+ * anew for that, the order of its table checked too.
  *
  * scopes, room  an array, and how many records it has room for
  * written       how many were written; set by each call
  *
  * SEH_MORE      there are more of them
  */
-seh_status seh_scopes(const uint8_t *bytes, size_t size, bool mapped, uint32_t rva,
-                      seh_scope *scopes, size_t room, uint64_t *written);
+seh_status seh_scopes(const seh_view *view, uint32_t rva, seh_scope *scopes, size_t room,
+                      uint64_t *written);
 
 /*
  * Tells whether the code of an image keeps its unwind information: of each entry, that each
@@ -260,6 +286,53 @@ seh_status seh_scopes(const uint8_t *bytes, size_t size, bool mapped, uint32_t r
  */
 seh_status seh_validate(const uint8_t *bytes, size_t size, bool mapped, const uint8_t *probe,
                         size_t probe_size, seh_verdict *verdict);
+
+/* The name of a code of enum seh_code; null where there is none. */
+static inline const char *seh_code_name(uint32_t code)
+{
+    switch (code) {
+    case SEH_OK: return "SEH_OK";
+    case SEH_BAD_RANGES: return "SEH_BAD_RANGES";
+    case SEH_NO_MEMORY: return "SEH_NO_MEMORY";
+    case SEH_MORE: return "SEH_MORE";
+    case SEH_NO_FUNCTION: return "SEH_NO_FUNCTION";
+    case SEH_IMAGE_TRUNCATED: return "SEH_IMAGE_TRUNCATED";
+    case SEH_IMAGE_NOT_PE: return "SEH_IMAGE_NOT_PE";
+    case SEH_IMAGE_MACHINE: return "SEH_IMAGE_MACHINE";
+    case SEH_IMAGE_MAGIC: return "SEH_IMAGE_MAGIC";
+    case SEH_IMAGE_LAYOUT: return "SEH_IMAGE_LAYOUT";
+    case SEH_IMAGE_IMPORT: return "SEH_IMAGE_IMPORT";
+    case SEH_TABLE_TRUNCATED: return "SEH_TABLE_TRUNCATED";
+    case SEH_TABLE_MISALIGNED: return "SEH_TABLE_MISALIGNED";
+    case SEH_TABLE_EMPTY_RANGE: return "SEH_TABLE_EMPTY_RANGE";
+    case SEH_TABLE_UNSORTED: return "SEH_TABLE_UNSORTED";
+    case SEH_TABLE_VERSION: return "SEH_TABLE_VERSION";
+    case SEH_TABLE_FLAGS: return "SEH_TABLE_FLAGS";
+    case SEH_TABLE_OPERATION: return "SEH_TABLE_OPERATION";
+    case SEH_TABLE_CODE_ORDER: return "SEH_TABLE_CODE_ORDER";
+    case SEH_TABLE_CHAIN: return "SEH_TABLE_CHAIN";
+    case SEH_TABLE_SCOPE: return "SEH_TABLE_SCOPE";
+    case SEH_UNREADABLE: return "SEH_UNREADABLE";
+    case SEH_BACKWARD: return "SEH_BACKWARD";
+    default: return NULL;
+    }
+}
+
+/* The name of a rule of enum seh_rule; null where there is none. */
+static inline const char *seh_rule_name(uint32_t rule)
+{
+    switch (rule) {
+    case SEH_RULE_NONE: return "SEH_RULE_NONE";
+    case SEH_RULE_DECODE: return "SEH_RULE_DECODE";
+    case SEH_RULE_CHAIN: return "SEH_RULE_CHAIN";
+    case SEH_RULE_CODES: return "SEH_RULE_CODES";
+    case SEH_RULE_PROLOGUE: return "SEH_RULE_PROLOGUE";
+    case SEH_RULE_STACK_WRITE: return "SEH_RULE_STACK_WRITE";
+    case SEH_RULE_UNSAVED: return "SEH_RULE_UNSAVED";
+    case SEH_RULE_EPILOGUE: return "SEH_RULE_EPILOGUE";
+    default: return NULL;
+    }
+}
 
 #ifdef __cplusplus
 }

@@ -37,15 +37,32 @@ static size_t size;
 
 /* what the calls write */
 static seh_frame frame;
+static seh_function function;
 static seh_verdict verdict;
 static uint64_t written;
+
+static seh_view view;
+static uint32_t numbers[64];
+
+/* opens into another view, so that a refusal leaves the first one alone */
+static seh_view opened;
+
+static seh_status open_image(void)
+{
+    return seh_open(file, size, false, 0x140000000, &opened, numbers, 64);
+}
+
+static seh_status find(void)
+{
+    return seh_find_function(&view, 0x1000, &function);
+}
 
 static seh_status unwind(void)
 {
     seh_range range = {0x1000, stack, sizeof stack};
     seh_context context = {.rip = 0x140001000, .rsp = 0x1000};
 
-    return seh_unwind(file, size, false, 0x140000000, &range, 1, &context, &frame);
+    return seh_unwind(&view, &range, 1, &context, &frame);
 }
 
 static seh_status validate(void)
@@ -57,7 +74,7 @@ static seh_status scopes(void)
 {
     seh_scope scope;
 
-    return seh_scopes(file, size, false, 0x1000, &scope, 1, &written);
+    return seh_scopes(&view, 0x1000, &scope, 1, &written);
 }
 
 /* How many answers of a call are wrong. */
@@ -88,7 +105,10 @@ int main(int argc, char **argv)
     long wrong;
 
     size = in ? fread(file, 1, sizeof file, in) : 0;
-    wrong = refuse("seh_unwind", unwind, &frame, sizeof frame);
+    wrong = seh_open(file, size, false, 0x140000000, &view, numbers, 64).code != SEH_OK;
+    wrong += refuse("seh_open", open_image, &opened, sizeof opened);
+    wrong += refuse("seh_find_function", find, &function, sizeof function);
+    wrong += refuse("seh_unwind", unwind, &frame, sizeof frame);
     wrong += refuse("seh_validate", validate, &verdict, sizeof verdict);
     wrong += refuse("seh_scopes", scopes, &written, sizeof written);
     return wrong != 0;

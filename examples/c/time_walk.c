@@ -1,18 +1,22 @@
 /*
- * time_walk: times walks through frames of an image that has 10,000 functions, made here. Each walk
- * opens the image once. Times are of the processor, the least of several runs.
+ * time_walk: times what costs how much in an image that has 10,000 functions, made here: opening it,
+ * a look-up, an unwinding and a walk, without an index and with one; and a frame of the walk that
+ * libgcc makes over this program's own stack. Times are of the processor, the least of several runs.
  */
-#define _POSIX_C_SOURCE 200809L
+#define _GNU_SOURCE
 #include "seh.h"
 
 #include <stdio.h>
 #include <string.h>
 #include <time.h>
+#include <unwind.h>
 
 enum {
     FUNCTIONS = 10000,
     FRAMES = 4000,
     RUNS = 20,
+    NUMBERS = 1024,
+    DEPTH = 1000,
     HEADERS = 0x400,
     TEXT = 0x1000,
     XDATA = TEXT + (16 * FUNCTIONS + 0xFFF) / 0x1000 * 0x1000,
@@ -32,6 +36,8 @@ static const uint8_t unwind_info[8] = {1, 4, 1, 0, 4, 0x42, 0, 0};
 static uint8_t image[END];
 static uint8_t stack[48 * FRAMES];
 static seh_frame frames[FRAMES];
+static uint32_t numbers[NUMBERS];
+static uint64_t places[FRAMES];
 
 static void put(uint8_t *at, uint64_t number, int bytes)
 {
@@ -96,45 +102,126 @@ static double microseconds(void)
     return (double)now.tv_sec * 1e6 + (double)now.tv_nsec / 1e3;
 }
 
-/* The least time of a walk of that many frames; below 0 where it isn't as it has to be. */
-static double time_of(const seh_context *context, size_t room)
+static seh_view view;
+static seh_range range = {STACK, stack, sizeof stack};
+static seh_context context;
+static size_t room;
+
+/* What is timed: each is false where it isn't as it has to be. */
+
+static bool opens(void)
 {
-    seh_range range = {STACK, stack, sizeof stack};
+    return seh_open(image, sizeof image, true, BASE, &view, numbers, room).code == SEH_OK;
+}
+
+static bool finds(void)
+{
+    for (int k = 0; k < FRAMES; k++) {
+        uint32_t rva = (uint32_t)(places[k] - BASE);
+        seh_function function;
+
+        if (seh_find_function(&view, rva, &function).code != SEH_OK || rva < function.begin ||
+            rva >= function.end)
+            return false;
+    }
+    return true;
+}
+
+static bool unwinds(void)
+{
+    seh_context here = context;
+
+    for (int k = 0; k < FRAMES; k++) {
+        seh_frame frame;
+
+        if (here.rip != places[k] || seh_unwind(&view, &range, 1, &here, &frame).code != SEH_OK)
+            return false;
+        here = frame.caller;
+    }
+    return here.rip == 0;
+}
+
+static bool walks(void)
+{
+    uint64_t written;
+    seh_status status = seh_walk(&view, &range, 1, &context, frames, FRAMES, &written);
+
+    return status.code == SEH_OK && written == FRAMES && frames[FRAMES - 1].caller.rip == 0;
+}
+
+static int traced;
+
+static _Unwind_Reason_Code count_frame(struct _Unwind_Context *at, void *unused)
+{
+    (void)at;
+    (void)unused;
+    traced++;
+    return _URC_NO_REASON;
+}
+
+static bool traces(void)
+{
+    traced = 0;
+    _Unwind_Backtrace(count_frame, NULL);
+    return traced > DEPTH;
+}
+
+static double time_of(bool (*call)(void), int count)
+{
     double least = 1e9;
 
     for (int run = 0; run < RUNS; run++) {
-        uint64_t written;
         double begun = microseconds(), taken;
-        seh_status status = seh_walk(image, sizeof image, true, BASE, &range, 1, context, frames,
-                                     room, &written);
 
-        taken = microseconds() - begun;
-        if (written != room || status.code != (room == FRAMES ? SEH_OK : SEH_MORE))
+        if (!call())
             return -1;
+        taken = microseconds() - begun;
         if (taken < least)
             least = taken;
     }
-    return least;
+    return least * 1000 / count;
+}
+
+static double deep(int depth)
+{
+    double found = depth ? deep(depth - 1) : time_of(traces, DEPTH);
+
+    __asm__ volatile("" ::: "memory"); /* so that this stays a call */
+    return found;
+}
+
+static int wrong;
+
+static void print(const char *what, double without, double with)
+{
+    printf("%-40s %8.0f %8.0f\n", what, without, with);
+    wrong += without < 0 || with < 0;
 }
 
 int main(void)
 {
     uint32_t state = 1;
-    seh_context context = {0};
-    double opened, walked;
+    double times[4][2];
 
     make_image();
-    context.rip = return_address(&state);
+    for (int k = 0; k < FRAMES; k++)
+        places[k] = return_address(&state);
+    context.rip = places[0];
     context.rsp = STACK;
     for (int k = 0; k < FRAMES; k++)
-        put(stack + 48 * k + 40, k == FRAMES - 1 ? 0 : return_address(&state), 8);
-    opened = time_of(&context, 0);
-    walked = time_of(&context, FRAMES);
-    if (opened < 0 || walked < 0) {
-        printf("a walk isn't as it has to be\n");
-        return 1;
+        put(stack + 48 * k + 40, k == FRAMES - 1 ? 0 : places[k + 1], 8);
+    for (int k = 0; k < 2; k++) {
+        room = k ? NUMBERS : 0;
+        times[0][k] = time_of(opens, 1);
+        times[1][k] = time_of(finds, FRAMES);
+        times[2][k] = time_of(unwinds, FRAMES);
+        times[3][k] = time_of(walks, FRAMES);
     }
-    printf("%d entries: opened in %.0f us, then %.2f us a frame\n", FUNCTIONS, opened,
-           (walked - opened) / FRAMES);
-    return 0;
+    printf("%d entries, ns                    without an index, with %d numbers\n", FUNCTIONS, NUMBERS);
+    print("seh_open", times[0][0], times[0][1]);
+    print("seh_find_function", times[1][0], times[1][1]);
+    print("seh_unwind", times[2][0], times[2][1]);
+    print("seh_walk, a frame", times[3][0], times[3][1]);
+    printf("%-40s %8.0f\n", "_Unwind_Backtrace of libgcc, a frame", deep(DEPTH));
+    return wrong != 0;
 }

@@ -16,12 +16,7 @@ struct registers {
     uint64_t base, stack;
 };
 
-/* The bytes of an image, in one of the forms that seh.h names. */
-struct image {
-    uint8_t *bytes;
-    size_t size;
-    bool mapped;
-};
+static uint32_t numbers[256]; /* the index of the function table */
 
 /* Reads a file whole. */
 static uint8_t *read_file(const char *name, size_t *size)
@@ -55,12 +50,12 @@ static size_t least(size_t a, size_t b)
     return a < b ? a : b;
 }
 
-/* Maps the file of an image that seh_check found right, as a loader does (PE format, "Section
-   Table"): headers and sections at their RVAs, in zeros. */
-static void map_image(struct image *image, uint64_t size_of_image)
+/* The file of an image that was opened, mapped as a loader does (PE format, "Section Table"): headers
+   and sections at their RVAs, in zeros. */
+static uint8_t *map_image(const seh_view *view, size_t *mapped_size)
 {
-    const uint8_t *file = image->bytes, *headers = file + number_at(file + 0x3c), *section;
-    size_t size = (size_t)(size_of_image + 4095) / 4096 * 4096;
+    const uint8_t *file = view->bytes, *headers = file + number_at(file + 0x3c), *section;
+    size_t size = (size_t)(view->image_size + 4095) / 4096 * 4096;
     uint8_t *bytes = calloc(size + 1, 1);
 
     if (!bytes) {
@@ -68,7 +63,7 @@ static void map_image(struct image *image, uint64_t size_of_image)
         exit(2);
     }
     /* SizeOfHeaders */
-    memcpy(bytes, file, least(number_at(headers + 84), least(image->size, size)));
+    memcpy(bytes, file, least(number_at(headers + 84), least(view->size, size)));
     section = headers + 24 + (headers[20] | headers[21] << 8);
     for (unsigned count = headers[6] | headers[7] << 8; count; count--, section += 40) {
         uint32_t virtual_size = number_at(section + 8), raw_size = number_at(section + 16);
@@ -77,8 +72,8 @@ static void map_image(struct image *image, uint64_t size_of_image)
         memcpy(bytes + number_at(section + 12), file + (stored ? number_at(section + 20) : 0),
                stored);
     }
-    free(image->bytes);
-    *image = (struct image){bytes, size, true};
+    *mapped_size = size;
+    return bytes;
 }
 
 /* Where a line's number goes; null where its name isn't known. */
@@ -117,13 +112,12 @@ static void read_registers(const char *name, struct registers *r)
 }
 
 /* A line for each `__try` around a place; none where the imports can't be read. */
-static void print_scopes(const struct image *image, uint32_t rva)
+static void print_scopes(const seh_view *view, uint32_t rva)
 {
     seh_scope scopes[8];
     uint64_t written;
 
-    seh_scopes(image->bytes, image->size, image->mapped, rva, scopes,
-               sizeof scopes / sizeof scopes[0], &written);
+    seh_scopes(view, rva, scopes, sizeof scopes / sizeof scopes[0], &written);
     for (uint64_t k = 0; k < written; k++)
         printf("    __try %" PRIx32 "..%" PRIx32 ": %" PRIx32 ", %" PRIx32 "\n", scopes[k].begin,
                scopes[k].end, scopes[k].handler_address, scopes[k].jump_target);
@@ -137,11 +131,10 @@ static void print_context(const seh_context *c)
 }
 
 /* A line for the place of a frame, with the function that holds it. */
-static void print_place(const struct image *image, uint64_t base, uint64_t rip)
+static void print_place(const seh_view *view, uint64_t rip)
 {
     seh_function function;
-    seh_status status = seh_find_function(image->bytes, image->size, image->mapped,
-                                          (uint32_t)(rip - base), &function);
+    seh_status status = seh_find_function(view, (uint32_t)(rip - view->base), &function);
 
     printf("%" PRIx64, rip);
     if (status.code == SEH_OK)
@@ -153,24 +146,24 @@ static void print_place(const struct image *image, uint64_t base, uint64_t rip)
 }
 
 /* Prints the frames from a context on, whose last caller it leaves there. */
-static seh_status walk(const struct image *image, struct registers *r, const seh_range *stack)
+static seh_status walk(const seh_view *view, struct registers *r, const seh_range *stack)
 {
     seh_frame frames[4]; /* few, so that a walk goes on more than once */
     seh_status status;
     uint64_t written;
 
     do {
-        status = seh_walk(image->bytes, image->size, image->mapped, r->base, stack, 1, &r->context,
-                          frames, sizeof frames / sizeof frames[0], &written);
+        status = seh_walk(view, stack, 1, &r->context, frames, sizeof frames / sizeof frames[0],
+                          &written);
         for (uint64_t k = 0; k < written; k++) {
             uint64_t rip = k ? frames[k - 1].caller.rip : r->context.rip;
 
-            print_place(image, r->base, rip);
-            printf(", frame %" PRIx64, frames[k].frame);
+            print_place(view, rip);
+            printf(", frame %" PRIx64, frames[k].establisher);
             if (frames[k].has_handler)
                 printf(", handler %" PRIx32, frames[k].handler);
             printf("\n");
-            print_scopes(image, (uint32_t)(rip - r->base));
+            print_scopes(view, (uint32_t)(rip - view->base));
             print_context(&frames[k].caller);
         }
         if (written)
@@ -183,37 +176,41 @@ int main(int argc, char **argv)
 {
     bool mapped = argc == 5 && strcmp(argv[1], "--mapped") == 0;
     char **files = argv + 1 + mapped;
-    struct image image = {0};
     struct registers r;
     seh_range stack;
-    seh_image found;
+    seh_view view;
     seh_status status;
-    uint8_t *bytes;
+    uint8_t *image, *bytes;
+    size_t size;
 
     if (argc != 4 + mapped) {
         fprintf(stderr, "usage: walk [--mapped] IMAGE REGISTERS STACK\n");
         return 2;
     }
-    image.bytes = read_file(files[0], &image.size);
+    image = read_file(files[0], &size);
     read_registers(files[1], &r);
     bytes = read_file(files[2], &stack.size);
     stack.at = r.stack;
     stack.bytes = bytes;
-    status = seh_check(image.bytes, image.size, false, &found);
+    status = seh_open(image, size, false, r.base, &view, numbers, sizeof numbers / sizeof *numbers);
     if (status.code == SEH_OK && mapped) {
-        map_image(&image, found.size);
-        status = seh_check(image.bytes, image.size, true, &found);
+        uint8_t *file = image;
+
+        image = map_image(&view, &size);
+        free(file);
+        /* without an index here */
+        status = seh_open(image, size, true, r.base, &view, numbers, 0);
     }
     if (status.code == SEH_OK) {
         printf("image of %" PRIu64 " bytes with %" PRIu64 " functions, at %" PRIx64 "\n",
-               found.size, found.functions, r.base);
-        status = walk(&image, &r, &stack);
+               view.image_size, view.functions, r.base);
+        status = walk(&view, &r, &stack);
     }
     if (status.code == SEH_OK)
         printf("%" PRIx64 " lies outside the image\n", r.context.rip);
     else
         printf("refused %" PRIu32 " at %" PRIx64 "\n", status.code, status.at);
-    free(image.bytes);
+    free(image);
     free(bytes);
     return status.code != SEH_OK;
 }

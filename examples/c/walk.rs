@@ -5,7 +5,7 @@
 #[path = "../../include/seh.rs"]
 mod seh;
 
-use seh::{Context, Frame, Layout, Range, Scope, Status};
+use seh::{Context, Layout, Range, Scope, Status, View};
 use std::process::exit;
 
 fn print_context(c: &Context) {
@@ -15,18 +15,18 @@ fn print_context(c: &Context) {
     );
 }
 
-fn print_place(file: &[u8], base: u64, rip: u64) {
+fn print_place(view: &View, rip: u64) {
     print!("{rip:x}");
-    match seh::find_function(file, Layout::File, rip.wrapping_sub(base) as u32) {
+    match view.find_function(rip.wrapping_sub(view.base) as u32) {
         Ok(Some(function)) => print!(" in function {:x}..{:x}", function.begin, function.end),
         Ok(None) => print!(" in no function"),
         Err(status) => print!(" in a function that is refused ({})", status.code),
     }
 }
 
-fn print_scopes(file: &[u8], rva: u32) {
+fn print_scopes(view: &View, rva: u32) {
     let mut scopes = [Scope::default(); 8];
-    let (count, _) = seh::scopes(file, Layout::File, rva, &mut scopes);
+    let (count, _) = view.scopes(rva, &mut scopes);
     for scope in &scopes[..count] {
         println!(
             "    __try {:x}..{:x}: {:x}, {:x}",
@@ -75,32 +75,26 @@ fn main() {
     let text = std::fs::read_to_string(registers).expect("the registers");
     let stack = std::fs::read(stack).expect("the stack");
     let (mut context, base, stack_at) = read_registers(&text).expect("lines `NAME NUMBER`");
-    let found = seh::check(&file, Layout::File).unwrap_or_else(|status| refused(status));
+    let mut index = [0; 64];
+    let view =
+        View::open(&file, Layout::File, base, &mut index).unwrap_or_else(|status| refused(status));
     println!(
         "image of {} bytes with {} functions, at {base:x}",
-        found.size, found.functions
+        view.image_size(),
+        view.functions()
     );
     let ranges = [Range::new(stack_at, &stack)];
-    loop {
-        let mut frames = [Frame::default(); 4];
-        let (count, status) =
-            seh::walk(&file, Layout::File, base, &ranges, &context, &mut frames);
-        for frame in &frames[..count] {
-            print_place(&file, base, context.rip);
-            print!(", frame {:x}", frame.frame);
-            if frame.has_handler {
-                print!(", handler {:x}", frame.handler);
-            }
-            println!();
-            print_scopes(&file, context.rip.wrapping_sub(base) as u32);
-            print_context(&frame.caller);
-            context = frame.caller;
+    for frame in view.frames(&ranges, context) {
+        let frame = frame.unwrap_or_else(|status| refused(status));
+        print_place(&view, context.rip);
+        print!(", frame {:x}", frame.establisher);
+        if frame.has_handler {
+            print!(", handler {:x}", frame.handler);
         }
-        match status.code {
-            seh::MORE => continue,
-            seh::OK => break,
-            _ => refused(status),
-        }
+        println!();
+        print_scopes(&view, context.rip.wrapping_sub(base) as u32);
+        print_context(&frame.caller);
+        context = frame.caller;
     }
     println!("{:x} lies outside the image", context.rip);
 }

@@ -2,7 +2,7 @@
 //! which a search has to look. It makes a look-up in a long table touch fewer of its entries.
 //!
 //! Proved: what a look-up finds is a row of the table that covers the address, whatever the index
-//! holds; in a table whose ranges ascend, by an index that [`Index::fill`] made of it, it finds the
+//! holds; in a table whose ranges ascend, by an index that [`fill`] made of it, it finds the
 //! row that the definition names (`specs/Indexes.antt`, where to begin).
 #![tactic(auto)]
 

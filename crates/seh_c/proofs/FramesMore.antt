@@ -2,33 +2,33 @@
 use Rattle.std.proofs.Common.{◌≡◌, ℕ, zero, suc, ◌+◌, Bool, true, false, List, Result, Ok, Err, refl, sym, ap, ◌∙◌, arith, set}
 use Rattle.flat_memory.specs.Memory.{Memory}
 use Rattle.x64_machine.specs.declared.context.Context.{Context}
-use Rattle.virtual_unwind.specs.declared.frame.Caller.{Caller}
 use Rattle.eh_tables.specs.Tables.{Tables}
 use Rattle.seh_c.specs.declared.c_types.SehFrame.{SehFrame}
 use Rattle.seh_c.specs.declared.refusal.Refusal.{Refusal}
-use Rattle.seh_c.specs.Callers.{caller_in}
+use Rattle.seh_c.specs.declared.unwinding.Step.{Step}
+use Rattle.seh_c.specs.Callers.{step_in}
 use Rattle.seh_c.specs.Shapes.{c_frame}
 use Rattle.seh_c.specs.Statuses.{ok, more, refusal_status}
 use Rattle.seh_c.specs.Walks.{Walked, is_inside, end, ended, with_frame, if_inside, walk_from}
 
 module _ (t : Tables) (base : ℕ) (m : Memory) (size : ℕ) where
-  pub frame_more : (n j k : ℕ) (c : Context) (fs : List SehFrame) (f : Caller) → n ≡ suc j
-      → is_inside base size c ≡ true → caller_in t base m c ≡ Ok f
+  pub frame_more : (n j k : ℕ) (c : Context) (fs : List SehFrame) (f : Step) → n ≡ suc j
+      → is_inside base size c ≡ true → step_in t base m c ≡ Ok f
       → walk_from t base m size n k c fs
-      ≡ walk_from t base m size j (k + 1) f.context (set fs k (c_frame f))
+      ≡ walk_from t base m size j (k + 1) f.caller.context (set fs k (c_frame 0 f))
   unfolding walk_from
   frame_more n j k c fs f e i r = ap (λ x. walk_from t base m size x k c fs) e
       ∙ ap (if_inside (with_frame (walk_from t base m size j (k + 1)) fs k
-      (caller_in t base m c)) fs k) i
+      (step_in t base m c)) fs k) i
       ∙ ap (with_frame (walk_from t base m size j (k + 1)) fs k) r
 
   pub frame_refused : (n j k : ℕ) (c : Context) (fs : List SehFrame) (x : Refusal) → n ≡ suc j
-      → is_inside base size c ≡ true → caller_in t base m c ≡ Err x
+      → is_inside base size c ≡ true → step_in t base m c ≡ Err x
       → walk_from t base m size n k c fs ≡ ended fs k (refusal_status x)
   unfolding walk_from
   frame_refused n j k c fs x e i r = ap (λ y. walk_from t base m size y k c fs) e
       ∙ ap (if_inside (with_frame (walk_from t base m size j (k + 1)) fs k
-      (caller_in t base m c)) fs k) i
+      (step_in t base m c)) fs k) i
       ∙ ap (with_frame (walk_from t base m size j (k + 1)) fs k) r
 
   pub frame_none : (n j k : ℕ) (c : Context) (fs : List SehFrame) → n ≡ suc j
@@ -36,7 +36,7 @@ module _ (t : Tables) (base : ℕ) (m : Memory) (size : ℕ) where
   unfolding walk_from
   frame_none n j k c fs e i = ap (λ y. walk_from t base m size y k c fs) e
       ∙ ap (if_inside (with_frame (walk_from t base m size j (k + 1)) fs k
-      (caller_in t base m c)) fs k) i
+      (step_in t base m c)) fs k) i
 
   pub frames_over : (n k : ℕ) (c : Context) (fs : List SehFrame) → n ≡ 0
       → walk_from t base m size n k c fs ≡ ended fs k (end (is_inside base size c))

@@ -51,6 +51,20 @@ gives_then (refusals.Image x) r f h = ap (λ a. a >>= f) h
 gives_then (refusals.Table x) r f h = ap (λ a. a >>= f) h
 gives_then (refusals.Unwinding x) r f h = ap (λ a. a >>= f) h
 
+-- what is answered is what is defined
+pub gives_is : {A : Type 0} (r given : Answer A) → r ≡ given → Gives r given
+gives_is (Ok x) given h = sym h
+gives_is (Err refusals.NoMemory) given h = tt
+gives_is (Err (refusals.Range x)) given h = sym h
+gives_is (Err (refusals.Image x)) given h = sym h
+gives_is (Err (refusals.Table x)) given h = sym h
+gives_is (Err (refusals.Unwinding x)) given h = sym h
+
+-- after what was answered before it
+pub gives_after : {A B : Type 0} (x : A) (r : Answer A) (f : A → Answer B) (given : Answer B)
+    → r ≡ Ok x → given ≡ f x → Gives given (r >>= f)
+gives_after x r f given was is = gives_is given (r >>= f) (is ∙ sym (ap (λ a. a >>= f) was))
+
 -- and nothing is written then
 pub gives_no_walk : {A : Type 0} (e : Refusal) (r : Answer A) (f : A → Answer Walked)
     (old new : List SehFrame) → new ≡ old → Gives (Err e) r → GivesWalk old new (Err e) (r >>= f)

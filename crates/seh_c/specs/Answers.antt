@@ -1,12 +1,11 @@
 -- What a call writes and returns, by its answer. Any call may answer that memory is wanting, and
 -- then writes nothing.
 use Rattle.std.specs.Prelude.{◌≡◌, ◌⊎◌, ℕ, List, Option, Some, None, Result, Ok, Err}
-use Rattle.virtual_unwind.specs.declared.frame.Caller.{Caller}
 use Rattle.seh_c.specs.declared.c_types.SehFrame.{SehFrame}
 use Rattle.seh_c.specs.declared.c_types.SehFunction.{SehFunction}
-use Rattle.seh_c.specs.declared.c_types.SehImage.{SehImage}
 use Rattle.seh_c.specs.declared.c_types.SehStatus.{SehStatus}
 use Rattle.seh_c.specs.declared.refusal.Refusal.TheVariants as refusals
+use Rattle.seh_c.specs.declared.unwinding.Step.{Step}
 use Rattle.seh_c.specs.Openings.{Answer}
 use Rattle.seh_c.specs.Shapes.{c_frame}
 use Rattle.seh_c.specs.Statuses.{ok, no_function, refusal_status}
@@ -18,17 +17,17 @@ abbrev pub status_of : {A : Type 0} → Answer A → SehStatus
 status_of (Ok x) = ok
 status_of (Err e) = refusal_status e
 
-abbrev pub frame_after : SehFrame → Answer Caller → SehFrame
-frame_after old (Ok f) = c_frame f
+abbrev pub frame_after : SehFrame → Answer Step → SehFrame
+frame_after old (Ok f) = c_frame 0 f
 frame_after old (Err e) = old
 
 -- a call that answers so
-pub record Says (answer : Answer Caller) (old new : SehFrame) (given : SehStatus) : Type 0 where
+pub record Says (answer : Answer Step) (old new : SehFrame) (given : SehStatus) : Type 0 where
   pub status : given ≡ status_of answer
   pub frame : new ≡ frame_after old answer
 
 -- or memory is wanting, and nothing is written
-abbrev pub Answers : Answer Caller → SehFrame → SehFrame → SehStatus → Type 0
+abbrev pub Answers : Answer Step → SehFrame → SehFrame → SehStatus → Type 0
 Answers answer old new given =
     Says answer old new given ⊎ Says (Err refusals.NoMemory) old new given
 
@@ -77,18 +76,3 @@ abbrev pub FunctionAnswers : Answer (Option SehFunction) → SehFunction → Seh
     → Type 0
 FunctionAnswers answer old new given =
     SaysFunction answer old new given ⊎ SaysFunction (Err refusals.NoMemory) old new given
-
--- ---- an image
-
-abbrev pub image_after : SehImage → Answer SehImage → SehImage
-image_after old (Ok i) = i
-image_after old (Err e) = old
-
-pub record SaysImage (answer : Answer SehImage) (old new : SehImage) (given : SehStatus)
-    : Type 0 where
-  pub status : given ≡ status_of answer
-  pub image : new ≡ image_after old answer
-
-abbrev pub ImageAnswers : Answer SehImage → SehImage → SehImage → SehStatus → Type 0
-ImageAnswers answer old new given =
-    SaysImage answer old new given ⊎ SaysImage (Err refusals.NoMemory) old new given

@@ -1,5 +1,5 @@
--- The caller of a frame, and the entry of an address: of all entries that one alone is read.
-use Rattle.std.specs.Prelude.{◌≡◌, ℕ, List, Option, option_map, Result, Ok, Err}
+-- A frame and its caller, and the entry of an address: of all entries that one alone is read.
+use Rattle.std.specs.Prelude.{◌≡◌, ℕ, List, Option, Some, None, option_map, Result, Ok, Err}
 use Rattle.seh_num.specs.Answers.{◌>>=◌}
 use Rattle.flat_memory.specs.Memory.{Memory}
 use Rattle.x64_machine.specs.declared.context.Context.{Context}
@@ -12,6 +12,7 @@ use Rattle.virtual_unwind.specs.CallerOf.{distance, of_entry, rising}
 use Rattle.virtual_unwind.specs.Shown.{shown}
 use Rattle.seh_c.specs.declared.c_types.SehFunction.{SehFunction}
 use Rattle.seh_c.specs.declared.c_types.SehRange.{SehRange}
+use Rattle.seh_c.specs.declared.unwinding.Step.{Step}
 use Rattle.seh_c.specs.Openings.{Answer, of_table, of_unwinding, opened, table_of}
 use Rattle.seh_c.specs.Ranges.{ranges_checked}
 use Rattle.seh_c.specs.Shapes.{c_function}
@@ -19,34 +20,48 @@ use Rattle.seh_c.specs.Snapshot.{snapshot}
 
 -- ---- one virtual unwind
 
-abbrev pub caller_by : Memory → Context → ℕ → Option Entry → Answer Caller
-caller_by m c rva o = of_unwinding (shown (of_entry m c rva o >>= rising c))
+-- the code of an entry; none is empty
+abbrev pub begin_of : Option Entry → ℕ
+begin_of None = 0
+begin_of (Some e) = e.range.begin
+
+abbrev pub end_of : Option Entry → ℕ
+end_of None = 0
+end_of (Some e) = e.range.end
+
+abbrev pub step_of : Option Entry → Caller → Step
+step_of o f = record { begin = begin_of o; end = end_of o; caller = f }
+
+abbrev pub step_by : Memory → Context → ℕ → Option Entry → Answer Step
+step_by m c rva o = do
+  f ← of_unwinding (shown (of_entry m c rva o >>= rising c))
+  Ok (step_of o f)
 
 -- at an address relative to the image base
-abbrev pub caller_at : Tables → ℕ → Memory → Context → Answer Caller
-caller_at t rva m c = do
+abbrev pub step_at : Tables → ℕ → Memory → Context → Answer Step
+step_at t rva m c = do
   o ← of_table (entry_covering t rva)
-  caller_by m c rva o
+  step_by m c rva o
 
 -- in an image that lies at a base
-abbrev pub caller_in : Tables → ℕ → Memory → Context → Answer Caller
-caller_in t base m c = caller_at t (distance base c.rip) m c
+abbrev pub step_in : Tables → ℕ → Memory → Context → Answer Step
+step_in t base m c = step_at t (distance base c.rip) m c
 
-abbrev pub caller_within : Image → ℕ → List SehRange → Context → Answer Caller
-caller_within image base ranges c = do
+abbrev pub step_within : Image → ℕ → List SehRange → Context → Answer Step
+step_within image base ranges c = do
   t ← table_of image
-  caller_in t base (snapshot image base ranges) c
+  step_in t base (snapshot image base ranges) c
 
-abbrev pub caller_from : ImageLayout → List ℕ → ℕ → List SehRange → Context → Answer Caller
-caller_from layout bytes base ranges c = do
+abbrev pub step_from : ImageLayout → List ℕ → ℕ → List SehRange → Context → Answer Step
+step_from layout bytes base ranges c = do
   image ← opened layout bytes
-  caller_within image base ranges c
+  step_within image base ranges c
 
 -- bytes: of an image, which lies at base; ranges: of the memory
-abbrev pub unwound : ImageLayout → List ℕ → ℕ → List SehRange → Context → Answer Caller
+abbrev pub unwound : ImageLayout → List ℕ → ℕ → List SehRange → Context → Answer Step
 unwound layout bytes base ranges c = do
   _ ← ranges_checked 0 0 ranges
-  caller_from layout bytes base ranges c
+  step_from layout bytes base ranges c
 
 -- ---- the entry of an address
 

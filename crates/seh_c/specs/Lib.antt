@@ -5,7 +5,7 @@ pub mod Snapshots
 pub mod Statuses
 pub mod Openings
 pub mod Callers
-pub mod Validations
+pub mod Views
 pub mod Walks
 pub mod Answers
 pub mod Scopes

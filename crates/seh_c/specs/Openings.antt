@@ -1,5 +1,5 @@
 -- What a call answers, and what it reads first: an image, and the ranges of its function table.
-use Rattle.std.specs.Prelude.{◌≡◌, ℕ, List, length, Result, Ok, Err}
+use Rattle.std.specs.Prelude.{◌≡◌, ℕ, List, Result, Ok, Err}
 use Rattle.seh_num.specs.Answers.{◌>>=◌}
 use Rattle.pe_image.specs.Image.{Image}
 use Rattle.pe_image.specs.Reading.{outline_alone, reading_in}
@@ -10,10 +10,8 @@ use Rattle.eh_tables.specs.declared.refusal.TableErr.{TableErr}
 use Rattle.eh_tables.specs.Tables.{Tables, directory}
 use Rattle.eh_tables.specs.Covering.{ranges_checked}
 use Rattle.virtual_unwind.specs.declared.refusal.UnwindErr.{UnwindErr}
-use Rattle.seh_c.specs.declared.c_types.SehImage.{SehImage}
 use Rattle.seh_c.specs.declared.refusal.Refusal.{Refusal}
 use Rattle.seh_c.specs.declared.refusal.Refusal.TheVariants as refusals
-use Rattle.seh_c.specs.Shapes.{c_image}
 
 abbrev pub Answer : Type 0 → Type 0
 Answer A = Result A Refusal
@@ -54,14 +52,8 @@ table_of image = do
   _ ← of_table (ranges_checked 0 0 rs)
   Ok (record { image = image; ranges = rs })
 
--- ---- what an image is
-
-abbrev pub checked_within : Image → Answer SehImage
-checked_within image = do
-  t ← table_of image
-  Ok (c_image image (length t.ranges))
-
-abbrev pub checked : ImageLayout → List ℕ → Answer SehImage
-checked layout bytes = do
+-- an image and its function table
+abbrev pub table_in : ImageLayout → List ℕ → Answer Tables
+table_in layout bytes = do
   image ← opened layout bytes
-  checked_within image
+  table_of image

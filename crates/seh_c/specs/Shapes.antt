@@ -1,22 +1,29 @@
 -- What crosses to C, and what it stands for.
-use Rattle.std.specs.Prelude.{ℕ, ◌%◌, ◌^◌, length, Bool, true, false, is_some, Option, Some, None, [], ◌∷◌, slice_index}
+use Rattle.std.specs.Prelude.{ℕ, ◌==◌, not, ◌%◌, ◌^◌, length, Bool, true, false, is_some, Option, Some, None, [], ◌∷◌, slice_index}
 use Rattle.x64_machine.specs.declared.context.Context.{Context}
-use Rattle.virtual_unwind.specs.declared.frame.Caller.{Caller}
+use Rattle.eh_index.specs.declared.lookup.Index.{Index}
 use Rattle.eh_tables.specs.Tables.{Entry}
 use Rattle.seh_c.specs.declared.c_types.SehContext.{SehContext}
 use Rattle.seh_c.specs.declared.c_types.SehFunction.{SehFunction}
-use Rattle.seh_c.specs.declared.c_types.SehImage.{SehImage}
+use Rattle.seh_c.specs.declared.c_types.SehView.{SehView}
 use Rattle.seh_c.specs.declared.c_types.SehScope.{SehScope}
 use Rattle.eh_tables.specs.declared.scope.ScopeRecord.{ScopeRecord}
 use Rattle.pe_image.specs.declared.image_layout.ImageLayout.{ImageLayout}
 use Rattle.pe_image.specs.declared.image_layout.ImageLayout.TheVariants.{File, Mapped}
-use Rattle.pe_image.specs.Image.{Image}
 use Rattle.seh_c.specs.declared.c_types.SehFrame.{SehFrame}
+use Rattle.seh_c.specs.declared.unwinding.Step.{Step}
 
 -- whether a loader mapped the image
 abbrev pub layout_of : Bool → ImageLayout
 layout_of true = Mapped
 layout_of false = File
+
+-- of the bytes of a view
+abbrev pub layout : SehView → ImageLayout
+layout v = layout_of (not (v.mapped == 0))
+
+abbrev pub index_of : SehView → Index
+index_of v = record { first = v.index; shift = v.shift }
 
 abbrev pub machine_context : SehContext → Context
 machine_context c =
@@ -44,14 +51,17 @@ abbrev pub or_zero : Option ℕ → ℕ
 or_zero None = 0
 or_zero (Some n) = n
 
-abbrev pub c_frame : Caller → SehFrame
-c_frame f =
+abbrev pub c_frame : ℕ → Step → SehFrame
+c_frame index s =
     record {
-      caller = c_context f.context;
-      frame = f.frame;
-      handler = or_zero f.handler;
-      has_handler = is_some f.handler;
-      in_body = f.in_body;
+      caller = c_context s.caller.context;
+      establisher = s.caller.frame;
+      module_index = index;
+      begin = s.begin;
+      end = s.end;
+      handler = or_zero s.caller.handler;
+      has_handler = is_some s.caller.handler;
+      in_body = s.caller.in_body;
     }
 
 abbrev pub c_function : Entry → SehFunction
@@ -67,15 +77,6 @@ c_function e =
       frame_offset = e.info.frame_offset;
       flags = e.info.flags;
       has_handler = is_some e.info.handler;
-    }
-
-abbrev pub c_image : Image → ℕ → SehImage
-c_image image functions =
-    record {
-      base = image.base;
-      size = image.size;
-      entry_point = image.entry;
-      functions = functions;
     }
 
 abbrev pub c_scope : ScopeRecord → SehScope

@@ -9,7 +9,7 @@ use Rattle.virtual_unwind.specs.declared.refusal.UnwindErr.TheVariants.{Unreadab
 use Rattle.seh_c.specs.declared.c_types.SehStatus.{SehStatus}
 use Rattle.seh_c.specs.declared.refusal.Refusal.{Refusal}
 use Rattle.seh_c.specs.declared.refusal.Refusal.TheVariants.{Range, NoMemory, Image, Table, Unwinding}
-use Rattle.seh_c.specs.declared.codes.TheConstants.{OK, RANGE, NO_MEMORY, MORE, NO_FUNCTION, IMAGE_TRUNCATED, IMAGE_NOT_PE, IMAGE_MACHINE, IMAGE_MAGIC, IMAGE_LAYOUT, IMAGE_IMPORT, TABLE_TRUNCATED, TABLE_MISALIGNED, TABLE_EMPTY_RANGE, TABLE_UNSORTED, TABLE_VERSION, TABLE_FLAGS, TABLE_OPERATION, TABLE_CODE_ORDER, TABLE_CHAIN, TABLE_SCOPE, UNREADABLE, BACKWARD}
+use Rattle.seh_c.specs.declared.codes.TheConstants.{OK, BAD_RANGES, NO_MEMORY, MORE, NO_FUNCTION, IMAGE_TRUNCATED, IMAGE_NOT_PE, IMAGE_MACHINE, IMAGE_MAGIC, IMAGE_LAYOUT, IMAGE_IMPORT, TABLE_TRUNCATED, TABLE_MISALIGNED, TABLE_EMPTY_RANGE, TABLE_UNSORTED, TABLE_VERSION, TABLE_FLAGS, TABLE_OPERATION, TABLE_CODE_ORDER, TABLE_CHAIN, TABLE_SCOPE, UNREADABLE, BACKWARD}
 
 abbrev pub status : ℕ → ℕ → ℕ → SehStatus
 status code at more = record { code = code; at = at; more = more }
@@ -51,7 +51,7 @@ unwind_status (Unreadable address) = status UNREADABLE address 0
 unwind_status (Backward rsp) = status BACKWARD rsp 0
 
 abbrev pub refusal_status : Refusal → SehStatus
-refusal_status (Range index) = status RANGE index 0
+refusal_status (Range index) = status BAD_RANGES index 0
 refusal_status NoMemory = status NO_MEMORY 0 0
 refusal_status (Image e) = image_status e
 refusal_status (Table e) = table_status e

@@ -3,7 +3,6 @@ use Rattle.std.specs.Prelude.{◌≡◌, ℕ, zero, suc, ◌+◌, Bool, true, fa
 use Rattle.seh_num.specs.Answers.{◌>>=◌}
 use Rattle.flat_memory.specs.Memory.{Memory}
 use Rattle.x64_machine.specs.declared.context.Context.{Context}
-use Rattle.virtual_unwind.specs.declared.frame.Caller.{Caller}
 use Rattle.virtual_unwind.specs.CallerOf.{distance}
 use Rattle.pe_image.specs.declared.image_layout.ImageLayout.{ImageLayout}
 use Rattle.pe_image.specs.Image.{Image}
@@ -14,7 +13,8 @@ use Rattle.seh_c.specs.declared.refusal.Refusal.TheVariants as refusals
 use Rattle.seh_c.specs.declared.walking.Walk.{Walk}
 use Rattle.seh_c.specs.Shapes.{c_frame}
 use Rattle.seh_c.specs.declared.c_types.SehRange.{SehRange}
-use Rattle.seh_c.specs.Callers.{caller_in}
+use Rattle.seh_c.specs.declared.unwinding.Step.{Step}
+use Rattle.seh_c.specs.Callers.{step_in}
 use Rattle.seh_c.specs.Openings.{Answer, opened, table_of}
 use Rattle.seh_c.specs.Ranges.{ranges_checked}
 use Rattle.seh_c.specs.Snapshot.{snapshot}
@@ -42,8 +42,8 @@ ended fs k s = record { frames = fs; count = k; status = s }
 
 -- the k-th frame, and the others
 abbrev pub with_frame : (Context → List SehFrame → Walked) → List SehFrame → ℕ
-    → Answer Caller → Walked
-with_frame others fs k (Ok f) = others f.context (slice_set fs k (c_frame f))
+    → Answer Step → Walked
+with_frame others fs k (Ok f) = others f.caller.context (slice_set fs k (c_frame 0 f))
 with_frame others fs k (Err e) = ended fs k (refusal_status e)
 
 abbrev pub if_inside : Walked → List SehFrame → ℕ → Bool → Walked
@@ -54,7 +54,7 @@ if_inside others fs k false = ended fs k ok
 unfoldable pub walk_from : Tables → ℕ → Memory → ℕ → ℕ → ℕ → Context → List SehFrame → Walked
 walk_from t base m size zero k c fs = ended fs k (end (is_inside base size c))
 walk_from t base m size (suc n) k c fs =
-    if_inside (with_frame (walk_from t base m size n (k + 1)) fs k (caller_in t base m c)) fs k
+    if_inside (with_frame (walk_from t base m size n (k + 1)) fs k (step_in t base m c)) fs k
     (is_inside base size c)
 
 -- as many as the array has room for

@@ -2,11 +2,38 @@
 
 ghost use Rattle.std.specs.Prelude.{◌≡◌};
 ghost use Rattle.seh_c.specs.Shapes as spec;
+ghost use Rattle.seh_c.specs.Shapes.{layout};
 
+use crate::unwinding::Step;
+use eh_index::Index;
 use eh_tables::{Entry, ScopeRecord};
 use pe_image::ImageLayout;
-use virtual_unwind::frame::Caller;
 use x64_machine::context::Context;
+
+/// An image that was opened, and where it lies in a process: plain data, which the caller owns. But
+/// for its two slices it is trusted for nothing.
+#[repr(C)]
+#[derive(Clone, Copy)]
+pub struct SehView<'a> {
+    /// The bytes of the image.
+    pub bytes: &'a [u8],
+    /// The index of its function table.
+    pub index: &'a [u32],
+    /// Where it lies in the process.
+    pub base: u64,
+    /// Where its headers say that it is to lie.
+    pub preferred_base: u64,
+    /// How many bytes it takes in memory.
+    pub size: u64,
+    /// The entry point, relative to the base.
+    pub entry_point: u64,
+    /// How many entries its function table has.
+    pub functions: u64,
+    /// How many low bits of an address the index leaves out.
+    pub shift: u32,
+    /// Not 0: the bytes are memory into which a loader mapped it; else its file.
+    pub mapped: u32,
+}
 
 /// Bytes of memory from an address on.
 #[repr(C)]
@@ -41,7 +68,13 @@ pub struct SehFrame {
     /// The caller's registers, after the return.
     pub caller: SehContext,
     /// The establisher frame.
-    pub frame: u64,
+    pub establisher: u64,
+    /// Which of the modules has the code.
+    pub module_index: u64,
+    /// The code of the entry that covers RIP, from `begin` to before `end`, relative to the image
+    /// base; both are 0 where none does.
+    pub begin: u32,
+    pub end: u32,
     /// The address of the handler, relative to the image base.
     pub handler: u32,
     /// Whether there is one, which may then be asked.
@@ -82,20 +115,6 @@ pub struct SehScope {
     pub jump_target: u32,
 }
 
-/// An image, by its headers.
-#[repr(C)]
-#[derive(Clone, Copy, Debug, PartialEq, Eq)]
-pub struct SehImage {
-    /// The preferred base.
-    pub base: u64,
-    /// How many bytes it takes in memory.
-    pub size: u64,
-    /// The entry point, relative to the base.
-    pub entry_point: u64,
-    /// How many entries its function table has.
-    pub functions: u64,
-}
-
 /// What is said of the code of an image.
 #[repr(C)]
 #[derive(Clone, Copy, Debug, PartialEq, Eq)]
@@ -126,6 +145,23 @@ pub fn layout_of(mapped: bool) -> ImageLayout
         ImageLayout::Mapped
     } else {
         ImageLayout::File
+    }
+}
+
+/// The layout of the bytes of a view.
+pub fn layout_of_view(view: &SehView<'_>) -> ImageLayout
+    ensures { result ≡ layout view.now }
+{
+    layout_of(view.mapped != 0)
+}
+
+/// The index of a view.
+pub fn index_of<'a>(view: &SehView<'a>) -> Index<'a>
+    ensures { result ≡ spec.index_of view.now }
+{
+    Index {
+        first: view.index,
+        shift: view.shift,
     }
 }
 
@@ -166,12 +202,17 @@ fn c_context(context: &Context) -> SehContext
     }
 }
 
-pub fn c_frame(caller: &Caller) -> SehFrame
-    ensures { result ≡ spec.c_frame caller.now }
+/// A frame of the code of a module.
+pub fn c_frame(module_index: u64, step: &Step) -> SehFrame
+    ensures { result ≡ spec.c_frame module_index step.now }
 {
+    let caller = &step.caller;
     SehFrame {
         caller: c_context(&caller.context),
-        frame: caller.frame,
+        establisher: caller.frame,
+        module_index,
+        begin: step.begin,
+        end: step.end,
         handler: caller.handler.unwrap_or(0),
         has_handler: caller.handler.is_some(),
         in_body: caller.in_body,

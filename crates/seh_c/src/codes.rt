@@ -4,7 +4,7 @@
 pub const OK: u32 = 0;
 
 /// A range of memory isn't in order, or passes the end of the addresses.
-pub const RANGE: u32 = 1;
+pub const BAD_RANGES: u32 = 1;
 
 /// No memory was left.
 pub const NO_MEMORY: u32 = 2;

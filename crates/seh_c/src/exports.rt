@@ -1,54 +1,66 @@
-//! What C calls. `include/seh.h` says what a caller owes to each call. The bytes of an image are
-//! those of its file, or where `mapped` those of the memory into which a loader mapped it.
+//! What C calls. `include/seh.h` says what a caller owes to each call.
 
 ghost use Rattle.std.specs.Prelude.{◌≡◌};
-ghost use Rattle.seh_c.specs.Answers.{Answers, WalkAnswers, FunctionAnswers, ImageAnswers};
+ghost use Rattle.seh_c.specs.Answers.{Answers, WalkAnswers, FunctionAnswers};
 ghost use Rattle.seh_c.specs.Callers.{unwound, found_in};
-ghost use Rattle.seh_c.specs.Openings.{checked};
 ghost use Rattle.seh_c.specs.Scopes.{scopes_in, ScopeAnswers};
 ghost use Rattle.seh_c.specs.Shapes as spec;
-ghost use Rattle.seh_c.specs.Validations.{VerdictAnswers};
+ghost use Rattle.seh_c.specs.Statuses.{ok};
+ghost use Rattle.seh_c.specs.Views as views;
 ghost use Rattle.seh_c.specs.Walks.{walked_in};
 
 use crate::c_types::{
-    SehContext, SehFrame, SehFunction, SehImage, SehRange, SehScope, SehStatus, SehVerdict,
-    c_frame, layout_of, machine_context,
+    SehContext, SehFrame, SehFunction, SehRange, SehScope, SehStatus, SehView, c_frame,
+    machine_context,
 };
 use crate::finding::find;
-use crate::opening::check;
+use crate::opening::open_view;
 use crate::refusal::{NO_FUNCTION, OK, status_of};
 use crate::scopes::find_scopes;
 use crate::unwinding::unwind;
-use crate::validating::{c_verdict, validate};
 use crate::walking::walk_image;
 use std::alloc::Global;
 
-/// The caller of a frame, by the function table of an image that lies at `base`.
+/// Opens an image that lies at `base`: its headers, its sections, and the order of its function
+/// table, of which it fills an index. The bytes are those of its file, or where `mapped` those of the
+/// memory into which a loader mapped it.
+#[unsafe(no_mangle)]
+pub extern "C" fn seh_open<'a>(
+    alloc: Global,
+    bytes: &'a [u8],
+    mapped: bool,
+    base: u64,
+    view: &mut SehView<'a>,
+    index: &'a mut [u32],
+) -> SehStatus
+    ensures { views.OpenAnswers mapped bytes.now base view.old view.new result }
+{
+    match open_view(alloc, mapped, bytes, base, index) {
+        Ok(found) => {
+            *view = found;
+            OK
+        }
+        Err(refusal) => status_of(refusal),
+    }
+}
+
+/// The caller of a frame, by the function table of an image.
 #[unsafe(no_mangle)]
 pub extern "C" fn seh_unwind(
     alloc: Global,
-    bytes: &[u8],
-    mapped: bool,
-    base: u64,
+    view: &SehView<'_>,
     ranges: &[SehRange<'_>],
     context: &SehContext,
     frame: &mut SehFrame,
 ) -> SehStatus
-    ensures { Answers
-        (unwound (spec.layout_of mapped) bytes.now base ranges.now
+    ensures { views.IsViewOf view.now → Answers
+        (unwound (spec.layout view.now) view.now.bytes.now view.now.base ranges.now
         (spec.machine_context context.now))
         frame.old frame.new result }
 {
-    match unwind(
-        alloc,
-        layout_of(mapped),
-        bytes,
-        base,
-        ranges,
-        &machine_context(context),
-    ) {
-        Ok(caller) => {
-            *frame = c_frame(&caller);
+    match unwind(alloc, view, ranges, &machine_context(context)) {
+        Ok(step) => {
+            *frame = c_frame(0, &step);
             OK
         }
         Err(refusal) => status_of(refusal),
@@ -59,28 +71,18 @@ pub extern "C" fn seh_unwind(
 #[unsafe(no_mangle)]
 pub extern "C" fn seh_walk(
     alloc: Global,
-    bytes: &[u8],
-    mapped: bool,
-    base: u64,
+    view: &SehView<'_>,
     ranges: &[SehRange<'_>],
     context: &SehContext,
     frames: &mut [SehFrame],
     count: &mut u64,
 ) -> SehStatus
-    ensures { WalkAnswers
-        (walked_in (spec.layout_of mapped) bytes.now base ranges.now
+    ensures { views.IsViewOf view.now → WalkAnswers
+        (walked_in (spec.layout view.now) view.now.bytes.now view.now.base ranges.now
         (spec.machine_context context.now) frames.old)
         frames.old frames.new count.new result }
 {
-    match walk_image(
-        alloc,
-        layout_of(mapped),
-        bytes,
-        base,
-        ranges,
-        &machine_context(context),
-        frames,
-    ) {
+    match walk_image(alloc, view, ranges, &machine_context(context), frames) {
         Ok(walk) => {
             *count = walk.count;
             walk.status
@@ -93,18 +95,19 @@ pub extern "C" fn seh_walk(
 }
 
 /// The entry of the function table whose range covers an address, relative to the image base.
+#[tactic(auto, using(crate::proofs::Coded::refusal_is_not_ok))]
 #[unsafe(no_mangle)]
 pub extern "C" fn seh_find_function(
     alloc: Global,
-    bytes: &[u8],
-    mapped: bool,
+    view: &SehView<'_>,
     rva: u32,
     function: &mut SehFunction,
 ) -> SehStatus
-    ensures { FunctionAnswers (found_in (spec.layout_of mapped) bytes.now rva) function.old
-        function.new result }
+    ensures row { result ≡ ok → views.IsFunctionOf view.now rva function.new }
+    ensures exact { views.IsViewOf view.now → FunctionAnswers
+        (found_in (spec.layout view.now) view.now.bytes.now rva) function.old function.new result }
 {
-    match find(alloc, layout_of(mapped), bytes, rva) {
+    match find(alloc, view, rva) {
         Ok(Some(found)) => {
             *function = found;
             OK
@@ -114,39 +117,19 @@ pub extern "C" fn seh_find_function(
     }
 }
 
-/// What an image is, by its headers, and how many entries its function table has.
-#[unsafe(no_mangle)]
-pub extern "C" fn seh_check(
-    alloc: Global,
-    bytes: &[u8],
-    mapped: bool,
-    image: &mut SehImage,
-) -> SehStatus
-    ensures { ImageAnswers (checked (spec.layout_of mapped) bytes.now) image.old image.new result }
-{
-    match check(alloc, layout_of(mapped), bytes) {
-        Ok(found) => {
-            *image = found;
-            OK
-        }
-        Err(refusal) => status_of(refusal),
-    }
-}
-
 /// The scope records that hold an address, innermost first, as far as `scopes` has room.
 #[unsafe(no_mangle)]
 pub extern "C" fn seh_scopes(
     alloc: Global,
-    bytes: &[u8],
-    mapped: bool,
+    view: &SehView<'_>,
     rva: u32,
     scopes: &mut [SehScope],
     count: &mut u64,
 ) -> SehStatus
-    ensures { ScopeAnswers (scopes_in (spec.layout_of mapped) bytes.now rva scopes.old) scopes.old
-        scopes.new count.new result }
+    ensures { ScopeAnswers (scopes_in (spec.layout view.now) view.now.bytes.now rva scopes.old)
+        scopes.old scopes.new count.new result }
 {
-    match find_scopes(alloc, layout_of(mapped), bytes, rva, scopes) {
+    match find_scopes(alloc, view, rva, scopes) {
         Ok(filled) => {
             *count = filled.count;
             filled.status
@@ -155,28 +138,5 @@ pub extern "C" fn seh_scopes(
             *count = 0;
             status_of(refusal)
         }
-    }
-}
-
-/// Whether the code of an image keeps its unwind information. `probe` has the bytes of the stack
-/// probe, `__chkstk`.
-#[tactic(auto, using(crate::proofs::Validated::gives_verdict, crate::proofs::Validated::gives_none))]
-#[unsafe(no_mangle)]
-pub extern "C" fn seh_validate(
-    alloc: Global,
-    bytes: &[u8],
-    mapped: bool,
-    probe: &[u8],
-    verdict: &mut SehVerdict,
-) -> SehStatus
-    ensures { VerdictAnswers (spec.layout_of mapped) bytes.now probe.now verdict.old verdict.new
-        result }
-{
-    match validate(alloc, layout_of(mapped), bytes, probe) {
-        Ok(found) => {
-            *verdict = c_verdict(found);
-            OK
-        }
-        Err(refusal) => status_of(refusal),
     }
 }

@@ -1,8 +1,10 @@
-//! The unwinder for programs that aren't Rattle: C functions over the bytes of an image, ranges of
-//! memory, and registers. `include/seh.h` declares them.
+//! The unwinder for programs that aren't Rattle: C functions over views of images, ranges of memory,
+//! and registers. `include/seh.h` declares them.
 //!
-//! Proved: each answer is the definition's (`specs/Callers.antt`, `specs/Walks.antt`), or that
-//! memory is wanting. Begin with `specs/Callers.antt`.
+//! Proved: an opening makes a view of the image that the bytes are (`specs/Views.antt`). By such a
+//! view each answer is the definition's, which opens the bytes anew (`specs/Callers.antt`,
+//! `specs/Walks.antt`), or that memory is wanting. By any view a call is safe, and an entry that it
+//! finds is one of the table, and covers the address. Begin with `specs/Callers.antt`.
 #![tactic(auto)]
 
 mod c_types;
@@ -15,5 +17,4 @@ mod refusal;
 mod scopes;
 mod snapshot;
 mod unwinding;
-mod validating;
 mod walking;

@@ -104,7 +104,7 @@ pub fn status_of(refusal: Refusal) -> SehStatus
     ensures { result ≡ spec.refusal_status refusal }
 {
     match refusal {
-        Refusal::Range { index } => status(codes::RANGE, index, 0),
+        Refusal::Range { index } => status(codes::BAD_RANGES, index, 0),
         Refusal::NoMemory => NO_MEMORY,
         Refusal::Image(e) => image_status(e),
         Refusal::Table(e) => table_status(e),

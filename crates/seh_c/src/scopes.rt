@@ -2,13 +2,14 @@
 
 ghost use Rattle.std.specs.Prelude.{◌≡◌};
 ghost use Rattle.seh_c.specs.Scopes as spec;
+ghost use Rattle.seh_c.specs.Shapes.{layout};
 
-use crate::c_types::{SehScope, SehStatus, c_scope};
+use crate::c_types::{SehScope, SehStatus, SehView, c_scope, layout_of_view};
 use crate::opening::{open_with_imports, table_of};
 use crate::refusal::{MORE, NO_FUNCTION, OK, Refusal};
-use crate::unwinding::entry_at;
+use crate::unwinding::checked_entry_at;
 use eh_tables::{ScopeRecord, Scopes};
-use pe_image::{ImageLayout, ImageView};
+use pe_image::ImageView;
 use std::alloc::Global;
 
 /// How many scopes were written, and why no more.
@@ -59,7 +60,7 @@ fn scopes_within(
         Ok(tables) => tables,
         Err(e) => return Err(e),
     };
-    match entry_at(&tables, rva as u64) {
+    match checked_entry_at(&tables, rva as u64) {
         Ok(Some(entry)) => Ok(fill(entry.scopes(), rva, scopes)),
         Ok(None) => Ok(Filled {
             count: 0,
@@ -73,15 +74,14 @@ fn scopes_within(
 #[tactic(auto, using(crate::proofs::Opened::gives_no_scopes))]
 pub fn find_scopes(
     alloc: Global,
-    layout: ImageLayout,
-    bytes: &[u8],
+    view: &SehView<'_>,
     rva: u32,
     scopes: &mut [SehScope],
 ) -> Result<Filled, Refusal>
     ensures { spec.GivesScopes scopes.old scopes.new result
-        (spec.scopes_in layout bytes.now rva scopes.old) }
+        (spec.scopes_in (layout view.now) view.now.bytes.now rva scopes.old) }
 {
-    match open_with_imports(alloc, layout, bytes) {
+    match open_with_imports(alloc, layout_of_view(view), view.bytes) {
         Ok(image) => scopes_within(&image, rva, scopes),
         Err(e) => Err(e),
     }

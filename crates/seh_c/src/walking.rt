@@ -1,18 +1,23 @@
 //! A walk through the frames whose code lies in one image.
 
 ghost use Rattle.std.specs.Prelude.{◌≡◌};
-ghost use Rattle.eh_tables.specs.Covering.{RangesAscend};
+ghost use Rattle.eh_index.specs.Ordered.{IsOrdered};
 ghost use Rattle.seh_c.specs.Ranges.{AreInOrder};
+ghost use Rattle.seh_c.specs.Shapes.{layout};
+ghost use Rattle.seh_c.specs.Views as views;
 ghost use Rattle.seh_c.specs.Walks as spec;
 
-use crate::c_types::{SehFrame, SehRange, SehStatus, c_frame};
-use crate::opening::{open, table_of};
+use crate::c_types::{
+    SehFrame, SehRange, SehStatus, SehView, c_frame, index_of, layout_of_view,
+};
+use crate::opening::{open, unchecked_table_of};
 use crate::ranges::check_ranges;
 use crate::refusal::{MORE, OK, Refusal, status_of};
 use crate::snapshot::Snapshot;
-use crate::unwinding::caller;
+use crate::unwinding::next_step;
+use eh_index::Index;
 use eh_tables::Tables;
-use pe_image::{ImageLayout, ImageView};
+use pe_image::ImageView;
 use std::alloc::Global;
 use x64_machine::context::Context;
 use x64_memory::space::ReadSpace;
@@ -39,15 +44,15 @@ fn end(is_more: bool) -> SehStatus
 /// Writes the frames from a context on, as far as RIP lies in the image and there is room.
 fn walk_frames<S: ReadSpace>(
     tables: &Tables<'_, '_>,
+    index: &Index<'_>,
     base: u64,
     size: u64,
     space: &S,
     context: &Context,
     frames: &mut [SehFrame],
 ) -> Walk
-    requires { RangesAscend tables.now.ranges }
-    ensures { spec.walked_of frames.new result ≡ spec.walk tables.now base (S.memory space.now) size
-        context.now frames.old }
+    ensures { IsOrdered tables.now.ranges index.now → spec.walked_of frames.new result
+        ≡ spec.walk tables.now base (S.memory space.now) size context.now frames.old }
 {
     let slots = frames.len();
     let mut here = *context;
@@ -58,10 +63,10 @@ fn walk_frames<S: ReadSpace>(
                 status: OK,
             };
         }
-        match caller(tables, base, space, &here) {
+        match next_step(tables, index, base, space, &here) {
             Ok(found) => {
-                frames[k] = c_frame(&found);
-                here = found.context;
+                frames[k] = c_frame(0, &found);
+                here = found.caller.context;
             }
             Err(e) => {
                 return Walk {
@@ -79,42 +84,50 @@ fn walk_frames<S: ReadSpace>(
 
 fn walk_within(
     image: &ImageView<'_>,
-    base: u64,
+    view: &SehView<'_>,
     ranges: &[SehRange<'_>],
     context: &Context,
     frames: &mut [SehFrame],
 ) -> Result<Walk, Refusal>
     requires { AreInOrder ranges.now }
-    ensures { spec.GivesWalk frames.old frames.new result
-        (spec.walk_within image.now base ranges.now context.now frames.old) }
+    ensures { views.IsKnown view.now image.now → spec.GivesWalk frames.old frames.new result
+        (spec.walk_within image.now view.now.base ranges.now context.now frames.old) }
 {
-    let tables = match table_of(image) {
+    let tables = match unchecked_table_of(image) {
         Ok(tables) => tables,
         Err(e) => return Err(e),
     };
-    let space = Snapshot::new(image, base, ranges);
-    Ok(walk_frames(&tables, base, image.size(), &space, context, frames))
+    let space = Snapshot::new(image, view.base, ranges);
+    let index = index_of(view);
+    Ok(walk_frames(
+        &tables,
+        &index,
+        view.base,
+        image.size(),
+        &space,
+        context,
+        frames,
+    ))
 }
 
 /// A walk.
-#[tactic(auto, using(crate::proofs::Opened::gives_no_walk))]
+#[tactic(auto, using(crate::proofs::Opened::gives_no_walk, crate::proofs::Known::view_known))]
 pub fn walk_image(
     alloc: Global,
-    layout: ImageLayout,
-    bytes: &[u8],
-    base: u64,
+    view: &SehView<'_>,
     ranges: &[SehRange<'_>],
     context: &Context,
     frames: &mut [SehFrame],
 ) -> Result<Walk, Refusal>
-    ensures { spec.GivesWalk frames.old frames.new result
-        (spec.walked_in layout bytes.now base ranges.now context.now frames.old) }
+    ensures { views.IsViewOf view.now → spec.GivesWalk frames.old frames.new result
+        (spec.walked_in (layout view.now) view.now.bytes.now view.now.base ranges.now context.now
+        frames.old) }
 {
     if let Err(e) = check_ranges(ranges) {
         return Err(e);
     }
-    match open(alloc, layout, bytes) {
-        Ok(image) => walk_within(&image, base, ranges, context, frames),
+    match open(alloc, layout_of_view(view), view.bytes) {
+        Ok(image) => walk_within(&image, view, ranges, context, frames),
         Err(e) => Err(e),
     }
 }

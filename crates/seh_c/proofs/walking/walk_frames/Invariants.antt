@@ -1,4 +1,5 @@
 use Rattle.std.proofs.Common.{◌≡◌, ◌-◌, length}
+use Rattle.eh_index.specs.Ordered.{IsOrdered}
 use Rattle.seh_c.specs.Walks.{walk_from, walk}
 use Rattle.seh_c.proofs.walking.walk_frames.Given as goal
 
@@ -8,6 +9,7 @@ invariant-loop-k g l =
     let t = l.tables in
     record {
       room : length l.frames ≡ length l.fn.frames;
-      rest : walk_from t l.base m l.size (length l.fn.frames - l.k) l.k l.here l.frames
+      rest : IsOrdered t.ranges l.index
+          → walk_from t l.base m l.size (length l.fn.frames - l.k) l.k l.here l.frames
           ≡ walk t l.base m l.size l.context l.fn.frames;
     }
