@@ -21,9 +21,18 @@ with_wine() {
     timeout 120 "$wine" "$@"
 }
 
+# Where Wine's program is: Debian's package wine64 has it in a folder that isn't in the path.
+find_wine() {
+  local it
+  for it in wine64 wine /usr/lib/wine/wine64 /usr/lib/wine/wine; do
+    command -v "$it" && return
+  done
+  return 1
+}
+
 # Says which Wine it is, after a first run that makes its prefix.
 begin_wine() {
-  wine=$(command -v wine64 || command -v wine) || die "Wine isn't in the path (Debian: wine64)"
+  wine=$(find_wine) || die "Wine isn't in the path, nor in /usr/lib/wine (Debian: wine64)"
   with_wine cmd /c exit >/dev/null 2>&1 || die "Wine doesn't run"
   "$wine" --version 2>/dev/null
 }
@@ -31,7 +40,7 @@ begin_wine() {
 # The text of a file; those that are written for cl.exe go through a preprocessor.
 text() {
   case "$(basename "$1")" in
-    msvc_*) cpp -P -nostdinc -I "$top/examples" "$1" ;;
+    msvc_*) cpp -P -nostdinc -I "$top/examples" -I "$top/examples/headers" "$1" ;;
     *) cat "$1" ;;
   esac
 }

@@ -15,7 +15,7 @@ pub function_named : (text : List ℕ) (t : CType) (n : Identifier) (ps : List P
     → f'.names ≡ with_block f.names (with_name f.names.block (spelled text n)
     (UserFunction f.functions t (parameter_types ps)))
     → f'.bytes.items ≡ f.bytes.items → f'.functions ≡ f.functions + 1
-    → least_of f'.worst ≡ kept (least_of f.worst)
+    → least_of f'.faults ≡ kept (least_of f.faults)
     (unless_holds (not (is_taken f.names.block (spelled text n))) n.start Duplicate)
     → (d : File) → IsFile f d → IsFile f' (named text n
     (UserFunction d.functions t (parameter_types ps)) d.bytes (d.functions + 1) [] d)
@@ -29,7 +29,7 @@ function_named text t n ps f f' names bytes functions faults d h =
       around = ap (λ (k : SymbolTable). k.around) names ∙ h.around;
       bytes = bytes;
       functions = functions;
-      faults = kept_more None (least_of f.worst) (least_of f'.worst) d.faults duplicate h.faults
+      faults = kept_more None (least_of f.faults) (least_of f'.faults) d.faults duplicate h.faults
           faults ∙ ap (kept None) (sym (append-nil (d.faults ++ duplicate)));
     })
 

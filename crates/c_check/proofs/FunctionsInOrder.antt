@@ -11,7 +11,7 @@ use Rattle.c_check.proofs.Lemmas.{kept_append, kept_more}
 use Rattle.c_resolved.specs.Program as definitions
 use Rattle.c_resolved.specs.Layout.{layout_of, base_local, data_frame_of}
 use Rattle.c_resolved.specs.Placed.{place_statements}
-use Rattle.c_locals.specs.declared.environment.Walk.{Walk}
+use Rattle.c_locals.specs.declared.environment.FunctionState.{FunctionState}
 use Rattle.c_locals.specs.WalkResults.{Resolves}
 use Rattle.c_locals.specs.Views.{numbering}
 use Rattle.c_syntax.specs.declared.declaration.ExternalDeclaration.{ExternalDeclaration as ExternalDeclaration'}
@@ -36,35 +36,35 @@ placed_function name ps t counts done =
 -- what is made of a function's parts, with the walk over its body
 function_added : (before after : Progress) (text : List ℕ) (file : Scope) (t : CType)
     (n : Identifier) (ps : List Parameter) (body : Statements) (block : Scope)
-    (was names : SymbolTable) (walk walk' : Walk) (done : List checked.Statement)
+    (was names : SymbolTable) (state state' : FunctionState) (done : List checked.Statement)
     (made : Function')
-    → block ≡ with_parameters text ps [] 0 → walk.sizes.items ≡ sizes_of ps
-    → walk.variables.items ≡ variables_of ps
-    → walk.number ≡ before.number → least_of walk.worst
-    ≡ kept (least_of before.worst) (parameter_faults text ps [])
-    → Resolves was names walk walk' done (resolve_statements body (around text file t) block
-    (numbering walk))
-    → function made ≡ placed_function (spelled text n) ps t (numbering walk') done
-    → after.done.items ≡ before.done.items ++ made ∷ [] → after.number ≡ walk'.number
-    → after.worst ≡ walk'.worst
+    → block ≡ with_parameters text ps [] 0 → state.sizes.items ≡ sizes_of ps
+    → state.variables.items ≡ variables_of ps
+    → state.number ≡ before.number → least_of state.faults
+    ≡ kept (least_of before.faults) (parameter_faults text ps [])
+    → Resolves was names state state' done (resolve_statements body (around text file t) block
+    (numbering state))
+    → function made ≡ placed_function (spelled text n) ps t (numbering state') done
+    → after.done.items ≡ before.done.items ++ made ∷ [] → after.number ≡ state'.number
+    → after.faults ≡ state'.faults
     → AddsFunctions before after (function_of text file t n ps body before.number)
-function_added before after text file t n ps body block was names walk walk' done made is sizes
-    variables number parameters resolves is_made pushed next worst =
+function_added before after text file t n ps body block was names state state' done made is sizes
+    variables number parameters resolves is_made pushed next faults =
     let start : Numbering = record {
       sizes = sizes_of ps;
       variables = variables_of ps;
       number = before.number;
     } in
-    let begun : numbering walk ≡ start = λ i. record {
+    let begun : numbering state ≡ start = λ i. record {
       sizes = sizes i;
       variables = variables i;
       number = number i;
     } in
     let m = resolve_statements body (around text file t) (with_parameters text ps [] 0) start in
-    let r : Resolves was names walk walk' done m =
-    subst (λ b. Resolves was names walk walk' done
+    let r : Resolves was names state state' done m =
+    subst (λ b. Resolves was names state state' done
     (resolve_statements body (around text file t) b start)) is
-    (subst (λ k. Resolves was names walk walk' done
+    (subst (λ k. Resolves was names state state' done
     (resolve_statements body (around text file t) block k)) begun resolves) in
     let whole = placed_function (spelled text n) ps t m.counts m.done in
     let same : function made ≡ whole = is_made
@@ -73,31 +73,32 @@ function_added before after text file t n ps body block was names walk walk' don
       done = ap (map function) pushed ∙ map-append function before.done.items (made ∷ [])
           ∙ ap (λ f. map function before.done.items ++ f ∷ []) same;
       number = next ∙ ap (λ (k : Numbering). k.number) r.counts;
-      faults = kept_more (least_of before.worst) (least_of walk.worst) (least_of after.worst)
-          (parameter_faults text ps []) m.faults parameters (ap least_of worst ∙ r.faults);
+      faults = kept_more (least_of before.faults) (least_of state.faults) (least_of after.faults)
+          (parameter_faults text ps []) m.faults parameters (ap least_of faults ∙ r.faults);
     }
 
 -- the same where its parameters are the names of a block in the file's
 pub function_inside : (before after : Progress) (text : List ℕ) (start was names : SymbolTable)
-    (t : CType) (n : Identifier) (ps : List Parameter) (body : Statements) (walk walk' : Walk)
+    (t : CType) (n : Identifier) (ps : List Parameter) (body : Statements)
+    (state state' : FunctionState)
     (done : List checked.Statement) (made : Function')
     → was ≡ with_block (opened start) (with_parameters text ps [] 0)
-    → walk.sizes.items ≡ sizes_of ps → walk.variables.items ≡ variables_of ps
-    → walk.number ≡ before.number → least_of walk.worst
-    ≡ kept (least_of before.worst) (parameter_faults text ps [])
-    → Resolves was names walk walk' done (resolve_statements body
-    (around text (names_around was.around) t) was.block (numbering walk))
-    → function made ≡ placed_function (spelled text n) ps t (numbering walk') done
-    → after.done.items ≡ before.done.items ++ made ∷ [] → after.number ≡ walk'.number
-    → after.worst ≡ walk'.worst
+    → state.sizes.items ≡ sizes_of ps → state.variables.items ≡ variables_of ps
+    → state.number ≡ before.number → least_of state.faults
+    ≡ kept (least_of before.faults) (parameter_faults text ps [])
+    → Resolves was names state state' done (resolve_statements body
+    (around text (names_around was.around) t) was.block (numbering state))
+    → function made ≡ placed_function (spelled text n) ps t (numbering state') done
+    → after.done.items ≡ before.done.items ++ made ∷ [] → after.number ≡ state'.number
+    → after.faults ≡ state'.faults
     → AddsFunctions before after (function_of text (scopes_of start) t n ps body before.number)
-function_inside before after text start was names t n ps body walk walk' done made begins sizes
-    variables number parameters resolves is_made pushed next worst =
+function_inside before after text start was names t n ps body state state' done made begins sizes
+    variables number parameters resolves is_made pushed next faults =
     function_added before after text (scopes_of start) t n ps body (with_parameters text ps [] 0)
-    was names walk walk' done made refl sizes variables number parameters
-    (subst (λ (k : SymbolTable). Resolves was names walk walk' done (resolve_statements body
-    (around text (names_around k.around) t) k.block (numbering walk))) begins resolves) is_made
-    pushed next worst
+    was names state state' done made refl sizes variables number parameters
+    (subst (λ (k : SymbolTable). Resolves was names state state' done (resolve_statements body
+    (around text (names_around k.around) t) k.block (numbering state))) begins resolves) is_made
+    pushed next faults
 
 -- the names after a function are those before it
 pub ends_as_before : (t t1 t2 t3 t4 : SymbolTable) (b b' : Scope) → t1 ≡ opened t
@@ -137,7 +138,7 @@ pub record StillFunctions (text : List ℕ) (file : Scope) (list : List External
   pub done : map function p.done.items ++ (functions_of text file
       (map external_declaration (drop i list)) p.number).done
       ≡ (functions_of text file (map external_declaration list) 1).done
-  pub faults : kept (least_of p.worst) (functions_of text file
+  pub faults : kept (least_of p.faults) (functions_of text file
       (map external_declaration (drop i list)) p.number).faults
       ≡ kept first (functions_of text file (map external_declaration list) 1).faults
 
@@ -162,10 +163,10 @@ functions_on text file list i x first p p' lt is one h =
           ++ (functions_of text file (map external_declaration l) p.number).done) (sym next)
           ∙ h.done;
       faults =
-          ap (λ k. kept (least_of p'.worst) (functions_of text file rest k).faults) one.number
+          ap (λ k. kept (least_of p'.faults) (functions_of text file rest k).faults) one.number
           ∙ ap (λ w. kept w others.faults) one.faults
-          ∙ sym (kept_append (least_of p.worst) f.faults others.faults)
-          ∙ ap (kept (least_of p.worst)) (sym (faults_parts text file y rest p.number))
-          ∙ ap (λ l. kept (least_of p.worst) (functions_of text file (map external_declaration l)
+          ∙ sym (kept_append (least_of p.faults) f.faults others.faults)
+          ∙ ap (kept (least_of p.faults)) (sym (faults_parts text file y rest p.number))
+          ∙ ap (λ l. kept (least_of p.faults) (functions_of text file (map external_declaration l)
           p.number).faults) (sym next) ∙ h.faults;
     }

@@ -9,7 +9,7 @@ use Rattle.c_check.specs.Programs.{IsResolved}
 use Rattle.c_check.proofs.Lemmas.{kept_append}
 use Rattle.c_expressions.proofs.Order.{kept_least, nothing_kept}
 use Rattle.c_expressions.specs.declared.least.Broken.{Broken}
-use Rattle.c_expressions.specs.declared.least.Least.{Least}
+use Rattle.c_expressions.specs.declared.least.LeastFault.{LeastFault}
 use Rattle.c_locals.specs.declared.globals.File.{File as File'}
 
 -- the faults of `main` are found after the file's, and are before them
@@ -22,16 +22,16 @@ all_kept a b c main file functions p q r =
 -- what is resolved with the names that the code has is what is resolved with those of the
 -- definition
 pub program_resolved : (text : List ℕ) (xs : List ExternalDeclaration) (file : File')
-    (worst : Least) (main : ℕ) (made : Progress) (p : Resolved')
+    (faults : LeastFault) (main : ℕ) (made : Progress) (p : Resolved')
     → IsFile file (file_of text xs empty_file)
     → main ≡ (main_in xs (scopes_of file.names)).number
-    → least_of worst ≡ kept (least_of file.worst) (main_in xs (scopes_of file.names)).faults
+    → least_of faults ≡ kept (least_of file.faults) (main_in xs (scopes_of file.names)).faults
     → map function made.done.items ≡ (functions_of text (scopes_of file.names) xs 1).done
-    → least_of made.worst ≡ kept (least_of worst)
+    → least_of made.faults ≡ kept (least_of faults)
     (functions_of text (scopes_of file.names) xs 1).faults
-    → p ≡ record { functions = made.done; main = main; globals = file.bytes; worst = made.worst }
+    → p ≡ record { functions = made.done; main = main; globals = file.bytes; faults = made.faults }
     → IsResolved p (resolve text xs)
-program_resolved text xs file worst main made p is number main_faults done faults whole =
+program_resolved text xs file faults main made p is number main_faults done more_faults whole =
     let d = file_of text xs empty_file in
     let named : scopes_of file.names ≡ d.scope =
     ap (λ k. file.names.block ++ names_around k) is.around ∙ append-nil file.names.block
@@ -40,16 +40,16 @@ program_resolved text xs file worst main made p is number main_faults done fault
     ∙ ap (λ names. (main_in xs names).number) named in
     let functions : map function made.done.items ≡ (functions_of text d.scope xs 1).done = done
     ∙ ap (λ names. (functions_of text names xs 1).done) named in
-    let first : least_of worst ≡ kept (least_of file.worst)
+    let first : least_of faults ≡ kept (least_of file.faults)
     (main_in xs d.scope).faults = main_faults
-    ∙ ap (λ names. kept (least_of file.worst) (main_in xs names).faults) named in
-    let last : least_of made.worst ≡ kept (least_of worst)
-    (functions_of text d.scope xs 1).faults = faults
-    ∙ ap (λ names. kept (least_of worst) (functions_of text names xs 1).faults) named in
+    ∙ ap (λ names. kept (least_of file.faults) (main_in xs names).faults) named in
+    let last : least_of made.faults ≡ kept (least_of faults)
+    (functions_of text d.scope xs 1).faults = more_faults
+    ∙ ap (λ names. kept (least_of faults) (functions_of text names xs 1).faults) named in
     subst (λ q. IsResolved q (resolve text xs)) (sym whole)
     (record {
       program = λ i. record { functions = functions i; main = entry i; globals = is.bytes i };
-      faults = all_kept (least_of file.worst) (least_of worst) (least_of made.worst)
+      faults = all_kept (least_of file.faults) (least_of faults) (least_of made.faults)
           (main_in xs d.scope).faults d.faults
           (functions_of text d.scope xs 1).faults is.faults first
           last;
@@ -57,12 +57,12 @@ program_resolved text xs file worst main made p is number main_faults done fault
 
 -- ---- which it is
 
-pub nothing_broken : (text : List ℕ) (xs : List ExternalDeclaration) (w : Least)
+pub nothing_broken : (text : List ℕ) (xs : List ExternalDeclaration) (w : LeastFault)
     → least_of w ≡ kept None (resolve text xs).faults → w.found ≡ None → Accepted text xs
 nothing_broken text xs w p e = nothing_kept (resolve text xs).faults
     (sym p ∙ ap (option_map broken) e)
 
-pub least_broken : (text : List ℕ) (xs : List ExternalDeclaration) (w : Least) (b : Broken)
+pub least_broken : (text : List ℕ) (xs : List ExternalDeclaration) (w : LeastFault) (b : Broken)
     → least_of w ≡ kept None (resolve text xs).faults → w.found ≡ Some b
     → reported text xs ≡ Some (broken b)
 least_broken text xs w b p e = sym (kept_least (resolve text xs).faults) ∙ sym p

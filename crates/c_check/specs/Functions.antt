@@ -10,4 +10,4 @@ use Rattle.c_resolved.specs.Program.{DeclaredFunctions}
 pub record AddsFunctions (before after : Progress) (f : DeclaredFunctions) : Type 0 where
   pub done : map function after.done.items ≡ map function before.done.items ++ f.done
   pub number : after.number ≡ f.number
-  pub faults : least_of after.worst ≡ kept (least_of before.worst) f.faults
+  pub faults : least_of after.faults ≡ kept (least_of before.faults) f.faults

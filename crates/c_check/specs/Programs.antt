@@ -7,4 +7,4 @@ use Rattle.c_resolved.specs.Program.{Resolved}
 
 pub record IsResolved (p : Resolved') (r : Resolved) : Type 0 where
   pub program : program_of p.functions.items p.main p.globals.items ≡ r.program
-  pub faults : least_of p.worst ≡ kept None r.faults
+  pub faults : least_of p.faults ≡ kept None r.faults

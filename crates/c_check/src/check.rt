@@ -15,7 +15,7 @@ use crate::entry::main_of;
 use crate::functions::functions;
 use c_checked::checked::Checked;
 use c_checked::function::Function;
-use c_expressions::least::{Broken, Least};
+use c_expressions::least::{Broken, LeastFault};
 use c_syntax::declaration::ExternalDeclaration;
 use std::alloc::{AllocError, Global};
 
@@ -42,7 +42,7 @@ struct Resolved {
     functions: Vec<Function>,
     main: u64,
     globals: Vec<u8>,
-    worst: Least,
+    faults: LeastFault,
 }
 
 /// What a program is resolved to.
@@ -51,14 +51,14 @@ fn resolve(alloc: Global, text: &[u8], xs: &[ExternalDeclaration]) -> Result<Res
         IfOk result (λ p. IsResolved p (definitions.resolve text.now program)) }
 {
     let mut file = file(alloc, text, xs)?;
-    let mut worst = file.worst;
-    let main = main_of(&file.names, xs, &mut worst);
-    let made = functions(alloc, text, &mut file.names, worst, xs)?;
+    let mut faults = file.faults;
+    let main = main_of(&file.names, xs, &mut faults);
+    let made = functions(alloc, text, &mut file.names, faults, xs)?;
     Ok(Resolved {
         functions: made.done,
         main,
         globals: file.bytes,
-        worst: made.worst,
+        faults: made.faults,
     })
 }
 
@@ -87,7 +87,7 @@ pub fn check(alloc: Global, text: &[u8], xs: &[ExternalDeclaration]) -> Result<C
     ensures refused { IfErr result (λ e. IsRefusal e text.now (map external_declaration xs.now)) }
 {
     let program = resolve(alloc, text, xs)?;
-    match program.worst.found {
+    match program.faults.found {
         Some(least) => Err(CheckErr::Broken(least)),
         None => Ok(Checked {
             functions: program.functions,

@@ -6,7 +6,7 @@ ghost use Rattle.c_locals.specs.Files.{IsFile};
 ghost use Rattle.c_resolved.specs.Program as definitions;
 ghost use Rattle.c_syntax.specs.Program as syntax;
 
-use c_expressions::least::Least;
+use c_expressions::least::LeastFault;
 use c_expressions::scopes::Entity;
 use c_expressions::symbol_table::SymbolTable;
 use c_locals::globals::{File, globals, name};
@@ -67,7 +67,7 @@ fn empty<'a>(alloc: Global, text: &[u8]) -> File<'a>
         names: SymbolTable::new(alloc, text),
         bytes: Vec::new(alloc),
         functions: 0,
-        worst: Least { found: None },
+        faults: LeastFault { found: None },
     }
 }
 

@@ -9,7 +9,7 @@ ghost use Rattle.c_resolved.specs.Program as definitions;
 ghost use Rattle.c_resolved.specs.Scopes.{meaning_in};
 ghost use Rattle.c_syntax.specs.Program as syntax;
 
-use c_expressions::least::Least;
+use c_expressions::least::LeastFault;
 use c_expressions::scopes::{Entity, declared};
 use c_expressions::symbol_table::SymbolTable;
 use c_expressions::values::unless_holds;
@@ -62,11 +62,11 @@ fn meaning_of_main<'a>(names: &SymbolTable<'a>) -> Option<Entity<'a>>
 
 /// The number of `main`. There has to be a function of that name, which returns an `int` and takes
 /// nothing, or a `long long`.
-pub fn main_of(names: &SymbolTable<'_>, xs: &[ExternalDeclaration], worst: &mut Least) -> u64
+pub fn main_of(names: &SymbolTable<'_>, xs: &[ExternalDeclaration], faults: &mut LeastFault) -> u64
     ensures number { let program = map syntax.external_declaration xs.now in
         result ≡ (main_in program (scopes_of names.now)).number }
     ensures faults { let program = map syntax.external_declaration xs.now in
-        AddsFaults worst.old worst.new (main_in program (scopes_of names.now)).faults }
+        AddsFaults faults.old faults.new (main_in program (scopes_of names.now)).faults }
 {
     match meaning_of_main(names) {
         Some(
@@ -77,11 +77,11 @@ pub fn main_of(names: &SymbolTable<'_>, xs: &[ExternalDeclaration], worst: &mut 
             },
         ) => {
             let at = place_of_function(xs, number);
-            unless_holds(worst, is_main(returns, parameters), at, Fault::TypeClash);
+            unless_holds(faults, is_main(returns, parameters), at, Fault::TypeClash);
             number
         }
         _ => {
-            worst.add(0, Fault::NoMain);
+            faults.add(0, Fault::NoMain);
             0
         }
     }

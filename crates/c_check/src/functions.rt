@@ -11,10 +11,10 @@ ghost use Rattle.c_syntax.specs.Statement as trees;
 
 use crate::parameters;
 use c_checked::function::Function;
-use c_expressions::least::Least;
+use c_expressions::least::LeastFault;
 use c_expressions::scopes::spelled;
 use c_expressions::symbol_table::SymbolTable;
-use c_locals::environment::Walk;
+use c_locals::environment::FunctionState;
 use c_operations::operation::Size;
 use c_stacked::functions::place;
 use c_statements::statements;
@@ -33,7 +33,7 @@ pub struct Progress {
     /// program, from 1.
     pub number: u32,
     /// The least fault so far.
-    pub worst: Least,
+    pub faults: LeastFault,
 }
 
 /// The size of a result; none where the function returns nothing.
@@ -72,19 +72,19 @@ fn function<'t>(
         OnOk result (AddsFunctions progress.old progress.new f) }
 {
     names.open(alloc)?;
-    parameters::declare_all(text, names, &mut progress.worst, list)?;
-    let mut walk = Walk {
+    parameters::declare_all(text, names, &mut progress.faults, list)?;
+    let mut state = FunctionState {
         sizes: parameters::sizes_of(alloc, list)?,
         variables: parameters::variables_of(alloc, list)?,
         number: progress.number,
-        worst: progress.worst,
+        faults: progress.faults,
     };
-    let made = statements::body(alloc, text, returns, names, &mut walk, body)?;
+    let made = statements::body(alloc, text, returns, names, &mut state, body)?;
     names.close();
-    progress.number = walk.number;
-    progress.worst = walk.worst;
-    let locals = rest_of(alloc, &walk.sizes, list.len())?;
-    let placed = place(alloc, list.len(), locals, walk.variables, made)?;
+    progress.number = state.number;
+    progress.faults = state.faults;
+    let locals = rest_of(alloc, &state.sizes, list.len())?;
+    let placed = place(alloc, list.len(), locals, state.variables, made)?;
     progress.done.push(Function {
         name: Vec::from_slice(alloc, spelled(text, name))?,
         parameters: parameters::sizes_of(alloc, list)?,
@@ -129,7 +129,7 @@ pub fn functions<'t>(
     alloc: Global,
     text: &'t [u8],
     names: &mut SymbolTable<'t>,
-    worst: Least,
+    faults: LeastFault,
     xs: &[ExternalDeclaration],
 ) -> Result<Progress, AllocError>
     ensures names { OnOk result (names.new ≡ names.old) }
@@ -138,12 +138,12 @@ pub fn functions<'t>(
         IfOk result (λ p. map function p.done.items ≡ f.done) }
     ensures faults { let program = map syntax.external_declaration xs.now in
         let f = definitions.functions_of text.now (scopes_of names.old) program 1 in
-        IfOk result (λ p. AddsFaults worst p.worst f.faults) }
+        IfOk result (λ p. AddsFaults faults p.faults f.faults) }
 {
     let mut progress = Progress {
         done: Vec::new(alloc),
         number: 1,
-        worst,
+        faults,
     };
     for x in xs {
         one(alloc, text, names, &mut progress, x)?;

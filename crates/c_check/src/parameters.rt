@@ -10,7 +10,7 @@ ghost use Rattle.c_resolved.specs.Program as definitions;
 ghost use Rattle.c_resolved.specs.Scopes.{spelled};
 ghost use Rattle.c_resolved.specs.Statements.{with_name};
 
-use c_expressions::least::Least;
+use c_expressions::least::LeastFault;
 use c_expressions::scopes::{Entity, declare, is_taken, spelled};
 use c_expressions::symbol_table::SymbolTable;
 use c_expressions::values::unless_holds;
@@ -52,22 +52,22 @@ fn parameter<'t>(
     number: u64,
     p: Parameter,
     names: &mut SymbolTable<'t>,
-    worst: &mut Least,
+    faults: &mut LeastFault,
 ) -> Result<(), AllocError>
     ensures names { let block = names.old.block in
         let with_it = with_name block (spelled text.now p.name) (LocalVariable number p.«of») in
         OnOk result (names.new ≡ with_block names.old with_it) }
-    ensures faults { let faults = faults_of_parameter text.now p names.old.block in
-        OnOk result (AddsFaults worst.old worst.new faults) }
+    ensures faults { OnOk result (AddsFaults faults.old faults.new
+        (faults_of_parameter text.now p names.old.block)) }
 {
     let name = spelled(text, p.name);
     unless_holds(
-        worst,
+        faults,
         !is_taken(name, names),
         p.name.start,
         Fault::Duplicate,
     );
-    unless_holds(worst, is_scalar(p.of), p.name.start, Fault::TypeClash);
+    unless_holds(faults, is_scalar(p.of), p.name.start, Fault::TypeClash);
     declare(name, Entity::LocalVariable { number, of: p.of }, names)
 }
 
@@ -75,17 +75,17 @@ fn parameter<'t>(
 pub fn declare_all<'t>(
     text: &'t [u8],
     names: &mut SymbolTable<'t>,
-    worst: &mut Least,
+    faults: &mut LeastFault,
     list: &[Parameter],
 ) -> Result<(), AllocError>
     requires { names.old.block ≡ [] }
     ensures names { let block = definitions.with_parameters text.now list.now [] 0 in
         OnOk result (names.new ≡ with_block names.old block) }
-    ensures faults { let faults = definitions.parameter_faults text.now list.now [] in
-        OnOk result (AddsFaults worst.old worst.new faults) }
+    ensures faults { OnOk result (AddsFaults faults.old faults.new
+        (definitions.parameter_faults text.now list.now [])) }
 {
     for (i, p) in list.iter().enumerate() {
-        parameter(text, i as u64, *p, names, worst)?;
+        parameter(text, i as u64, *p, names, faults)?;
     }
     Ok(())
 }

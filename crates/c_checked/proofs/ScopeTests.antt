@@ -91,12 +91,3 @@ part_with a b x h y k = of (either (nat_eq y x) (a y) k)
     of : (nat_eq y x ≡ true) ⊎ (a y ≡ true) → with_local x b y ≡ true
     of (inl e) = or_left (nat_eq y x) (b y) e
     of (inr e) = or_right (nat_eq y x) (b y) (h y e)
-
-pub part_after : (a b : SeenNames) (d : Declared) → IsPart a b
-    → IsPart (after_declared a d) (after_declared b d)
-part_after a b d h y k = of d.stacked k
-  where
-    of : (v : Option StackedVariable) → with_declared v d.local a y ≡ true
-        → with_declared v d.local b y ≡ true
-    of None k = part_with a b d.local h y k
-    of (Some v) k = h y k

@@ -1,5 +1,7 @@
 -- Each local that a part of a program names is a parameter, or was declared before, in a block
 -- around the part.
+--
+-- The main definition: `IsScoped`.
 use Rattle.std.specs.Prelude.{◌≡◌, ℕ, Bool, true, false, ◌&&◌, ◌||◌, nat_eq, nat_lt, List, [], ◌∷◌, length, Option, Some, None}
 use Rattle.c_checked.specs.Expression as nodes
 use Rattle.c_checked.specs.Expression.{Expression, On, Node, Lvalue, Local, Global, Stacked, Indirection, Element, Arguments, Done, Next}
@@ -129,8 +131,8 @@ abbrev mutual
   statement_within seen Leave = true
   statement_within seen (TryExcept body filter block) =
       statements_within seen body && filter_within seen filter && statements_within seen block
-  statement_within seen (TryFinally body k last) =
-      statements_within seen body && statements_within seen last
+  statement_within seen (TryFinally body k finally_block) =
+      statements_within seen body && statements_within seen finally_block
 
   pub statements_within : SeenNames → Statements → Bool
   statements_within seen Empty = true
@@ -149,5 +151,6 @@ functions_within (f ∷ fs) = function_within f && functions_within fs
 abbrev pub is_scoped : Program → Bool
 is_scoped p = functions_within p.functions
 
+-- each local that a part names is a parameter, or was declared before, in a block around the part
 abbrev pub IsScoped : Program → Type 0
 IsScoped p = is_scoped p ≡ true

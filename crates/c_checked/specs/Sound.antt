@@ -1,6 +1,8 @@
 -- What holds of an accepted program beside its shape: numbers name what is there, each operand has
 -- the size that its operator takes, jumps and the names of exceptions are where they mean
 -- something, filters and `__finally` blocks are numbered in their order.
+--
+-- The main definition: `is_sound`.
 use Rattle.std.specs.Prelude.{◌≡◌, ℕ, ◌+◌, ◌-◌, ◌^◌, Bool, true, false, ◌&&◌, ◌||◌, nat_lt, nat_le}
 use Rattle.std.specs.Prelude.{nat_eq, if◌then◌else◌, List, [], ◌∷◌, ◌++◌, length, slice_get, Option}
 use Rattle.std.specs.Prelude.{Some, None}
@@ -378,7 +380,7 @@ abbrev mutual
       statements_sound (record i { body = true }) body && filter_sound i.scope filter &&
       statements_sound (record i { scope = record i.scope { code = true } }) block
   -- no jump out of a `__finally` block
-  statement_sound i (TryFinally body k last) =
+  statement_sound i (TryFinally body k finally_block) =
       statements_sound (record i { body = true }) body
       && statements_sound (record {
         scope = record i.scope { abnormal = true };
@@ -386,7 +388,7 @@ abbrev mutual
         loop = false;
         body = false;
         function = false;
-      }) last
+      }) finally_block
 
   pub statements_sound : Inside → Statements → Bool
   statements_sound i Empty = true
@@ -413,7 +415,7 @@ abbrev mutual
   funclets_in Leave = []
   funclets_in (TryExcept body filter block) =
       funclets body ++ filter_funclet filter ++ funclets block
-  funclets_in (TryFinally body k last) = funclets body ++ k ∷ funclets last
+  funclets_in (TryFinally body k finally_block) = funclets body ++ k ∷ funclets finally_block
 
   pub funclets : Statements → List ℕ
   funclets Empty = []
@@ -473,6 +475,11 @@ main_sound (Some f) =
     (are_sizes [] (some_sizes f.parameters) || are_sizes (Long ∷ []) (some_sizes f.parameters)) &&
     is_size Int f.returns
 
+-- numbers name what is there, each operand has the size that its operator takes, and constants and
+-- the amounts of increments are numbers of their size. Jumps and the names of exceptions are where
+-- they mean something. A function that is named as a vectored handler takes a code and flags, and
+-- gives an answer. Filters and `__finally` blocks are numbered from 1 in the order of their
+-- keywords.
 abbrev pub is_sound : Program → Bool
 is_sound p =
     functions_sound p.functions p.functions && main_sound

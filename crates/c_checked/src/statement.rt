@@ -77,11 +77,11 @@ pub enum Stmt {
         filter: Filter,
         handler: Vec<Stmt>,
     },
-    /// `__try body __finally last`. Filters and `__finally` blocks are funclets, numbered together
-    /// from 1 in the order of their keywords.
+    /// `__try body __finally finally_block`. Filters and `__finally` blocks are funclets, numbered
+    /// together from 1 in the order of their keywords.
     TryFinally {
         body: Vec<Stmt>,
         number: u32,
-        last: Vec<Stmt>,
+        finally_block: Vec<Stmt>,
     },
 }

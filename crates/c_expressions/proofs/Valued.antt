@@ -5,7 +5,7 @@ use Rattle.c_checked.specs.declared.expression.Expr.{Expr}
 use Rattle.c_checked.specs.Expression as nodes
 use Rattle.c_checked.specs.Expression.{expression}
 use Rattle.c_expressions.proofs.Kept.{kept_more}
-use Rattle.c_expressions.specs.declared.least.Least.{Least}
+use Rattle.c_expressions.specs.declared.least.LeastFault.{LeastFault}
 use Rattle.c_expressions.specs.Words.{least_of, kept, FaultAt, ResolvedExpression, Value, typed_node}
 use Rattle.c_expressions.specs.Values.{Values}
 use Rattle.c_types.specs.declared.typed.TypedNode.{TypedNode}
@@ -14,7 +14,7 @@ abbrev resolved : Option TypedNode → List FaultAt → ResolvedExpression
 resolved found fs = record { found = option_map typed_node found; faults = fs }
 
 -- it gives v, and adds further faults
-pub valued : (before after : Least) (found : Option TypedNode) (a : TypedNode) (e : Expr)
+pub valued : (before after : LeastFault) (found : Option TypedNode) (a : TypedNode) (e : Expr)
     (rule : ResolvedExpression → Value) (v : nodes.Expression) (extra : List FaultAt)
     → found ≡ Some a → expression e ≡ v → least_of after ≡ kept (least_of before) extra
     → ((fs : List FaultAt) → rule (resolved (Some a) fs)

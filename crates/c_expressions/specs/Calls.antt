@@ -5,7 +5,7 @@ use Rattle.c_checked.specs.declared.expression.Expr.{Expr as Checked}
 use Rattle.c_checked.specs.Expression as nodes
 use Rattle.c_expressions.specs.Kept.{least_of, kept, AddsFaults}
 use Rattle.c_expressions.specs.Views.{wanted}
-use Rattle.c_expressions.specs.declared.least.Least.{Least}
+use Rattle.c_expressions.specs.declared.least.LeastFault.{LeastFault}
 use Rattle.c_expressions.specs.declared.wanted.Wanted.{Wanted}
 use Rattle.c_resolved.specs.Expressions.{FaultAt, Names, Argument, Passed, ResolvedExpression, resolve_arguments, pass}
 use Rattle.c_resolved.specs.Operators.{TypedNode, typed}
@@ -42,7 +42,7 @@ Passes e rule =
 
 -- where the argument's own faults are kept, the others' are to be kept after those that the rule
 -- adds
-abbrev pub AddsBefore : Least → Least → (List FaultAt → Passed → Passed) → Type 0
+abbrev pub AddsBefore : LeastFault → LeastFault → (List FaultAt → Passed → Passed) → Type 0
 AddsBefore before after rule =
     (first : Option FaultAt) (fs : List FaultAt) (rest : Passed) → least_of before ≡ kept first fs
     → kept (least_of after) rest.faults ≡ kept first (rule fs rest).faults
@@ -69,7 +69,8 @@ abbrev pub FindsCall : Option (Vec Checked)
 FindsCall passed rule =
     (t : CType) (make : nodes.Arguments → nodes.Node) → call_of t make passed ≡ (rule t make).found
 
-abbrev pub AddsCall : Least → Least → (CType → (nodes.Arguments → nodes.Node) → ResolvedExpression)
+abbrev pub AddsCall : LeastFault → LeastFault
+    → (CType → (nodes.Arguments → nodes.Node) → ResolvedExpression)
     → Type 0
 AddsCall before after rule =
     (t : CType) (make : nodes.Arguments → nodes.Node) → AddsFaults before after (rule t make).faults

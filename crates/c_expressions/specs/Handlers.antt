@@ -9,7 +9,7 @@ use Rattle.c_expressions.specs.Resolved.{resolved}
 use Rattle.c_expressions.specs.Views.{names_of, wanted}
 use Rattle.c_expressions.specs.declared.context.Context.{Context}
 use Rattle.c_expressions.specs.declared.handlers.NamingCall.{NamingCall}
-use Rattle.c_expressions.specs.declared.least.Least.{Least}
+use Rattle.c_expressions.specs.declared.least.LeastFault.{LeastFault}
 use Rattle.c_expressions.specs.declared.wanted.Wanted.{Wanted}
 use Rattle.c_operations.specs.declared.built_in.BuiltIn.{BuiltIn}
 use Rattle.c_resolved.specs.Expressions.{FaultAt, NamedHandler, ResolvedExpression, handler_named, no_handler, name_of, resolve_handler, call_with_handler}
@@ -31,7 +31,7 @@ named_by context e =
     (resolved context e)
 
 -- of an argument that is no name, after its own faults
-abbrev pub AddsMissing : Least → Least → ℕ → Option TypedNode' → Type 0
+abbrev pub AddsMissing : LeastFault → LeastFault → ℕ → Option TypedNode' → Type 0
 AddsMissing before after at found =
     (first : Option FaultAt) (fs : List FaultAt) → least_of before ≡ kept first fs
     → least_of after ≡ kept first (no_handler at (record {
@@ -63,5 +63,5 @@ called_naming context at wants given of =
 abbrev pub FindsNaming : Option NamingCall → ((ℕ → BuiltIn) → ResolvedExpression) → Type 0
 FindsNaming naming rule = (of : ℕ → BuiltIn) → naming_call of naming ≡ (rule of).found
 
-abbrev pub AddsNaming : Least → Least → ((ℕ → BuiltIn) → ResolvedExpression) → Type 0
+abbrev pub AddsNaming : LeastFault → LeastFault → ((ℕ → BuiltIn) → ResolvedExpression) → Type 0
 AddsNaming before after rule = (of : ℕ → BuiltIn) → AddsFaults before after (rule of).faults

@@ -3,12 +3,12 @@ use Rattle.std.specs.Prelude.{◌≡◌, if◌then◌else◌, List, [], ◌∷�
 use Rattle.c_resolved.specs.Accepted.{is_earlier}
 use Rattle.c_resolved.specs.Expressions.{FaultAt}
 use Rattle.c_expressions.specs.declared.least.Broken.{Broken}
-use Rattle.c_expressions.specs.declared.least.Least.{Least}
+use Rattle.c_expressions.specs.declared.least.LeastFault.{LeastFault}
 
 abbrev pub broken : Broken → FaultAt
 broken b = record { at = b.at; fault = b.fault }
 
-abbrev pub least_of : Least → Option FaultAt
+abbrev pub least_of : LeastFault → Option FaultAt
 least_of l = option_map broken l.found
 
 -- one more fault
@@ -22,5 +22,5 @@ kept so_far [] = so_far
 kept so_far (f ∷ fs) = kept (kept_one so_far f) fs
 
 -- the least of what was kept before and of these faults is kept after
-abbrev pub AddsFaults : Least → Least → List FaultAt → Type 0
+abbrev pub AddsFaults : LeastFault → LeastFault → List FaultAt → Type 0
 AddsFaults before after faults = least_of after ≡ kept (least_of before) faults

@@ -1,6 +1,6 @@
 -- What the code of a rule on types gives, and what it keeps, after operands with these faults.
 use Rattle.std.specs.Prelude.{◌≡◌, ℕ, Bool, true, false, List, Option, Some, None, option_map}
-use Rattle.c_expressions.specs.declared.least.Least.{Least}
+use Rattle.c_expressions.specs.declared.least.LeastFault.{LeastFault}
 use Rattle.c_expressions.specs.declared.rules.TwoOperands.{TwoOperands}
 use Rattle.c_expressions.specs.declared.rules.TwoOperands.TheVariants as operators
 use Rattle.c_expressions.specs.Kept.{least_of, kept}
@@ -22,7 +22,7 @@ abbrev pub FindsByRule : Option TypedNode' → (List FaultAt → ResolvedExpress
 FindsByRule r rule = (fs : List FaultAt) → option_map typed_node r ≡ (rule fs).found
 
 -- Where the operands' faults are kept, it keeps the rule's too.
-abbrev pub Adds : Least → Least → (List FaultAt → ResolvedExpression) → Type 0
+abbrev pub Adds : LeastFault → LeastFault → (List FaultAt → ResolvedExpression) → Type 0
 Adds before after rule =
     (first : Option FaultAt) (fs : List FaultAt) → least_of before ≡ kept first fs
     → least_of after ≡ kept first (rule fs).faults

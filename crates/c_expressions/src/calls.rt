@@ -10,7 +10,7 @@ ghost use Rattle.c_expressions.specs.Calls.{AddsBefore, Passes};
 ghost use Rattle.c_expressions.specs.Rules.{FindsByRule, Adds, allowed_call};
 ghost use Rattle.c_types.specs.Views.{typed_node, FindsTyped};
 
-use crate::least::Least;
+use crate::least::LeastFault;
 use crate::wanted::{Wanted, built_in_result};
 use c_checked::expression::{Expr as Checked, Node};
 use c_operations::built_in::BuiltIn;
@@ -21,9 +21,14 @@ use c_types::types::plain;
 use std::alloc::{AllocError, Global};
 
 /// An argument as it is passed, if it is what is wanted at its place.
-pub fn pass(worst: &mut Least, want: Wanted, e: &Expr, found: Option<TypedNode>) -> Option<Checked>
+pub fn pass(
+    faults: &mut LeastFault,
+    want: Wanted,
+    e: &Expr,
+    found: Option<TypedNode>,
+) -> Option<Checked>
     ensures passed { Passes result (passed_first want e.now found) }
-    ensures faults { AddsBefore worst.old worst.new (passed_first want e.now found) }
+    ensures faults { AddsBefore faults.old faults.new (passed_first want e.now found) }
 {
     match found {
         None => None,
@@ -32,7 +37,7 @@ pub fn pass(worst: &mut Least, want: Wanted, e: &Expr, found: Option<TypedNode>)
                 return Some(want.passed(a));
             }
             drop(a);
-            worst.add(e.start(), Fault::TypeClash);
+            faults.add(e.start(), Fault::TypeClash);
             None
         }
     }
@@ -140,7 +145,7 @@ pub fn built_in_call(function: BuiltIn, passed: Option<Vec<Checked>>) -> Option<
 
 /// A call that is right in itself, where it has a meaning.
 pub fn only_where(
-    worst: &mut Least,
+    faults: &mut LeastFault,
     allowed: bool,
     at: u64,
     fault: Fault,
@@ -148,13 +153,13 @@ pub fn only_where(
 ) -> Option<TypedNode>
     ensures found { FindsByRule result (λ fs. allowed_call allowed at fault fs
         (option_map typed_node found)) }
-    ensures faults { Adds worst.old worst.new
+    ensures faults { Adds faults.old faults.new
         (λ fs. allowed_call allowed at fault fs (option_map typed_node found)) }
 {
     if allowed {
         return found;
     }
     drop(found);
-    worst.add(at, fault);
+    faults.add(at, fault);
     None
 }

@@ -22,7 +22,7 @@ use crate::context::{Context, named};
 use crate::handlers::{
     NamingCall, adding_call, handler_at, has_one_more, name_of, naming, no_handler, removing_call,
 };
-use crate::least::Least;
+use crate::least::LeastFault;
 use crate::places::{assign, place_of, step, unary};
 use crate::primary::{information, literal, name};
 use crate::rules::{self, TwoOperands};
@@ -40,14 +40,14 @@ use std::alloc::{AllocError, Global};
 fn pass_all(
     alloc: Global,
     context: &Context<'_, '_>,
-    worst: &mut Least,
+    faults: &mut LeastFault,
     wants: &[Wanted],
     given: &[Expr],
 ) -> Result<Option<Vec<Checked>>, AllocError>
     requires enough { length wants.now ≤ length given.now }
     ensures found { IfOk result (λ r. option_map (λ v. passed_of v.items) r ≡
         (all_passed context.now wants.now given.now).found) }
-    ensures faults { OnOk result (AddsFaults worst.old worst.new
+    ensures faults { OnOk result (AddsFaults faults.old faults.new
         (all_passed context.now wants.now given.now).faults) }
 {
     let mut passed = no_arguments(alloc);
@@ -57,9 +57,9 @@ fn pass_all(
         if i == count {
             return Ok(passed);
         }
-        let found = resolve(alloc, context, worst, e)?;
+        let found = resolve(alloc, context, faults, e)?;
         let want = want_at(wants, i);
-        let one = pass(worst, want, e, found);
+        let one = pass(faults, want, e, found);
         passed = with_one(passed, one)?;
         i += 1;
     }
@@ -71,14 +71,14 @@ fn pass_all(
 fn resolve_all(
     alloc: Global,
     context: &Context<'_, '_>,
-    worst: &mut Least,
+    faults: &mut LeastFault,
     given: &[Expr],
 ) -> Result<(), AllocError>
-    ensures { OnOk result (AddsFaults worst.old worst.new
+    ensures { OnOk result (AddsFaults faults.old faults.new
         (faults_of (resolved_all (names_of context.now) given.now))) }
 {
     for e in given {
-        drop(resolve(alloc, context, worst, e)?);
+        drop(resolve(alloc, context, faults, e)?);
     }
     Ok(())
 }
@@ -88,21 +88,21 @@ fn resolve_all(
 fn call_with(
     alloc: Global,
     context: &Context<'_, '_>,
-    worst: &mut Least,
+    faults: &mut LeastFault,
     at: u64,
     wants: &[Wanted],
     given: &[Expr],
 ) -> Result<Option<Vec<Checked>>, AllocError>
     ensures found { IfOk result (λ r. FindsCall r
         (called_with context.now at wants.now given.now)) }
-    ensures faults { OnOk result (AddsCall worst.old worst.new
+    ensures faults { OnOk result (AddsCall faults.old faults.new
         (called_with context.now at wants.now given.now)) }
 {
     if same_count(wants, given) {
-        return pass_all(alloc, context, worst, wants, given);
+        return pass_all(alloc, context, faults, wants, given);
     }
-    resolve_all(alloc, context, worst, given)?;
-    worst.add(at, Fault::ArgCount);
+    resolve_all(alloc, context, faults, given)?;
+    faults.add(at, Fault::ArgCount);
     Ok(None)
 }
 
@@ -111,18 +111,18 @@ fn call_with(
 fn handler(
     alloc: Global,
     context: &Context<'_, '_>,
-    worst: &mut Least,
+    faults: &mut LeastFault,
     e: &Expr,
 ) -> Result<Option<u64>, AllocError>
     ensures found { IfOk result (λ r. r ≡ (named_by context.now e.now).found) }
-    ensures faults { OnOk result (AddsFaults worst.old worst.new
+    ensures faults { OnOk result (AddsFaults faults.old faults.new
         (named_by context.now e.now).faults) }
 {
     match name_of(e) {
-        Some(name) => Ok(handler_at(context, worst, e.start(), name)),
+        Some(name) => Ok(handler_at(context, faults, e.start(), name)),
         None => {
-            let found = resolve(alloc, context, worst, e)?;
-            no_handler(worst, e.start(), found);
+            let found = resolve(alloc, context, faults, e)?;
+            no_handler(faults, e.start(), found);
             Ok(None)
         }
     }
@@ -134,24 +134,24 @@ fn handler(
 fn call_naming(
     alloc: Global,
     context: &Context<'_, '_>,
-    worst: &mut Least,
+    faults: &mut LeastFault,
     at: u64,
     wants: &[Wanted],
     given: &[Expr],
 ) -> Result<Option<NamingCall>, AllocError>
     ensures found { IfOk result (λ r. FindsNaming r
         (called_naming context.now at wants.now given.now)) }
-    ensures faults { OnOk result (AddsNaming worst.old worst.new
+    ensures faults { OnOk result (AddsNaming faults.old faults.new
         (called_naming context.now at wants.now given.now)) }
 {
     if has_one_more(wants, given) {
-        let passed = pass_all(alloc, context, worst, wants, given)?;
+        let passed = pass_all(alloc, context, faults, wants, given)?;
         let count = wants.len();
-        let named = handler(alloc, context, worst, &given[count])?;
+        let named = handler(alloc, context, faults, &given[count])?;
         return Ok(naming(passed, named));
     }
-    resolve_all(alloc, context, worst, given)?;
-    worst.add(at, Fault::ArgCount);
+    resolve_all(alloc, context, faults, given)?;
+    faults.add(at, Fault::ArgCount);
     Ok(None)
 }
 
@@ -161,7 +161,7 @@ fn call_naming(
 fn handler_call(
     alloc: Global,
     context: &Context<'_, '_>,
-    worst: &mut Least,
+    faults: &mut LeastFault,
     at: u64,
     meaning: Option<Entity<'_>>,
     given: &[Expr],
@@ -169,22 +169,22 @@ fn handler_call(
     requires { is_handler_function (option_map entity meaning) ≡ true }
     ensures found { IfOk result (λ r. FindsTyped r
         (called context.now at meaning.entry given.now).found) }
-    ensures faults { OnOk result (AddsFaults worst.old worst.new
+    ensures faults { OnOk result (AddsFaults faults.old faults.new
         (called context.now at meaning.entry given.now).faults) }
 {
     match meaning {
         Some(Entity::AddingFunction) => {
             let wants = [Wanted::OfType(plain(Base::Unsigned))];
-            let named = call_naming(alloc, context, worst, at, &wants, given)?;
+            let named = call_naming(alloc, context, faults, at, &wants, given)?;
             Ok(adding_call(named))
         }
         Some(Entity::RemovingFunction) => {
-            let named = call_naming(alloc, context, worst, at, &[], given)?;
+            let named = call_naming(alloc, context, faults, at, &[], given)?;
             Ok(removing_call(named))
         }
         _ => {
-            worst.add(at, Fault::UnknownName);
-            resolve_all(alloc, context, worst, given)?;
+            faults.add(at, Fault::UnknownName);
+            resolve_all(alloc, context, faults, given)?;
             Ok(None)
         }
     }
@@ -196,7 +196,7 @@ fn handler_call(
 fn special_call(
     alloc: Global,
     context: &Context<'_, '_>,
-    worst: &mut Least,
+    faults: &mut LeastFault,
     at: u64,
     meaning: Option<Entity<'_>>,
     given: &[Expr],
@@ -204,27 +204,27 @@ fn special_call(
     requires { is_special (option_map entity meaning) ≡ true }
     ensures found { IfOk result (λ r. FindsTyped r
         (called context.now at meaning.entry given.now).found) }
-    ensures faults { OnOk result (AddsFaults worst.old worst.new
+    ensures faults { OnOk result (AddsFaults faults.old faults.new
         (called context.now at meaning.entry given.now).faults) }
 {
     match meaning {
         Some(Entity::CodeFunction) => {
-            let passed = call_with(alloc, context, worst, at, &[], given)?;
+            let passed = call_with(alloc, context, faults, at, &[], given)?;
             let found = code_call(passed);
-            Ok(only_where(worst, context.code, at, Fault::CodeOutsideFilter, found))
+            Ok(only_where(faults, context.code, at, Fault::CodeOutsideFilter, found))
         }
         Some(Entity::AbnormalFunction) => {
-            let passed = call_with(alloc, context, worst, at, &[], given)?;
+            let passed = call_with(alloc, context, faults, at, &[], given)?;
             let found = abnormal_call(passed);
             Ok(only_where(
-                worst,
+                faults,
                 context.abnormal,
                 at,
                 Fault::AbnormalOutsideFinally,
                 found,
             ))
         }
-        _ => handler_call(alloc, context, worst, at, meaning, given),
+        _ => handler_call(alloc, context, faults, at, meaning, given),
     }
 }
 
@@ -233,14 +233,14 @@ fn special_call(
 fn call(
     alloc: Global,
     context: &Context<'_, '_>,
-    worst: &mut Least,
+    faults: &mut LeastFault,
     at: u64,
     meaning: Option<Entity<'_>>,
     given: &[Expr],
 ) -> Result<Option<TypedNode>, AllocError>
     ensures found { IfOk result (λ r. FindsTyped r
         (called context.now at meaning.entry given.now).found) }
-    ensures faults { OnOk result (AddsFaults worst.old worst.new
+    ensures faults { OnOk result (AddsFaults faults.old faults.new
         (called context.now at meaning.entry given.now).faults) }
 {
     match meaning {
@@ -252,15 +252,15 @@ fn call(
             },
         ) => {
             let wants = wanted_by(alloc, parameters)?;
-            let passed = call_with(alloc, context, worst, at, &wants, given)?;
+            let passed = call_with(alloc, context, faults, at, &wants, given)?;
             Ok(user_call(number, returns, passed))
         }
         Some(Entity::BuiltInFunction(function)) => {
             let wants = built_in_wants(alloc, function)?;
-            let passed = call_with(alloc, context, worst, at, &wants, given)?;
+            let passed = call_with(alloc, context, faults, at, &wants, given)?;
             Ok(built_in_call(function, passed))
         }
-        _ => special_call(alloc, context, worst, at, meaning, given),
+        _ => special_call(alloc, context, faults, at, meaning, given),
     }
 }
 
@@ -269,7 +269,7 @@ fn call(
 fn with_second(
     alloc: Global,
     context: &Context<'_, '_>,
-    worst: &mut Least,
+    faults: &mut LeastFault,
     at: u64,
     operator: TwoOperands,
     a: Option<TypedNode>,
@@ -277,11 +277,11 @@ fn with_second(
 ) -> Result<Option<TypedNode>, AllocError>
     ensures found { IfOk result (λ r. FindsByRule r
         (resolved_with context.now at operator a second.now)) }
-    ensures faults { OnOk result (Adds worst.old worst.new
+    ensures faults { OnOk result (Adds faults.old faults.new
         (resolved_with context.now at operator a second.now)) }
 {
-    match resolve(alloc, context, worst, second) {
-        Ok(b) => rules::two(alloc, worst, at, operator, a, b),
+    match resolve(alloc, context, faults, second) {
+        Ok(b) => rules::two(alloc, faults, at, operator, a, b),
         Err(failed) => {
             drop(a);
             Err(failed)
@@ -294,18 +294,18 @@ fn with_second(
 fn several(
     alloc: Global,
     context: &Context<'_, '_>,
-    worst: &mut Least,
+    faults: &mut LeastFault,
     e: &Expr,
 ) -> Result<Option<TypedNode>, AllocError>
     requires { has_several (expression e.now) ≡ true }
     ensures found { IfOk result (λ r. FindsTyped r (resolved context.now e.now).found) }
-    ensures faults { OnOk result (AddsFaults worst.old worst.new
+    ensures faults { OnOk result (AddsFaults faults.old faults.new
         (resolved context.now e.now).faults) }
 {
     match e {
         Expr::Index { array, at, index } => {
-            let a = resolve(alloc, context, worst, array)?;
-            with_second(alloc, context, worst, *at, TwoOperands::Element, a, index)
+            let a = resolve(alloc, context, faults, array)?;
+            with_second(alloc, context, faults, *at, TwoOperands::Element, a, index)
         }
         Expr::Binary {
             left,
@@ -313,15 +313,15 @@ fn several(
             operator,
             right,
         } => {
-            let a = resolve(alloc, context, worst, left)?;
+            let a = resolve(alloc, context, faults, left)?;
             let operator = TwoOperands::Operator(*operator);
-            with_second(alloc, context, worst, *at, operator, a, right)
+            with_second(alloc, context, faults, *at, operator, a, right)
         }
         Expr::Comma { left, at, right } => {
-            let a = resolve(alloc, context, worst, left)?;
-            with_second(alloc, context, worst, *at, TwoOperands::Comma, a, right)
+            let a = resolve(alloc, context, faults, left)?;
+            with_second(alloc, context, faults, *at, TwoOperands::Comma, a, right)
         }
-        _ => conditional_or_assignment(alloc, context, worst, e),
+        _ => conditional_or_assignment(alloc, context, faults, e),
     }
 }
 
@@ -330,12 +330,12 @@ fn several(
 fn conditional_or_assignment(
     alloc: Global,
     context: &Context<'_, '_>,
-    worst: &mut Least,
+    faults: &mut LeastFault,
     e: &Expr,
 ) -> Result<Option<TypedNode>, AllocError>
     requires { is_conditional_or_assignment (expression e.now) ≡ true }
     ensures found { IfOk result (λ r. FindsTyped r (resolved context.now e.now).found) }
-    ensures faults { OnOk result (AddsFaults worst.old worst.new
+    ensures faults { OnOk result (AddsFaults faults.old faults.new
         (resolved context.now e.now).faults) }
 {
     match e {
@@ -345,10 +345,10 @@ fn conditional_or_assignment(
             yes,
             no,
         } => {
-            let c = resolve(alloc, context, worst, condition)?;
-            match resolve(alloc, context, worst, yes) {
-                Ok(a) => match resolve(alloc, context, worst, no) {
-                    Ok(b) => rules::conditional(alloc, worst, *at, c, a, b),
+            let c = resolve(alloc, context, faults, condition)?;
+            match resolve(alloc, context, faults, yes) {
+                Ok(a) => match resolve(alloc, context, faults, no) {
+                    Ok(b) => rules::conditional(alloc, faults, *at, c, a, b),
                     Err(failed) => {
                         drop(c);
                         drop(a);
@@ -367,10 +367,10 @@ fn conditional_or_assignment(
             operator,
             value,
         } => {
-            let a = resolve(alloc, context, worst, target)?;
-            let b = resolve(alloc, context, worst, value)?;
+            let a = resolve(alloc, context, faults, target)?;
+            let b = resolve(alloc, context, faults, value)?;
             let place = place_of(*operator, *at, value);
-            assign(alloc, context, worst, target, place, *operator, a, b)
+            assign(alloc, context, faults, target, place, *operator, a, b)
         }
         _ => unreachable!(),
     }
@@ -381,12 +381,12 @@ fn conditional_or_assignment(
 fn preceded(
     alloc: Global,
     context: &Context<'_, '_>,
-    worst: &mut Least,
+    faults: &mut LeastFault,
     e: &Expr,
 ) -> Result<Option<TypedNode>, AllocError>
     requires { has_prefix_or_several (expression e.now) ≡ true }
     ensures found { IfOk result (λ r. FindsTyped r (resolved context.now e.now).found) }
-    ensures faults { OnOk result (AddsFaults worst.old worst.new
+    ensures faults { OnOk result (AddsFaults faults.old faults.new
         (resolved context.now e.now).faults) }
 {
     match e {
@@ -395,22 +395,22 @@ fn preceded(
             operator,
             operand,
         } => {
-            let a = resolve(alloc, context, worst, operand)?;
-            Ok(step(context, worst, *at, Fixity::Prefix, *operator, operand, a))
+            let a = resolve(alloc, context, faults, operand)?;
+            Ok(step(context, faults, *at, Fixity::Prefix, *operator, operand, a))
         }
         Expr::Unary {
             at,
             operator,
             operand,
         } => {
-            let a = resolve(alloc, context, worst, operand)?;
-            unary(alloc, context, worst, *at, *operator, operand, a)
+            let a = resolve(alloc, context, faults, operand)?;
+            unary(alloc, context, faults, *at, *operator, operand, a)
         }
         Expr::Cast { at, to, operand } => {
-            let a = resolve(alloc, context, worst, operand)?;
-            rules::cast(alloc, worst, *at, *to, a)
+            let a = resolve(alloc, context, faults, operand)?;
+            rules::cast(alloc, faults, *at, *to, a)
         }
-        _ => several(alloc, context, worst, e),
+        _ => several(alloc, context, faults, e),
     }
 }
 
@@ -420,30 +420,30 @@ fn preceded(
 pub fn resolve(
     alloc: Global,
     context: &Context<'_, '_>,
-    worst: &mut Least,
+    faults: &mut LeastFault,
     e: &Expr,
 ) -> Result<Option<TypedNode>, AllocError>
     ensures found { IfOk result (λ r. FindsTyped r (resolved context.now e.now).found) }
-    ensures faults { OnOk result (AddsFaults worst.old worst.new
+    ensures faults { OnOk result (AddsFaults faults.old faults.new
         (resolved context.now e.now).faults) }
 {
     match e {
         Expr::Literal { literal: l, .. } => Ok(Some(literal(*l))),
-        Expr::Variable(n) => name(worst, n.start, named(context, *n)),
-        Expr::Information { at, field } => Ok(information(context, worst, *at, *field)),
+        Expr::Variable(n) => name(faults, n.start, named(context, *n)),
+        Expr::Information { at, field } => Ok(information(context, faults, *at, *field)),
         Expr::Call { name: n, arguments } => {
             let meaning = named(context, *n);
-            call(alloc, context, worst, n.start, meaning, arguments)
+            call(alloc, context, faults, n.start, meaning, arguments)
         }
-        Expr::Parentheses { inner, .. } => resolve(alloc, context, worst, inner),
+        Expr::Parentheses { inner, .. } => resolve(alloc, context, faults, inner),
         Expr::Postfix {
             operand,
             operator,
             at,
         } => {
-            let a = resolve(alloc, context, worst, operand)?;
-            Ok(step(context, worst, *at, Fixity::Postfix, *operator, operand, a))
+            let a = resolve(alloc, context, faults, operand)?;
+            Ok(step(context, faults, *at, Fixity::Postfix, *operator, operand, a))
         }
-        _ => preceded(alloc, context, worst, e),
+        _ => preceded(alloc, context, faults, e),
     }
 }

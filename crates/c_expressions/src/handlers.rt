@@ -13,7 +13,7 @@ ghost use Rattle.c_types.specs.Views.{FindsTyped};
 
 use crate::calls::built_in_call;
 use crate::context::{Context, named};
-use crate::least::Least;
+use crate::least::LeastFault;
 use crate::scopes::Entity;
 use crate::wanted::Wanted;
 use c_checked::expression::Expr as Checked;
@@ -67,28 +67,28 @@ fn is_handler_type(returns: CType, parameters: &[Parameter]) -> bool
 }
 
 /// A function as a vectored handler, if its type is that of one.
-fn handler_if(worst: &mut Least, at: u64, function: u64, fits: bool) -> Option<u64>
+fn handler_if(faults: &mut LeastFault, at: u64, function: u64, fits: bool) -> Option<u64>
     ensures found { result ≡ (definitions.handler_if at function fits).found }
-    ensures faults { AddsFaults worst.old worst.new
+    ensures faults { AddsFaults faults.old faults.new
         (definitions.handler_if at function fits).faults }
 {
     if fits {
         return Some(function);
     }
-    worst.add(at, Fault::TypeClash);
+    faults.add(at, Fault::TypeClash);
     None
 }
 
 /// The vectored handler that a name with this meaning is.
 fn handler_named(
-    worst: &mut Least,
+    faults: &mut LeastFault,
     at: u64,
     name_at: u64,
     meaning: Option<Entity<'_>>,
 ) -> Option<u64>
     ensures found { result ≡
         (definitions.handler_named at name_at (option_map entity meaning.entry)).found }
-    ensures faults { AddsFaults worst.old worst.new
+    ensures faults { AddsFaults faults.old faults.new
         (definitions.handler_named at name_at (option_map entity meaning.entry)).faults }
 {
     match meaning {
@@ -98,14 +98,14 @@ fn handler_named(
                 returns,
                 parameters,
             },
-        ) => handler_if(worst, at, number, is_handler_type(returns, parameters)),
+        ) => handler_if(faults, at, number, is_handler_type(returns, parameters)),
         Some(Entity::BuiltInFunction(_))
         | Some(Entity::CodeFunction)
         | Some(Entity::AbnormalFunction)
         | Some(Entity::AddingFunction)
-        | Some(Entity::RemovingFunction) => handler_if(worst, at, 0, false),
+        | Some(Entity::RemovingFunction) => handler_if(faults, at, 0, false),
         _ => {
-            worst.add(name_at, Fault::UnknownName);
+            faults.add(name_at, Fault::UnknownName);
             None
         }
     }
@@ -114,23 +114,23 @@ fn handler_named(
 /// The vectored handler that an argument's name is.
 pub fn handler_at(
     context: &Context<'_, '_>,
-    worst: &mut Least,
+    faults: &mut LeastFault,
     at: u64,
     name: Identifier,
 ) -> Option<u64>
     ensures found { result ≡ (handler_at context.now at name).found }
-    ensures faults { AddsFaults worst.old worst.new (handler_at context.now at name).faults }
+    ensures faults { AddsFaults faults.old faults.new (handler_at context.now at name).faults }
 {
-    handler_named(worst, at, name.start, named(context, name))
+    handler_named(faults, at, name.start, named(context, name))
 }
 
 /// An argument that is no name breaks that rule, where it holds no other fault.
-pub fn no_handler(worst: &mut Least, at: u64, found: Option<TypedNode>)
-    ensures { AddsMissing worst.old worst.new at found }
+pub fn no_handler(faults: &mut LeastFault, at: u64, found: Option<TypedNode>)
+    ensures { AddsMissing faults.old faults.new at found }
 {
     if let Some(a) = found {
         drop(a);
-        worst.add(at, Fault::TypeClash);
+        faults.add(at, Fault::TypeClash);
     }
 }
 

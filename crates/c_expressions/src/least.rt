@@ -45,12 +45,12 @@ fn is_earlier(a: Broken, b: Broken) -> bool
 /// The least of the faults so far: the one at the least place, and at one place that of the
 /// earliest rule.
 #[derive(Clone, Copy, Drop)]
-pub struct Least {
+pub struct LeastFault {
     /// None while no rule is broken.
     pub found: Option<Broken>,
 }
 
-impl Least {
+impl LeastFault {
     /// One more fault.
     pub fn add(&mut self, at: u64, fault: Fault)
         ensures { AddsFaults self.old self.new (fault_at at fault) }

@@ -10,7 +10,7 @@ ghost use Rattle.c_expressions.specs.Views.{names_of};
 ghost use Rattle.c_types.specs.Views.{typed_node};
 
 use crate::context::{Context, named};
-use crate::least::Least;
+use crate::least::LeastFault;
 use crate::rules::{self, TwoOperands};
 use crate::scopes::Entity;
 use c_checked::expression::Fixity;
@@ -60,7 +60,7 @@ fn operand_is_lvalue(context: &Context<'_, '_>, operator: UnaryOperator, e: &Exp
 /// `++` or `--` of an operand.
 pub fn step(
     context: &Context<'_, '_>,
-    worst: &mut Least,
+    faults: &mut LeastFault,
     at: u64,
     fixity: Fixity,
     operator: Increment,
@@ -69,15 +69,15 @@ pub fn step(
 ) -> Option<TypedNode>
     ensures found { FindsByRule result (λ fs. stepping (names_of context.now) at fixity operator
         (expression operand.now) fs (option_map typed_node a)) }
-    ensures faults { Adds worst.old worst.new
+    ensures faults { Adds faults.old faults.new
         (λ fs. stepping (names_of context.now) at fixity operator (expression operand.now) fs
         (option_map typed_node a)) }
 {
     if is_lvalue(context, operand) {
-        return rules::increment(worst, at, fixity, operator, a);
+        return rules::increment(faults, at, fixity, operator, a);
     }
     drop(a);
-    worst.add(operand.start(), Fault::NotLvalue);
+    faults.add(operand.start(), Fault::NotLvalue);
     None
 }
 
@@ -85,7 +85,7 @@ pub fn step(
 pub fn unary(
     alloc: Global,
     context: &Context<'_, '_>,
-    worst: &mut Least,
+    faults: &mut LeastFault,
     at: u64,
     operator: UnaryOperator,
     operand: &Expr,
@@ -94,15 +94,15 @@ pub fn unary(
     ensures found { IfOk result (λ r. FindsByRule r
         (λ fs. preceding (names_of context.now) at operator (expression operand.now) fs
         (option_map typed_node a))) }
-    ensures faults { OnOk result (Adds worst.old worst.new
+    ensures faults { OnOk result (Adds faults.old faults.new
         (λ fs. preceding (names_of context.now) at operator (expression operand.now) fs
         (option_map typed_node a))) }
 {
     if operand_is_lvalue(context, operator, operand) {
-        return rules::unary(alloc, worst, at, operator, a);
+        return rules::unary(alloc, faults, at, operator, a);
     }
     drop(a);
-    worst.add(operand.start(), Fault::NotLvalue);
+    faults.add(operand.start(), Fault::NotLvalue);
     Ok(None)
 }
 
@@ -120,7 +120,7 @@ pub fn place_of(operator: Option<Arithmetic>, at: u64, value: &Expr) -> u64
 pub fn assign(
     alloc: Global,
     context: &Context<'_, '_>,
-    worst: &mut Least,
+    faults: &mut LeastFault,
     target: &Expr,
     at: u64,
     operator: Option<Arithmetic>,
@@ -130,15 +130,15 @@ pub fn assign(
     ensures found { IfOk result (λ r. FindsByRule r
         (λ fs. assigning_to (names_of context.now) (expression target.now) at operator fs
         (option_map typed_node a) (option_map typed_node b))) }
-    ensures faults { OnOk result (Adds worst.old worst.new
+    ensures faults { OnOk result (Adds faults.old faults.new
         (λ fs. assigning_to (names_of context.now) (expression target.now) at operator fs
         (option_map typed_node a) (option_map typed_node b))) }
 {
     if is_lvalue(context, target) {
-        return rules::two(alloc, worst, at, TwoOperands::Assign(operator), a, b);
+        return rules::two(alloc, faults, at, TwoOperands::Assign(operator), a, b);
     }
     drop(a);
     drop(b);
-    worst.add(target.start(), Fault::NotLvalue);
+    faults.add(target.start(), Fault::NotLvalue);
     Ok(None)
 }

@@ -11,7 +11,7 @@ ghost use Rattle.seh_num.specs.Widths.{low};
 ghost use Rattle.c_types.specs.Views.{typed_node, FindsTyped};
 
 use crate::context::Context;
-use crate::least::Least;
+use crate::least::LeastFault;
 use crate::scopes::Entity;
 use c_checked::expression::{Lvalue, Node};
 use c_lex::token::IntegerType;
@@ -80,13 +80,13 @@ pub fn literal(of: Literal) -> TypedNode
 
 /// A name that isn't called.
 pub fn name(
-    worst: &mut Least,
+    faults: &mut LeastFault,
     at: u64,
     meaning: Option<Entity<'_>>,
 ) -> Result<Option<TypedNode>, AllocError>
     ensures found { IfOk result (λ r. FindsTyped r
         (name at (option_map entity meaning.entry)).found) }
-    ensures faults { OnOk result (AddsFaults worst.old worst.new
+    ensures faults { OnOk result (AddsFaults faults.old faults.new
         (name at (option_map entity meaning.entry)).faults) }
 {
     match meaning {
@@ -108,7 +108,7 @@ pub fn name(
         Some(Entity::GlobalArray { address, of }) => Ok(Some(constant(pointer_to(of)?, address))),
         Some(Entity::BuiltInConstant(value)) => Ok(Some(constant(plain(Base::Int), value))),
         _ => {
-            worst.add(at, Fault::UnknownName);
+            faults.add(at, Fault::UnknownName);
             Ok(None)
         }
     }
@@ -118,9 +118,9 @@ pub fn name(
 const LAST_INFORMATION: u64 = EXCEPTION_MAXIMUM_PARAMETERS as u64 - 1;
 
 /// A field of the exception's record.
-fn field(worst: &mut Least, of: Field) -> Option<TypedNode>
+fn field(faults: &mut LeastFault, of: Field) -> Option<TypedNode>
     ensures found { FindsTyped result (definitions.field of).found }
-    ensures faults { AddsFaults worst.old worst.new (definitions.field of).faults }
+    ensures faults { AddsFaults faults.old faults.new (definitions.field of).faults }
 {
     let unsigned = plain(Base::Unsigned);
     match of {
@@ -129,7 +129,7 @@ fn field(worst: &mut Least, of: Field) -> Option<TypedNode>
         Field::Count => Some(typed(unsigned, Node::Information(Read::NumberParameters))),
         Field::Information { index, at } => {
             if LAST_INFORMATION < index {
-                worst.add(at, Fault::TypeClash);
+                faults.add(at, Fault::TypeClash);
                 return None;
             }
             let read = Node::Information(Read::ExceptionInformation(index));
@@ -141,18 +141,18 @@ fn field(worst: &mut Least, of: Field) -> Option<TypedNode>
 /// `GetExceptionInformation()->ExceptionRecord->field`
 pub fn information(
     context: &Context<'_, '_>,
-    worst: &mut Least,
+    faults: &mut LeastFault,
     at: u64,
     of: Field,
 ) -> Option<TypedNode>
     ensures found { FindsTyped result
         (definitions.resolve_expression (names_of context.now) (trees.Information at of)).found }
-    ensures faults { AddsFaults worst.old worst.new
+    ensures faults { AddsFaults faults.old faults.new
         (definitions.resolve_expression (names_of context.now) (trees.Information at of)).faults }
 {
     if context.information {
-        return field(worst, of);
+        return field(faults, of);
     }
-    worst.add(at, Fault::InfoOutsideFilter);
+    faults.add(at, Fault::InfoOutsideFilter);
     None
 }

@@ -8,7 +8,7 @@ ghost use Rattle.c_expressions.specs.Rules.{FindsByRule, Adds, rule_of_two};
 ghost use Rattle.c_expressions.specs.Rules.{unary_rule, binary_rule, ternary_rule};
 ghost use Rattle.c_types.specs.Views.{typed_node, FindsTyped};
 
-use crate::least::Least;
+use crate::least::LeastFault;
 use c_checked::expression::Fixity;
 use c_resolved::fault::Fault;
 use c_syntax::expression::CType;
@@ -31,15 +31,15 @@ pub enum TwoOperands {
 }
 
 /// What a rule gave; a fault where it gave nothing.
-fn ruled(worst: &mut Least, at: u64, found: Option<TypedNode>) -> Option<TypedNode>
+fn ruled(faults: &mut LeastFault, at: u64, found: Option<TypedNode>) -> Option<TypedNode>
     ensures found { FindsByRule result (λ fs. ruled at TypeClash fs (option_map typed_node found)) }
-    ensures faults { Adds worst.old worst.new
+    ensures faults { Adds faults.old faults.new
         (λ fs. ruled at TypeClash fs (option_map typed_node found)) }
 {
     match found {
         Some(a) => Some(a),
         None => {
-            worst.add(at, Fault::TypeClash);
+            faults.add(at, Fault::TypeClash);
             None
         }
     }
@@ -67,14 +67,14 @@ fn made_of_two(
 /// An operator on two operands.
 pub fn two(
     alloc: Global,
-    worst: &mut Least,
+    faults: &mut LeastFault,
     at: u64,
     operator: TwoOperands,
     a: Option<TypedNode>,
     b: Option<TypedNode>,
 ) -> Result<Option<TypedNode>, AllocError>
     ensures found { IfOk result (λ r. FindsByRule r (binary_rule at (rule_of_two operator) a b)) }
-    ensures faults { OnOk result (Adds worst.old worst.new
+    ensures faults { OnOk result (Adds faults.old faults.new
         (binary_rule at (rule_of_two operator) a b)) }
 {
     let Some(a) = a else {
@@ -86,20 +86,21 @@ pub fn two(
         return Ok(None);
     };
     let found = made_of_two(alloc, operator, a, b)?;
-    Ok(ruled(worst, at, found))
+    Ok(ruled(faults, at, found))
 }
 
 /// `c ? a : b`
 pub fn conditional(
     alloc: Global,
-    worst: &mut Least,
+    faults: &mut LeastFault,
     at: u64,
     c: Option<TypedNode>,
     a: Option<TypedNode>,
     b: Option<TypedNode>,
 ) -> Result<Option<TypedNode>, AllocError>
     ensures found { IfOk result (λ r. FindsByRule r (ternary_rule at conditional_of c a b)) }
-    ensures faults { OnOk result (Adds worst.old worst.new (ternary_rule at conditional_of c a b)) }
+    ensures faults { OnOk result (Adds faults.old faults.new
+        (ternary_rule at conditional_of c a b)) }
 {
     let Some(c) = c else {
         drop(a);
@@ -117,24 +118,24 @@ pub fn conditional(
         return Ok(None);
     };
     let found = unary::conditional_of(alloc, c, a, b)?;
-    Ok(ruled(worst, at, found))
+    Ok(ruled(faults, at, found))
 }
 
 /// `++` and `--`.
 pub fn increment(
-    worst: &mut Least,
+    faults: &mut LeastFault,
     at: u64,
     fixity: Fixity,
     operator: Increment,
     a: Option<TypedNode>,
 ) -> Option<TypedNode>
     ensures found { FindsByRule result (unary_rule at (incremented fixity operator) a) }
-    ensures faults { Adds worst.old worst.new (unary_rule at (incremented fixity operator) a) }
+    ensures faults { Adds faults.old faults.new (unary_rule at (incremented fixity operator) a) }
 {
     match a {
         Some(a) => {
             let found = changes::incremented(fixity, operator, a);
-            ruled(worst, at, found)
+            ruled(faults, at, found)
         }
         None => None,
     }
@@ -143,18 +144,19 @@ pub fn increment(
 /// Another operator before its operand.
 pub fn unary(
     alloc: Global,
-    worst: &mut Least,
+    faults: &mut LeastFault,
     at: u64,
     operator: UnaryOperator,
     a: Option<TypedNode>,
 ) -> Result<Option<TypedNode>, AllocError>
     ensures found { IfOk result (λ r. FindsByRule r (unary_rule at (unary_of operator) a)) }
-    ensures faults { OnOk result (Adds worst.old worst.new (unary_rule at (unary_of operator) a)) }
+    ensures faults { OnOk result (Adds faults.old faults.new
+        (unary_rule at (unary_of operator) a)) }
 {
     match a {
         Some(a) => {
             let found = unary::unary_of(alloc, operator, a)?;
-            Ok(ruled(worst, at, found))
+            Ok(ruled(faults, at, found))
         }
         None => Ok(None),
     }
@@ -163,18 +165,18 @@ pub fn unary(
 /// A cast.
 pub fn cast(
     alloc: Global,
-    worst: &mut Least,
+    faults: &mut LeastFault,
     at: u64,
     to: CType,
     a: Option<TypedNode>,
 ) -> Result<Option<TypedNode>, AllocError>
     ensures found { IfOk result (λ r. FindsByRule r (unary_rule at (cast_of to) a)) }
-    ensures faults { OnOk result (Adds worst.old worst.new (unary_rule at (cast_of to) a)) }
+    ensures faults { OnOk result (Adds faults.old faults.new (unary_rule at (cast_of to) a)) }
 {
     match a {
         Some(a) => {
             let found = unary::cast_of(alloc, to, a)?;
-            Ok(ruled(worst, at, found))
+            Ok(ruled(faults, at, found))
         }
         None => Ok(None),
     }

@@ -7,7 +7,7 @@ ghost use Rattle.c_resolved.specs.Statements.{unless_holds};
 ghost use Rattle.c_expressions.specs.Kept.{AddsFaults};
 ghost use Rattle.c_expressions.specs.Values.{Values};
 
-use crate::least::Least;
+use crate::least::LeastFault;
 use c_checked::expression::{Conversion, Expr, Node};
 use c_operations::operation::Size;
 use c_resolved::fault::Fault;
@@ -16,11 +16,11 @@ use c_types::typed::{TypedNode, as_is, as_type, can_become};
 use c_types::types::{is_integer, is_scalar, plain};
 
 /// A fault, unless a rule holds.
-pub fn unless_holds(worst: &mut Least, holds: bool, at: u64, fault: Fault)
-    ensures { AddsFaults worst.old worst.new (unless_holds holds at fault) }
+pub fn unless_holds(faults: &mut LeastFault, holds: bool, at: u64, fault: Fault)
+    ensures { AddsFaults faults.old faults.new (unless_holds holds at fault) }
 {
     if !holds {
-        worst.add(at, fault);
+        faults.add(at, fault);
     }
 }
 
@@ -38,8 +38,8 @@ fn nothing() -> Expr
 }
 
 /// Any value, or none.
-pub fn any(worst: &mut Least, found: Option<TypedNode>) -> Expr
-    ensures { Values worst.old worst.new found result definitions.any }
+pub fn any(faults: &mut LeastFault, found: Option<TypedNode>) -> Expr
+    ensures { Values faults.old faults.new found result definitions.any }
 {
     match found {
         Some(a) => as_is(a),
@@ -48,12 +48,12 @@ pub fn any(worst: &mut Least, found: Option<TypedNode>) -> Expr
 }
 
 /// An integer or a pointer, else a fault at the keyword.
-pub fn condition(worst: &mut Least, at: u64, found: Option<TypedNode>) -> Expr
-    ensures { Values worst.old worst.new found result (definitions.condition at) }
+pub fn condition(faults: &mut LeastFault, at: u64, found: Option<TypedNode>) -> Expr
+    ensures { Values faults.old faults.new found result (definitions.condition at) }
 {
     match found {
         Some(a) => {
-            unless_holds(worst, is_scalar(a.of), at, Fault::TypeClash);
+            unless_holds(faults, is_scalar(a.of), at, Fault::TypeClash);
             as_is(a)
         }
         None => nothing(),
@@ -61,12 +61,12 @@ pub fn condition(worst: &mut Least, at: u64, found: Option<TypedNode>) -> Expr
 }
 
 /// Converted to a type, else a fault at its first token.
-pub fn to_type(worst: &mut Least, t: CType, at: u64, found: Option<TypedNode>) -> Expr
-    ensures { Values worst.old worst.new found result (definitions.to_type t at) }
+pub fn to_type(faults: &mut LeastFault, t: CType, at: u64, found: Option<TypedNode>) -> Expr
+    ensures { Values faults.old faults.new found result (definitions.to_type t at) }
 {
     match found {
         Some(a) => {
-            unless_holds(worst, can_become(t, &a), at, Fault::TypeClash);
+            unless_holds(faults, can_become(t, &a), at, Fault::TypeClash);
             as_type(t, a)
         }
         None => nothing(),
@@ -74,12 +74,12 @@ pub fn to_type(worst: &mut Least, t: CType, at: u64, found: Option<TypedNode>) -
 }
 
 /// An integer, converted to int: the answer of a filter.
-pub fn to_answer(worst: &mut Least, at: u64, found: Option<TypedNode>) -> Expr
-    ensures { Values worst.old worst.new found result (definitions.to_answer at) }
+pub fn to_answer(faults: &mut LeastFault, at: u64, found: Option<TypedNode>) -> Expr
+    ensures { Values faults.old faults.new found result (definitions.to_answer at) }
 {
     match found {
         Some(a) => {
-            unless_holds(worst, is_integer(a.of), at, Fault::TypeClash);
+            unless_holds(faults, is_integer(a.of), at, Fault::TypeClash);
             as_type(plain(Base::Int), a)
         }
         None => nothing(),

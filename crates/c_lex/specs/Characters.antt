@@ -1,4 +1,7 @@
 -- CharacterConstant constants of one character (C11, 6.4.4.4).
+--
+-- A character is a byte from 32 to 126, an escape, or `\x` and two digits, between quotes, as a
+-- signed char (C11, 6.4.4.4).
 use Rattle.std.specs.Prelude.{ℕ, ℤ, pos, ◌+◌, ◌*◌, ◌-ℤ◌, Bool, ◌&&◌, ◌==◌, not, nat_le, nat_lt}
 use Rattle.std.specs.Prelude.{if◌then◌else◌, List, [], ◌∷◌, Option, Some, None, option_map}
 use Rattle.c_lex.specs.declared.token.Kind.TheVariants as kinds

@@ -1,4 +1,7 @@
 -- White space and comments (C11, 6.4 and 6.4.9).
+--
+-- Comments end with the first `*/`, and those that begin with `//` before the line feed (C11,
+-- 6.4.9).
 use Rattle.std.specs.Prelude.{ℕ, Bool, ◌&&◌, ◌||◌, ◌==◌, not, nat_le, if◌then◌else◌, List, [], ◌∷◌}
 use Rattle.std.specs.Prelude.{Option, Some, None}
 use Rattle.c_lex.specs.declared.word.Word.{Word}

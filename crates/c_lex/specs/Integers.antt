@@ -1,4 +1,7 @@
 -- Integer literals (C11, 6.4.4.1).
+--
+-- An integer is digits of a base, then a suffix. The value is the sum of the digits by their
+-- places; the type is the first of its list that holds it (C11, 6.4.4.1; `long` has 32 bits).
 use Rattle.std.specs.Prelude.{ℕ, ◌+◌, ◌-◌, ◌*◌, ◌^◌, Bool, true, false, ◌&&◌, ◌||◌, ◌==◌, nat_le}
 use Rattle.std.specs.Prelude.{nat_lt, if◌then◌else◌, List, [], ◌∷◌, length, Option, Some, None}
 use Rattle.std.specs.Prelude.{option_map, find}

@@ -1,4 +1,6 @@
 -- Keywords (C11, 6.4.1; Microsoft C reference, "try-except statement", "try-finally statement").
+--
+-- The main definition: `spelling`.
 use Rattle.std.specs.Prelude.{ℕ, List, [], ◌∷◌, Option, find, codes}
 use Rattle.std.specs.Str.{bytes_eq}
 use Rattle.c_lex.specs.declared.keyword.Keyword.{Keyword}
@@ -8,6 +10,8 @@ use Rattle.c_lex.specs.declared.keyword.Keyword.TheVariants.{Unsigned, Void, Whi
 use Rattle.c_lex.specs.declared.keyword.Keyword.TheVariants.{Finally, Leave}
 use Rattle.c_lex.specs.declared.keyword.Keyword.TheVariants.{GetExceptionInformation}
 
+-- the bytes of each punctuator, keyword and reserved word (C11, 6.4.1 and 6.4.6; Microsoft C
+-- reference).
 abbrev pub spelling : Keyword → List ℕ
 spelling Break = codes "break"
 spelling Char = codes "char"

@@ -1,4 +1,6 @@
 -- The longest word at the front of a text.
+--
+-- The main definition: `IsLongest`.
 use Rattle.std.specs.Prelude.{◌≡◌, ℕ, Bool, ◌&&◌, true, if◌then◌else◌, List, [], ◌∷◌, ◌++◌, Option}
 use Rattle.std.specs.Prelude.{Some, None}
 

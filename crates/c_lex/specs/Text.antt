@@ -1,4 +1,6 @@
 -- A text as a list of tokens.
+--
+-- The main definitions: `Cut`, `IsTokens`, `IsLexicalFault`.
 use Rattle.std.specs.Prelude.{◌≡◌, ℕ, ◌+◌, List, [], ◌∷◌, ◌++◌, length}
 use Rattle.c_lex.specs.declared.token.Kind.{Kind}
 use Rattle.c_lex.specs.declared.token.Token.{Token}

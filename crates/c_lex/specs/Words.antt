@@ -1,4 +1,6 @@
 -- The words that a text is made of: tokens, white space, comments, and what is refused.
+--
+-- The main definition: `word`.
 use Rattle.std.specs.Prelude.{ℕ, ◌==◌, if◌then◌else◌, List, [], ◌∷◌, Option, Some, None, option_map}
 use Rattle.c_lex.specs.declared.punctuator.Punctuator.{Punctuator}
 use Rattle.c_lex.specs.declared.token.Kind.TheVariants as kinds
@@ -46,7 +48,8 @@ word_from b bs =
     else (if is_space b then alone Blank bs
     else punctuator b bs)))))
 
--- what a whole word is
+-- what a whole list of bytes is: a token of a kind, white space or a comment, or a fault; nothing
+-- for every other list (C11, 6.4)
 abbrev pub word : List ℕ → Option Word
 word [] = None
 word (b ∷ bs) = word_from b bs

@@ -3,7 +3,7 @@ use Rattle.std.proofs.Common.{◌≡◌, ℕ, ◌+◌, ◌<◌, ◌≤◌, List,
 use Rattle.std.proofs.lemmas.List.{drop_all, map-append}
 use Rattle.std.specs.Prelude.{not, option_map}
 use Rattle.c_locals.proofs.Lemmas.{next_of, kept_more}
-use Rattle.c_locals.specs.Words.{Expr, declared, statement, layer, Least, least_of, kept, SymbolTable, with_block, environment, Walk, Resolves, declares, MayEvaluate, numbering, Duplicate, TypeClash, Scope, spelled, Environment, Optional, ResolvedStatements, declare, declare_all, is_taken, names_only, unless_holds, with_name, is_scalar, size_of, Base, CType, local, local_entity, variable_of, elements_of, length_faults, local_value_in}
+use Rattle.c_locals.specs.Words.{Expr, declared, statement, layer, LeastFault, least_of, kept, SymbolTable, with_block, environment, FunctionState, Resolves, declares, MayEvaluate, numbering, Duplicate, TypeClash, Scope, spelled, Environment, Optional, ResolvedStatements, declare, declare_all, is_taken, names_only, unless_holds, with_name, is_scalar, size_of, Base, CType, local, local_entity, variable_of, elements_of, length_faults, local_value_in}
 use Rattle.c_checked.specs.declared.statement.Declared.{Declared as Declared'}
 use Rattle.c_checked.specs.declared.statement.Stmt.TheVariants as statements
 use Rattle.c_checked.specs.declared.statement.Stmt.TheOpen as opened
@@ -15,16 +15,17 @@ use Rattle.c_locals.proofs.WalkResults.{StillToMake, one_made}
 use Rattle.c_syntax.specs.declared.statement.Local.{Local as Local'}
 
 -- what is still to be declared from here
-abbrev pub rest_of : Environment → Base → List Local' → Scope → Walk → ResolvedStatements
+abbrev pub rest_of : Environment → Base → List Local' → Scope → FunctionState → ResolvedStatements
 rest_of a base ls block w = declare_all a base (map local ls) block (numbering w)
 
-abbrev pub StillToDeclare : Environment → Base → ResolvedStatements → Walk → List Declared'
-    → List Local' → Scope → Walk → Type 0
-StillToDeclare a base whole before made ls block w = StillToMake whole (least_of before.worst)
-    (map declares made) (least_of w.worst) (rest_of a base ls block w)
+abbrev pub StillToDeclare : Environment → Base → ResolvedStatements → FunctionState → List Declared'
+    → List Local' → Scope → FunctionState → Type 0
+StillToDeclare a base whole before made ls block w = StillToMake whole (least_of before.faults)
+    (map declares made) (least_of w.faults) (rest_of a base ls block w)
 
 pub one_declared : (e : Environment') (base : Base) (whole : ResolvedStatements)
-    (start t t' : SymbolTable) (before w w' : Walk) (made made' : List Declared') (d : Declared')
+    (start t t' : SymbolTable) (before w w' : FunctionState) (made made' : List Declared')
+    (d : Declared')
     (ls : List Local') (i : ℕ) (l : Local')
     → i < length ls → l ≡ get_or ls i l → t ≡ with_block start t.block
     → Resolves t t' w w' (declares d ∷ [])
@@ -45,17 +46,18 @@ one_declared e base whole start t t' before w w' made made' d ls i l lt is same 
       one.names ∙ ap (λ (k : SymbolTable). with_block k
           (declare a base (local l) t.block (numbering w)).block) same
           ∙ ap (with_block start) (sym (ap (λ (k : SymbolTable). k.block) one.names)),
-      subst (λ k. StillToMake whole (least_of before.worst) k (least_of w'.worst)
+      subst (λ k. StillToMake whole (least_of before.faults) k (least_of w'.faults)
           (rest_of a base ends t'.block w')) (sym (ap (map declares) more
           ∙ map-append declares made (d ∷ [])))
           (one_made whole (declare a base (local l) t.block (numbering w))
-          (declare_all a base (map local ends)) (least_of before.worst) (least_of w.worst)
-          (least_of w'.worst) (map declares made) (declares d ∷ []) t'.block (numbering w')
+          (declare_all a base (map local ends)) (least_of before.faults) (least_of w.faults)
+          (least_of w'.faults) (map declares made) (declares d ∷ []) t'.block (numbering w')
           one.done one.counts (ap (λ (k : SymbolTable). k.block) one.names) one.faults now),
     )
 
 pub all_declared : (a : Environment) (base : Base) (whole : ResolvedStatements)
-    (start t : SymbolTable) (before w : Walk) (made : List Declared') (ls : List Local') (i : ℕ)
+    (start t : SymbolTable) (before w : FunctionState) (made : List Declared') (ls : List Local')
+    (i : ℕ)
     → length ls ≤ i → t ≡ with_block start t.block
     → StillToDeclare a base whole before made (drop i ls) t.block w
     → Resolves start t before w (map declares made) whole
@@ -87,7 +89,7 @@ statements_are (d ∷ ds) = ap (λ s. s ∷ map statement (map (λ x. statements
     (declare_is d) ∙ ap (λ k. declares d ∷ k) (statements_are ds)
 
 -- what was made is the same in other terms
-pub resolves_as : (was now : SymbolTable) (before after : Walk)
+pub resolves_as : (was now : SymbolTable) (before after : FunctionState)
     (made made' : List checked.Statement) (r : ResolvedStatements) → made' ≡ made
     → Resolves was now before after made r → Resolves was now before after made' r
 resolves_as was now before after made made' r is
@@ -95,7 +97,8 @@ resolves_as was now before after made made' r is
 
 -- ---- one local
 
-pub declared_local : (a : Environment') (base : Base) (l : Local') (w w' : Walk) (middle : Least)
+pub declared_local : (a : Environment') (base : Base) (l : Local') (w w' : FunctionState)
+    (middle : LeastFault)
     (n : ℕ) (v : Option Expr) (t t' : SymbolTable)
     → (let of : CType = record { base = base; pointers = l.pointers } in
     let name = spelled a.text.now l.name in
@@ -104,10 +107,10 @@ pub declared_local : (a : Environment') (base : Base) (l : Local') (w w' : Walk)
     → w'.sizes.items ≡ w.sizes.items ++ size_of of ∷ []
     → w'.variables.items ≡ w.variables.items ++ variable_of of (elements_of l.length) ∷ []
     → w'.number ≡ w.number
-    → least_of middle ≡ kept (least_of w.worst)
+    → least_of middle ≡ kept (least_of w.faults)
     (unless_holds (not (is_taken t.block name)) l.name.start Duplicate
     ++ unless_holds (is_scalar of) l.name.start TypeClash ++ length_faults l.length)
-    → MayEvaluate middle w'.worst v (local_value_in of l.length a t' l.initialiser)
+    → MayEvaluate middle w'.faults v (local_value_in of l.length a t' l.initialiser)
     → Resolves t t' w w' (declares (record { local = n; stacked = None; value = v }) ∷ [])
     (declare (environment a t.around) base (local l) t.block (numbering w)))
 declared_local a base l w w' middle n v t t' at named sized varied numbered checks valued =
@@ -118,8 +121,8 @@ declared_local a base l w w' middle n v t t' at named sized varied numbered chec
     let is : t' ≡ made = named
     ∙ ap (λ k. with_block t (with_name t.block name (local_entity k of l.length))) at in
     let rule : SymbolTable → Optional = λ s. local_value_in of l.length a s l.initialiser in
-    let own : MayEvaluate middle w'.worst v (rule made) = subst
-    (λ s. MayEvaluate middle w'.worst v (rule s)) is valued in
+    let own : MayEvaluate middle w'.faults v (rule made) = subst
+    (λ s. MayEvaluate middle w'.faults v (rule s)) is valued in
     let declared_as : ℕ → Option Expression → List checked.Statement = λ k o.
     checked.Declare (record { local = k; stacked = None; value = o }) ∷ [] in
     record {
@@ -127,7 +130,7 @@ declared_local a base l w w' middle n v t t' at named sized varied numbered chec
           ∙ ap (declared_as (length w.sizes.items)) own.value;
       counts = λ i. record { sizes = sized i; variables = varied i; number = numbered i };
       names = is;
-      faults = kept_more (least_of w.worst) (least_of middle) (least_of w'.worst)
+      faults = kept_more (least_of w.faults) (least_of middle) (least_of w'.faults)
           (unless_holds (not (is_taken t.block name)) l.name.start Duplicate
           ++ unless_holds (is_scalar of) l.name.start TypeClash ++ length_faults l.length)
           (rule made).faults checks own.faults;

@@ -50,10 +50,10 @@ pub placed : (text : List ℕ) (base : Base) (g : Global') (f f' : File') (d : F
     (global_entity of (first_data + length (padded (bytes_in of) f.bytes.items)) g.length))
     → f'.bytes.items ≡ padded (bytes_in of) f.bytes.items ++ own.bytes
     → f'.functions ≡ f.functions
-    → w1 ≡ kept (least_of f.worst) (unless_holds (not (is_taken block n)) g.name.start Duplicate)
+    → w1 ≡ kept (least_of f.faults) (unless_holds (not (is_taken block n)) g.name.start Duplicate)
     → w2 ≡ kept w1 (unless_holds (is_scalar of) g.name.start TypeClash)
     → w3 ≡ kept w2 (length_faults g.length)
-    → least_of f'.worst ≡ kept w3 own.faults
+    → least_of f'.faults ≡ kept w3 own.faults
     → IsFile f d → IsFile f' (with_global text base (trees.global g) d))
 placed text base g f f' d w1 w2 w3 names bytes functions k1 k2 k3 k4 h =
     at_file (λ k. IsFile f' (with_global text base (trees.global g) k)) f d h
@@ -62,7 +62,7 @@ placed text base g f f' d w1 w2 w3 names bytes functions k1 k2 k3 k4 h =
       around = ap (λ (k : SymbolTable). k.around) names ∙ h.around;
       bytes = bytes;
       functions = functions;
-      faults = five_kept None (least_of f.worst) w1 w2 w3 (least_of f'.worst) d.faults
+      faults = five_kept None (least_of f.faults) w1 w2 w3 (least_of f'.faults) d.faults
           (unless_holds (not (is_taken f.names.block (spelled text g.name)))
           g.name.start
           Duplicate)

@@ -1,11 +1,11 @@
 -- Rules on the value of an expression, after the expression's own faults.
 use Rattle.std.proofs.Common.{◌≡◌, ℕ, Bool, true, false, cond, ◌++◌, Option, Some, None, refl, sym, ap, ◌∙◌, subst}
 use Rattle.std.specs.Prelude.{option_map}
-use Rattle.c_locals.specs.Words.{Expr, Least, least_of, kept, Evaluates, MayEvaluate, resolved_at, TypeClash, ResolvedExpression, fault_at, Scope, Environment, Value, Optional, returned, to_type, is_void, Expression, start, typed_node}
+use Rattle.c_locals.specs.Words.{Expr, LeastFault, least_of, kept, Evaluates, MayEvaluate, resolved_at, TypeClash, ResolvedExpression, fault_at, Scope, Environment, Value, Optional, returned, to_type, is_void, Expression, start, typed_node}
 use Rattle.c_expressions.specs.Values.{Values}
 use Rattle.c_types.specs.declared.typed.TypedNode.{TypedNode}
 
-pub ruled : (before middle after : Least) (found : Option TypedNode) (j : ResolvedExpression)
+pub ruled : (before middle after : LeastFault) (found : Option TypedNode) (j : ResolvedExpression)
     (e : Expr) (rule : ResolvedExpression → Value)
     → option_map typed_node found ≡ j.found → least_of middle ≡ kept (least_of before) j.faults
     → Values middle after found e rule → Evaluates before after e (rule j)
@@ -19,7 +19,8 @@ ruled before middle after found j e rule is first v =
     }
 
 -- a rule whose place is that of the first token
-pub ruled_at : (before middle after : Least) (found : Option TypedNode) (j : ResolvedExpression)
+pub ruled_at : (before middle after : LeastFault) (found : Option TypedNode)
+    (j : ResolvedExpression)
     (e : Expr) (rule : ℕ → ResolvedExpression → Value) (at place : ℕ)
     → at ≡ place → option_map typed_node found ≡ j.found
     → least_of middle ≡ kept (least_of before) j.faults → Values middle after found e (rule at)
@@ -40,7 +41,7 @@ returned_by a block at x void =
     })
 
 pub nothing_returned : (a : Environment) (block : Scope) (at : ℕ) (x : Expression)
-    (before after : Least)
+    (before after : LeastFault)
     → is_void a.returns ≡ true → least_of after
     ≡ kept (least_of before) ((resolved_at a block x).faults ++ fault_at at TypeClash)
     → MayEvaluate before after None (returned a block at (Some x))
@@ -49,7 +50,7 @@ nothing_returned a block at x before after void k = subst
     (record { value = refl; faults = k })
 
 pub value_returned : (a : Environment) (block : Scope) (at : ℕ) (x : Expression)
-    (before after : Least) (e : Expr)
+    (before after : LeastFault) (e : Expr)
     → is_void a.returns ≡ false → Evaluates before after e
     (to_type a.returns (start x) (resolved_at a block x))
     → MayEvaluate before after (Some e) (returned a block at (Some x))

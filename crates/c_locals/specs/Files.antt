@@ -9,7 +9,7 @@ pub record IsFile (f : File') (d : File) : Type 0 where
   pub around : f.names.around ≡ []
   pub bytes : f.bytes.items ≡ d.bytes
   pub functions : f.functions ≡ d.functions
-  pub faults : least_of f.worst ≡ kept None d.faults
+  pub faults : least_of f.faults ≡ kept None d.faults
 
 -- after it the file is what the rule makes of the file before, whatever that is
 abbrev pub DeclaresByRule : File' → File' → (File → File) → Type 0

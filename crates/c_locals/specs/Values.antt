@@ -3,16 +3,16 @@ use Rattle.std.specs.Prelude.{◌≡◌, ℕ, ◌+◌, Option, Some, None, optio
 use Rattle.c_checked.specs.declared.expression.Expr.{Expr}
 use Rattle.c_checked.specs.Expression.{Expression, expression}
 use Rattle.c_checked.specs.Statement.{Filter, Always, Funclet}
-use Rattle.c_expressions.specs.declared.least.Least.{Least}
+use Rattle.c_expressions.specs.declared.least.LeastFault.{LeastFault}
 use Rattle.c_expressions.specs.Kept.{least_of, kept}
 use Rattle.c_resolved.specs.Statements.{Value, Optional, ResolvedFilter}
 
 -- a value, and its faults after those before
-pub record Evaluates (before after : Least) (e : Expr) (v : Value) : Type 0 where
+pub record Evaluates (before after : LeastFault) (e : Expr) (v : Value) : Type 0 where
   pub value : expression e ≡ v.value
   pub faults : least_of after ≡ kept (least_of before) v.faults
 
-pub record MayEvaluate (before after : Least) (e : Option Expr) (v : Optional) : Type 0 where
+pub record MayEvaluate (before after : LeastFault) (e : Option Expr) (v : Optional) : Type 0 where
   pub value : option_map expression e ≡ v.value
   pub faults : least_of after ≡ kept (least_of before) v.faults
 
@@ -27,7 +27,7 @@ number_after number None = number
 number_after number (Some e) = number + 1
 
 -- the answer of a filter, whatever its number is
-pub record ResolvesFilter (before after : Least) (e : Option Expr) (r : ℕ
+pub record ResolvesFilter (before after : LeastFault) (e : Option Expr) (r : ℕ
     → ResolvedFilter) : Type 0 where
   pub filter : (number : ℕ) → filter_with number (option_map expression e) ≡ (r number).filter
   pub number : (number : ℕ) → number_after number (option_map expression e) ≡ (r number).number

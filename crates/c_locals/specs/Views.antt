@@ -4,7 +4,7 @@ use Rattle.c_expressions.specs.SymbolTables.{SymbolTable, names_around}
 use Rattle.c_locals.specs.declared.environment.Environment.{Environment as Environment'}
 use Rattle.c_locals.specs.declared.environment.Reach.{Reach as Reach'}
 use Rattle.c_locals.specs.declared.environment.Reach.TheVariants as reaches
-use Rattle.c_locals.specs.declared.environment.Walk.{Walk}
+use Rattle.c_locals.specs.declared.environment.FunctionState.{FunctionState}
 use Rattle.c_resolved.specs.Expressions.{ResolvedExpression, resolve_expression}
 use Rattle.c_resolved.specs.Scopes.{Scope}
 use Rattle.c_resolved.specs.Statements.{Reach, Nowhere, Beyond, Near, past_finally, Environment, Numbering, Value, Optional, optional, local_value, names_at, filter_names}
@@ -32,7 +32,7 @@ environment a around =
       abnormal = a.abnormal;
     }
 
-abbrev pub numbering : Walk → Numbering
+abbrev pub numbering : FunctionState → Numbering
 numbering w =
     record { sizes = w.sizes.items; variables = w.variables.items; number = w.number }
 
@@ -50,8 +50,8 @@ abbrev pub in_handler : Environment → Environment
 in_handler a = record a { code = true }
 
 -- the block of a `__finally`
-abbrev pub in_last : Environment → Environment
-in_last a =
+abbrev pub in_finally : Environment → Environment
+in_finally a =
     record a {
       loop = past_finally a.loop;
       body = past_finally a.body;

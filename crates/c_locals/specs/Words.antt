@@ -15,9 +15,9 @@ pub use Rattle.c_types.specs.Views.{typed_node}
 pub use Rattle.c_expressions.specs.Kept.{least_of, kept}
 pub use Rattle.c_expressions.specs.SymbolTables.{SymbolTable, with_block}
 pub use Rattle.c_expressions.specs.Views.{entity}
-pub use Rattle.c_expressions.specs.declared.least.Least.{Least}
+pub use Rattle.c_expressions.specs.declared.least.LeastFault.{LeastFault}
 pub use Rattle.c_locals.specs.Values.{MayEvaluate, Evaluates, ResolvesFilter}
 pub use Rattle.c_locals.specs.Views.{numbering, local_value_in, resolved_at, filter_resolved_at, environment}
 pub use Rattle.c_locals.specs.WalkResults.{Resolves, declares, IsBeginning}
 pub use Rattle.c_locals.specs.declared.declarations.Beginning.{Beginning}
-pub use Rattle.c_locals.specs.declared.environment.Walk.{Walk}
+pub use Rattle.c_locals.specs.declared.environment.FunctionState.{FunctionState}

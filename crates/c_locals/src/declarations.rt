@@ -15,12 +15,12 @@ ghost use Rattle.c_locals.specs.Values.{MayEvaluate};
 ghost use Rattle.c_locals.specs.Views.{environment, numbering, local_value_in};
 ghost use Rattle.c_syntax.specs.Statement as trees;
 
-use crate::environment::{Environment, Walk};
+use crate::environment::{Environment, FunctionState};
 use crate::evaluated::{any_or_none, refused_initialiser, to_type_or_none};
 use crate::lengths::check_length;
 use c_checked::expression::Expr as Checked;
 use c_checked::statement::{Declared, Stmt};
-use c_expressions::least::Least;
+use c_expressions::least::LeastFault;
 use c_expressions::scopes::{self, Entity, is_taken, spelled};
 use c_expressions::symbol_table::SymbolTable;
 use c_expressions::values::unless_holds;
@@ -45,22 +45,22 @@ pub struct Beginning {
 /// The rules of a declared local: its name is a new one, its type has values, and an array has an
 /// element or more.
 fn check_local<'t>(
-    worst: &mut Least,
+    faults: &mut LeastFault,
     text: &'t [u8],
     names: &SymbolTable<'t>,
     name: Identifier,
     of: CType,
     length: Option<Length>,
 )
-    ensures { AddsFaults worst.old worst.new
+    ensures { AddsFaults faults.old faults.new
         (unless_holds (not (is_taken names.now.block (spelled text.now name)))
         name.start Duplicate
         ++ unless_holds (is_scalar of) name.start TypeClash ++ length_faults length) }
 {
     let taken = is_taken(spelled(text, name), names);
-    unless_holds(worst, !taken, name.start, Fault::Duplicate);
-    unless_holds(worst, is_scalar(of), name.start, Fault::TypeClash);
-    check_length(worst, length);
+    unless_holds(faults, !taken, name.start, Fault::Duplicate);
+    unless_holds(faults, is_scalar(of), name.start, Fault::TypeClash);
+    check_length(faults, length);
 }
 
 /// What the name of a local means.
@@ -89,18 +89,18 @@ fn value_of<'t>(
     alloc: Global,
     env: &Environment<'t>,
     names: &SymbolTable<'t>,
-    worst: &mut Least,
+    faults: &mut LeastFault,
     of: CType,
     length: Option<Length>,
     initialiser: &Option<Expr>,
 ) -> Result<Option<Checked>, AllocError>
-    ensures { IfOk result (λ r. MayEvaluate worst.old worst.new r
+    ensures { IfOk result (λ r. MayEvaluate faults.old faults.new r
         (local_value_in of length env.now names.now initialiser.now)) }
 {
     match length {
-        None => to_type_or_none(alloc, env, names, worst, of, initialiser),
+        None => to_type_or_none(alloc, env, names, faults, of, initialiser),
         Some(_) => {
-            refused_initialiser(alloc, env, names, worst, initialiser)?;
+            refused_initialiser(alloc, env, names, faults, initialiser)?;
             Ok(None)
         }
     }
@@ -119,28 +119,28 @@ fn declare<'t>(
     base: Base,
     local: &Local,
     names: &mut SymbolTable<'t>,
-    walk: &mut Walk,
+    state: &mut FunctionState,
 ) -> Result<Declared, AllocError>
-    ensures { IfOk result (λ d. Resolves names.old names.new walk.old walk.new (declares d ∷ [])
+    ensures { IfOk result (λ d. Resolves names.old names.new state.old state.new (declares d ∷ [])
         (definitions.declare (environment env.now names.old.around) base (trees.local local.now)
-        names.old.block (numbering walk.old))) }
+        names.old.block (numbering state.old))) }
 {
     let of = CType {
         base,
         pointers: local.pointers,
     };
-    let number = count_of(&walk.sizes);
+    let number = count_of(&state.sizes);
     let length = local.length;
-    check_local(&mut walk.worst, env.text, names, local.name, of, length);
+    check_local(&mut state.faults, env.text, names, local.name, of, length);
     scopes::declare(
         spelled(env.text, local.name),
         meaning_of(number, of, length),
         names,
     )?;
-    walk.sizes.push(size_of(of))?;
-    walk.variables.push(variable_of(of, length))?;
-    let worst = &mut walk.worst;
-    let value = value_of(alloc, env, names, worst, of, length, &local.initialiser)?;
+    state.sizes.push(size_of(of))?;
+    state.variables.push(variable_of(of, length))?;
+    let faults = &mut state.faults;
+    let value = value_of(alloc, env, names, faults, of, length, &local.initialiser)?;
     Ok(Declared {
         local: number,
         stacked: None,
@@ -155,17 +155,17 @@ fn declare_each<'t>(
     base: Base,
     locals: &[Local],
     names: &mut SymbolTable<'t>,
-    walk: &mut Walk,
+    state: &mut FunctionState,
 ) -> Result<Vec<Declared>, AllocError>
-    ensures { IfOk result (λ v. Resolves names.old names.new walk.old walk.new
+    ensures { IfOk result (λ v. Resolves names.old names.new state.old state.new
         (map declares v.items)
         (definitions.declare_all (environment env.now names.old.around) base
         (map trees.local locals.now)
-        names.old.block (numbering walk.old))) }
+        names.old.block (numbering state.old))) }
 {
     let mut made = Vec::new(alloc);
     for local in locals {
-        made.push(declare(alloc, env, base, local, names, walk)?)?;
+        made.push(declare(alloc, env, base, local, names, state)?)?;
     }
     Ok(made)
 }
@@ -184,15 +184,15 @@ pub fn declare_all<'t>(
     base: Base,
     locals: &[Local],
     names: &mut SymbolTable<'t>,
-    walk: &mut Walk,
+    state: &mut FunctionState,
 ) -> Result<Vec<Stmt>, AllocError>
-    ensures { IfOk result (λ v. Resolves names.old names.new walk.old walk.new
+    ensures { IfOk result (λ v. Resolves names.old names.new state.old state.new
         (map statement v.items)
         (definitions.declare_all (environment env.now names.old.around) base
         (map trees.local locals.now)
-        names.old.block (numbering walk.old))) }
+        names.old.block (numbering state.old))) }
 {
-    let made = declare_each(alloc, env, base, locals, names, walk)?;
+    let made = declare_each(alloc, env, base, locals, names, state)?;
     as_statements(alloc, made)
 }
 
@@ -202,13 +202,13 @@ pub fn for_initialiser<'t>(
     env: &Environment<'t>,
     initialiser: &ForInitialiser,
     names: &mut SymbolTable<'t>,
-    walk: &mut Walk,
+    state: &mut FunctionState,
 ) -> Result<Beginning, AllocError>
     requires { names.old.block ≡ [] }
-    ensures { IfOk result (λ b. IsBeginning names.old names.new walk.old walk.new b
+    ensures { IfOk result (λ b. IsBeginning names.old names.new state.old state.new b
         (definitions.resolve_for_initialiser (environment env.now names.old.around)
         (trees.first initialiser.now)
-        (numbering walk.old))) }
+        (numbering state.old))) }
 {
     match initialiser {
         ForInitialiser::Declaration(declaration) => {
@@ -218,7 +218,7 @@ pub fn for_initialiser<'t>(
                 declaration.base,
                 &declaration.locals,
                 names,
-                walk,
+                state,
             )?;
             Ok(Beginning {
                 declared,
@@ -226,7 +226,7 @@ pub fn for_initialiser<'t>(
             })
         }
         ForInitialiser::Expression(e) => {
-            let first = any_or_none(alloc, env, names, &mut walk.worst, e)?;
+            let first = any_or_none(alloc, env, names, &mut state.faults, e)?;
             Ok(Beginning {
                 declared: Vec::new(alloc),
                 first,

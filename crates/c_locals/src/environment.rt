@@ -7,10 +7,10 @@ ghost use Rattle.c_resolved.specs.Statements.{filter_names, names_at, with_numbe
 ghost use Rattle.c_expressions.specs.Kept.{AddsFaults};
 ghost use Rattle.c_expressions.specs.Views.{names_of};
 ghost use Rattle.c_locals.specs.Views.{reach, environment, numbering, in_loop, in_body};
-ghost use Rattle.c_locals.specs.Views.{in_handler, in_last};
+ghost use Rattle.c_locals.specs.Views.{in_handler, in_finally};
 
 use c_expressions::context::Context;
-use c_expressions::least::Least;
+use c_expressions::least::LeastFault;
 use c_expressions::symbol_table::SymbolTable;
 use c_operations::operation::Size;
 use c_resolved::fault::Fault;
@@ -48,7 +48,7 @@ pub struct Environment<'t> {
 
 /// What a walk over a function carries along.
 #[derive(Drop)]
-pub struct Walk {
+pub struct FunctionState {
     /// The sizes of its locals so far, parameters first.
     pub sizes: Vec<Size>,
     /// These variables.
@@ -56,16 +56,16 @@ pub struct Walk {
     /// The number of the next filter or `__finally` block.
     pub number: u32,
     /// The least fault so far.
-    pub worst: Least,
+    pub faults: LeastFault,
 }
 
-impl Walk {
+impl FunctionState {
     /// The number of a filter or a `__finally` block, each once.
     pub fn next_number(&mut self) -> Result<u32, AllocError>
         ensures number { IfOk result (λ n. n ≡ self.old.number) }
         ensures counts { OnOk result (numbering self.new ≡ with_number (numbering self.old)
             (self.old.number + 1)) }
-        ensures faults { self.new.worst ≡ self.old.worst }
+        ensures faults { self.new.faults ≡ self.old.faults }
     {
         let number = self.number;
         match number.checked_add(1) {
@@ -90,12 +90,12 @@ fn past_finally(found: Reach) -> Reach
 }
 
 /// A jump: a fault where it finds nothing, and another where it leaves a `__finally` block.
-pub fn jump(worst: &mut Least, found: Reach, fault: Fault, at: u64)
-    ensures { AddsFaults worst.old worst.new (definitions.jump (reach found) fault at) }
+pub fn jump(faults: &mut LeastFault, found: Reach, fault: Fault, at: u64)
+    ensures { AddsFaults faults.old faults.new (definitions.jump (reach found) fault at) }
 {
     match found {
-        Reach::Nowhere => worst.add(at, fault),
-        Reach::Beyond => worst.add(at, Fault::JumpOutOfFinally),
+        Reach::Nowhere => faults.add(at, fault),
+        Reach::Beyond => faults.add(at, Fault::JumpOutOfFinally),
         Reach::Near => {}
     }
 }
@@ -131,9 +131,9 @@ pub fn in_handler<'t>(env: &Environment<'t>) -> Environment<'t>
 }
 
 /// Inside a `__finally` block.
-pub fn in_last<'t>(env: &Environment<'t>) -> Environment<'t>
+pub fn in_finally<'t>(env: &Environment<'t>) -> Environment<'t>
     ensures { (around : List Scope) → environment result around ≡
-        in_last (environment env.now around) }
+        in_finally (environment env.now around) }
 {
     Environment {
         loops: past_finally(env.loops),

@@ -13,7 +13,7 @@ ghost use Rattle.c_types.specs.Views.{FindsTyped};
 use crate::environment::{Environment, context};
 use c_checked::expression::Expr as Checked;
 use c_expressions::expressions::resolve;
-use c_expressions::least::Least;
+use c_expressions::least::LeastFault;
 use c_expressions::symbol_table::SymbolTable;
 use c_expressions::values;
 use c_resolved::fault::Fault;
@@ -27,15 +27,15 @@ fn resolved_at<'t>(
     alloc: Global,
     env: &Environment<'t>,
     names: &SymbolTable<'t>,
-    worst: &mut Least,
+    faults: &mut LeastFault,
     e: &Expr,
 ) -> Result<Option<TypedNode>, AllocError>
     ensures found { IfOk result (λ r. FindsTyped r
         (resolved_in env.now names.now e.now).found) }
-    ensures faults { OnOk result (AddsFaults worst.old worst.new
+    ensures faults { OnOk result (AddsFaults faults.old faults.new
         (resolved_in env.now names.now e.now).faults) }
 {
-    resolve(alloc, &context(env, names), worst, e)
+    resolve(alloc, &context(env, names), faults, e)
 }
 
 /// Any value, or none.
@@ -43,14 +43,14 @@ pub fn any<'t>(
     alloc: Global,
     env: &Environment<'t>,
     names: &SymbolTable<'t>,
-    worst: &mut Least,
+    faults: &mut LeastFault,
     e: &Expr,
 ) -> Result<Checked, AllocError>
-    ensures { IfOk result (λ r. Evaluates worst.old worst.new r
+    ensures { IfOk result (λ r. Evaluates faults.old faults.new r
         (definitions.any (resolved_in env.now names.now e.now))) }
 {
-    let found = resolved_at(alloc, env, names, worst, e)?;
-    Ok(values::any(worst, found))
+    let found = resolved_at(alloc, env, names, faults, e)?;
+    Ok(values::any(faults, found))
 }
 
 /// A condition: an integer or a pointer, else a fault at the keyword.
@@ -58,15 +58,15 @@ pub fn condition<'t>(
     alloc: Global,
     env: &Environment<'t>,
     names: &SymbolTable<'t>,
-    worst: &mut Least,
+    faults: &mut LeastFault,
     at: u64,
     e: &Expr,
 ) -> Result<Checked, AllocError>
-    ensures { IfOk result (λ r. Evaluates worst.old worst.new r
+    ensures { IfOk result (λ r. Evaluates faults.old faults.new r
         (definitions.condition at (resolved_in env.now names.now e.now))) }
 {
-    let found = resolved_at(alloc, env, names, worst, e)?;
-    Ok(values::condition(worst, at, found))
+    let found = resolved_at(alloc, env, names, faults, e)?;
+    Ok(values::condition(faults, at, found))
 }
 
 /// A value that is converted to a type, else a fault at its first token.
@@ -74,16 +74,16 @@ pub fn to_type<'t>(
     alloc: Global,
     env: &Environment<'t>,
     names: &SymbolTable<'t>,
-    worst: &mut Least,
+    faults: &mut LeastFault,
     t: CType,
     e: &Expr,
 ) -> Result<Checked, AllocError>
-    ensures { IfOk result (λ r. Evaluates worst.old worst.new r
+    ensures { IfOk result (λ r. Evaluates faults.old faults.new r
         (definitions.to_type t (start (expression e.now))
         (resolved_in env.now names.now e.now))) }
 {
-    let found = resolved_at(alloc, env, names, worst, e)?;
-    Ok(values::to_type(worst, t, e.start(), found))
+    let found = resolved_at(alloc, env, names, faults, e)?;
+    Ok(values::to_type(faults, t, e.start(), found))
 }
 
 /// Any value where there is an expression.
@@ -91,15 +91,15 @@ pub fn any_or_none<'t>(
     alloc: Global,
     env: &Environment<'t>,
     names: &SymbolTable<'t>,
-    worst: &mut Least,
+    faults: &mut LeastFault,
     e: &Option<Expr>,
 ) -> Result<Option<Checked>, AllocError>
-    ensures { IfOk result (λ r. MayEvaluate worst.old worst.new r
+    ensures { IfOk result (λ r. MayEvaluate faults.old faults.new r
         (optional_in (λ x. definitions.any) env.now names.now e.now)) }
 {
     match e {
         None => Ok(None),
-        Some(e) => Ok(Some(any(alloc, env, names, worst, e)?)),
+        Some(e) => Ok(Some(any(alloc, env, names, faults, e)?)),
     }
 }
 
@@ -108,16 +108,16 @@ pub fn condition_or_none<'t>(
     alloc: Global,
     env: &Environment<'t>,
     names: &SymbolTable<'t>,
-    worst: &mut Least,
+    faults: &mut LeastFault,
     at: u64,
     e: &Option<Expr>,
 ) -> Result<Option<Checked>, AllocError>
-    ensures { IfOk result (λ r. MayEvaluate worst.old worst.new r
+    ensures { IfOk result (λ r. MayEvaluate faults.old faults.new r
         (optional_in (λ x. definitions.condition at) env.now names.now e.now)) }
 {
     match e {
         None => Ok(None),
-        Some(e) => Ok(Some(condition(alloc, env, names, worst, at, e)?)),
+        Some(e) => Ok(Some(condition(alloc, env, names, faults, at, e)?)),
     }
 }
 
@@ -126,16 +126,16 @@ pub fn to_type_or_none<'t>(
     alloc: Global,
     env: &Environment<'t>,
     names: &SymbolTable<'t>,
-    worst: &mut Least,
+    faults: &mut LeastFault,
     t: CType,
     e: &Option<Expr>,
 ) -> Result<Option<Checked>, AllocError>
-    ensures { IfOk result (λ r. MayEvaluate worst.old worst.new r
+    ensures { IfOk result (λ r. MayEvaluate faults.old faults.new r
         (optional_in (λ x. definitions.to_type t (start x)) env.now names.now e.now)) }
 {
     match e {
         None => Ok(None),
-        Some(e) => Ok(Some(to_type(alloc, env, names, worst, t, e)?)),
+        Some(e) => Ok(Some(to_type(alloc, env, names, faults, t, e)?)),
     }
 }
 
@@ -144,10 +144,10 @@ pub fn refused_initialiser<'t>(
     alloc: Global,
     env: &Environment<'t>,
     names: &SymbolTable<'t>,
-    worst: &mut Least,
+    faults: &mut LeastFault,
     e: &Option<Expr>,
 ) -> Result<(), AllocError>
-    ensures { OnOk result (AddsFaults worst.old worst.new
+    ensures { OnOk result (AddsFaults faults.old faults.new
         (definitions.without_initialiser (names_at (environment env.now names.now.around)
         names.now.block) (option_map expression e.now)).faults) }
 {
@@ -155,7 +155,7 @@ pub fn refused_initialiser<'t>(
         None => Ok(()),
         Some(e) => {
             let at = e.start();
-            refused_value(alloc, env, names, worst, at, Fault::BadInitialiser, e)
+            refused_value(alloc, env, names, faults, at, Fault::BadInitialiser, e)
         }
     }
 }
@@ -165,20 +165,20 @@ pub fn returned<'t>(
     alloc: Global,
     env: &Environment<'t>,
     names: &SymbolTable<'t>,
-    worst: &mut Least,
+    faults: &mut LeastFault,
     at: u64,
     e: &Option<Expr>,
 ) -> Result<Option<Checked>, AllocError>
-    ensures { IfOk result (λ r. MayEvaluate worst.old worst.new r
+    ensures { IfOk result (λ r. MayEvaluate faults.old faults.new r
         (definitions.returned (environment env.now names.now.around) names.now.block at
         (option_map expression e.now))) }
 {
     match e {
         None => {
-            values::unless_holds(worst, is_void(env.returns), at, Fault::TypeClash);
+            values::unless_holds(faults, is_void(env.returns), at, Fault::TypeClash);
             Ok(None)
         }
-        Some(e) => returned_value(alloc, env, names, worst, at, e),
+        Some(e) => returned_value(alloc, env, names, faults, at, e),
     }
 }
 
@@ -187,19 +187,19 @@ fn returned_value<'t>(
     alloc: Global,
     env: &Environment<'t>,
     names: &SymbolTable<'t>,
-    worst: &mut Least,
+    faults: &mut LeastFault,
     at: u64,
     e: &Expr,
 ) -> Result<Option<Checked>, AllocError>
-    ensures { IfOk result (λ r. MayEvaluate worst.old worst.new r
+    ensures { IfOk result (λ r. MayEvaluate faults.old faults.new r
         (definitions.returned (environment env.now names.now.around) names.now.block at
         (Some (expression e.now)))) }
 {
     if is_void(env.returns) {
-        refused_value(alloc, env, names, worst, at, Fault::TypeClash, e)?;
+        refused_value(alloc, env, names, faults, at, Fault::TypeClash, e)?;
         return Ok(None);
     }
-    Ok(Some(to_type(alloc, env, names, worst, env.returns, e)?))
+    Ok(Some(to_type(alloc, env, names, faults, env.returns, e)?))
 }
 
 /// The faults of a value that may not be there.
@@ -207,15 +207,15 @@ fn refused_value<'t>(
     alloc: Global,
     env: &Environment<'t>,
     names: &SymbolTable<'t>,
-    worst: &mut Least,
+    faults: &mut LeastFault,
     at: u64,
     fault: Fault,
     e: &Expr,
 ) -> Result<(), AllocError>
-    ensures { OnOk result (AddsFaults worst.old worst.new
+    ensures { OnOk result (AddsFaults faults.old faults.new
         ((resolved_in env.now names.now e.now).faults ++ fault_at at fault)) }
 {
-    drop(resolved_at(alloc, env, names, worst, e)?);
-    worst.add(at, fault);
+    drop(resolved_at(alloc, env, names, faults, e)?);
+    faults.add(at, fault);
     Ok(())
 }

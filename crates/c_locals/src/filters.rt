@@ -12,12 +12,12 @@ ghost use Rattle.c_locals.specs.Views.{environment, numbering, filter_resolved_i
 ghost use Rattle.c_syntax.specs.Expression.{expression, start};
 ghost use Rattle.c_types.specs.Views.{FindsTyped};
 
-use crate::environment::{Environment, Walk, context, filter_context};
+use crate::environment::{Environment, FunctionState, context, filter_context};
 use c_checked::expression::Expr as Checked;
 use c_checked::statement::Filter;
 use c_expressions::context::named;
 use c_expressions::expressions::resolve;
-use c_expressions::least::Least;
+use c_expressions::least::LeastFault;
 use c_expressions::scopes::Entity;
 use c_expressions::symbol_table::SymbolTable;
 use c_expressions::values::to_answer;
@@ -71,15 +71,15 @@ fn resolved_at<'t>(
     alloc: Global,
     env: &Environment<'t>,
     names: &SymbolTable<'t>,
-    worst: &mut Least,
+    faults: &mut LeastFault,
     e: &Expr,
 ) -> Result<Option<TypedNode>, AllocError>
     ensures found { IfOk result (λ r. FindsTyped r
         (filter_resolved_in env.now names.now e.now).found) }
-    ensures faults { OnOk result (AddsFaults worst.old worst.new
+    ensures faults { OnOk result (AddsFaults faults.old faults.new
         (filter_resolved_in env.now names.now e.now).faults) }
 {
-    resolve(alloc, &filter_context(env, names), worst, e)
+    resolve(alloc, &filter_context(env, names), faults, e)
 }
 
 /// The answer of a filter's expression.
@@ -87,15 +87,15 @@ fn answer<'t>(
     alloc: Global,
     env: &Environment<'t>,
     names: &SymbolTable<'t>,
-    worst: &mut Least,
+    faults: &mut LeastFault,
     e: &Expr,
 ) -> Result<Checked, AllocError>
-    ensures { IfOk result (λ r. Evaluates worst.old worst.new r
+    ensures { IfOk result (λ r. Evaluates faults.old faults.new r
         (definitions.to_answer (start (expression e.now))
         (filter_resolved_in env.now names.now e.now))) }
 {
-    let found = resolved_at(alloc, env, names, worst, e)?;
-    Ok(to_answer(worst, e.start(), found))
+    let found = resolved_at(alloc, env, names, faults, e)?;
+    Ok(to_answer(faults, e.start(), found))
 }
 
 /// The answer of a filter, or none where it is always EXCEPTION_EXECUTE_HANDLER.
@@ -103,30 +103,30 @@ pub fn filter_value<'t>(
     alloc: Global,
     env: &Environment<'t>,
     names: &SymbolTable<'t>,
-    worst: &mut Least,
+    faults: &mut LeastFault,
     e: &Expr,
 ) -> Result<Option<Checked>, AllocError>
-    ensures { IfOk result (λ r. ResolvesFilter worst.old worst.new r
+    ensures { IfOk result (λ r. ResolvesFilter faults.old faults.new r
         (definitions.resolve_filter (environment env.now names.now.around) names.now.block
         (expression e.now))) }
 {
     if always(env, names, e) {
         return Ok(None);
     }
-    Ok(Some(answer(alloc, env, names, worst, e)?))
+    Ok(Some(answer(alloc, env, names, faults, e)?))
 }
 
 /// The filter of an `__except` by its answer, which has the next number.
-pub fn numbered(walk: &mut Walk, answer: Option<Checked>) -> Result<Filter, AllocError>
-    ensures filter { IfOk result (λ f. filter f ≡ filter_with walk.old.number
+pub fn numbered(state: &mut FunctionState, answer: Option<Checked>) -> Result<Filter, AllocError>
+    ensures filter { IfOk result (λ f. filter f ≡ filter_with state.old.number
         (option_map checked answer)) }
-    ensures counts { OnOk result (numbering walk.new ≡ with_number (numbering walk.old)
-        (number_after walk.old.number (option_map checked answer))) }
-    ensures faults { walk.new.worst ≡ walk.old.worst }
+    ensures counts { OnOk result (numbering state.new ≡ with_number (numbering state.old)
+        (number_after state.old.number (option_map checked answer))) }
+    ensures faults { state.new.faults ≡ state.old.faults }
 {
     match answer {
         None => Ok(Filter::Always),
-        Some(value) => match walk.next_number() {
+        Some(value) => match state.next_number() {
             Ok(number) => Ok(Filter::Funclet { number, value }),
             Err(failed) => {
                 drop(value);

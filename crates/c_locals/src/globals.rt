@@ -15,7 +15,7 @@ ghost use Rattle.c_expressions.specs.SymbolTables.{with_block};
 ghost use Rattle.c_expressions.specs.Views.{entity};
 
 use crate::lengths::check_length;
-use c_expressions::least::Least;
+use c_expressions::least::LeastFault;
 use c_expressions::scopes::{Entity, declare, is_taken, spelled};
 use c_expressions::symbol_table::SymbolTable;
 use c_expressions::values::unless_holds;
@@ -39,7 +39,7 @@ pub struct File<'a> {
     /// How many functions there are so far, which is the number of the next one.
     pub functions: u64,
     /// The least fault so far.
-    pub worst: Least,
+    pub faults: LeastFault,
 }
 
 /// The value of a literal modulo 2^64.
@@ -149,7 +149,7 @@ fn put_filled(bytes: &mut Vec<u8>, count: u64, own: &[u8]) -> Result<(), AllocEr
 fn put_initial_value(
     alloc: Global,
     bytes: &mut Vec<u8>,
-    worst: &mut Least,
+    faults: &mut LeastFault,
     t: CType,
     length: Option<Length>,
     initialiser: &Option<Initialiser>,
@@ -157,7 +157,7 @@ fn put_initial_value(
     ensures bytes { OnOk result (bytes.new.items ≡ bytes.old.items ++
         (definitions.initial_value t length
         (option_map trees.initialiser initialiser.now)).bytes) }
-    ensures faults { OnOk result (AddsFaults worst.old worst.new
+    ensures faults { OnOk result (AddsFaults faults.old faults.new
         (definitions.initial_value t length
         (option_map trees.initialiser initialiser.now)).faults) }
 {
@@ -167,16 +167,16 @@ fn put_initial_value(
             put_number(bytes, stored_bytes(t), constant_value(*constant))
         }
         (None, Some(Initialiser::List { at, .. })) => {
-            worst.add(*at, Fault::BadInitialiser);
+            faults.add(*at, Fault::BadInitialiser);
             put_zeros(bytes, stored_bytes(t))
         }
         (Some(length), None) => put_zeros(bytes, array_bytes(length, t)?),
         (Some(length), Some(Initialiser::Single(constant))) => {
-            worst.add(constant.at, Fault::BadInitialiser);
+            faults.add(constant.at, Fault::BadInitialiser);
             put_zeros(bytes, array_bytes(length, t)?)
         }
         (Some(length), Some(Initialiser::List { constants, .. })) => {
-            too_many(worst, length.value, constants);
+            too_many(faults, length.value, constants);
             put_list(
                 alloc,
                 bytes,
@@ -189,11 +189,11 @@ fn put_initial_value(
 }
 
 /// The first constant too many.
-fn too_many(worst: &mut Least, length: u64, constants: &[Constant])
-    ensures { AddsFaults worst.old worst.new (definitions.too_many (drop length constants.now)) }
+fn too_many(faults: &mut LeastFault, length: u64, constants: &[Constant])
+    ensures { AddsFaults faults.old faults.new (definitions.too_many (drop length constants.now)) }
 {
     if length < constants.len() as u64 {
-        worst.add(constants[length as usize].at, Fault::BadInitialiser);
+        faults.add(constants[length as usize].at, Fault::BadInitialiser);
     }
 }
 
@@ -217,13 +217,13 @@ pub fn name<'a>(
         (with_name file.old.names.block (spelled text.now name) (entity meaning.entry))) }
     ensures bytes { OnOk result (file.new.bytes ≡ file.old.bytes) }
     ensures functions { OnOk result (file.new.functions ≡ file.old.functions) }
-    ensures faults { OnOk result (AddsFaults file.old.worst file.new.worst
+    ensures faults { OnOk result (AddsFaults file.old.faults file.new.faults
         (unless_holds (not (is_taken file.old.names.block (spelled text.now name)))
         name.start Duplicate)) }
 {
     let bytes = spelled(text, name);
     unless_holds(
-        &mut file.worst,
+        &mut file.faults,
         !is_taken(bytes, &file.names),
         name.start,
         Fault::Duplicate,
@@ -267,16 +267,16 @@ fn global<'a>(
     let address = FIRST_DATA + end_of(&file.bytes);
     name(text, file, g.name, meaning_of(of, address, g.length))?;
     unless_holds(
-        &mut file.worst,
+        &mut file.faults,
         is_scalar(of),
         g.name.start,
         Fault::TypeClash,
     );
-    check_length(&mut file.worst, g.length);
+    check_length(&mut file.faults, g.length);
     put_initial_value(
         alloc,
         &mut file.bytes,
-        &mut file.worst,
+        &mut file.faults,
         of,
         g.length,
         &g.initialiser,

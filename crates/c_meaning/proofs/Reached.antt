@@ -17,7 +17,7 @@ use Rattle.source_machine.specs.StepLaws.{is_over, distance}
 use Rattle.source_machine.proofs.StepDistance.{decreases}
 use Rattle.source_machine.proofs.WholeRuns.{shows_before, all_keep}
 use Rattle.source_values.proofs.Steps.{after_sum, after_more}
-use Rattle.source_steps.specs.declared.machine.Machine.{Machine as Machine'}
+use Rattle.source_steps.specs.declared.machine.Interpreter.{Interpreter}
 use Rattle.source_steps.specs.Machines.{machine_of}
 use Rattle.seh_io.specs.Writer.{TookEvents}
 use Rattle.seh_io.specs.declared.receiver.Lines.{Lines}
@@ -63,21 +63,22 @@ module _ {X : Type 0} (took : X → List Event → X → Type 0) (program : Prog
   comes m = comes_to program (does program) m
 
   -- from a machine the run has come to another, and the receiver took what was shown
-  pub record Reached (from : Machine) (x : X) (m : Machine') (next : Next) (y : X) : Type 0 where
+  pub record Reached (from : Machine) (x : X) (m : Interpreter) (next : Next) (y : X) : Type 0 where
     pub shown : List Event
     pub took_shown : took x shown y
     pub steps : ℕ
     pub is : machine_of m next shown ≡ after program steps from
     pub comes_same : comes (machine_of m next shown) ≡ comes from
 
-  pub at_first : (m : Machine') (next : Next) (x : X) → took x [] x
+  pub at_first : (m : Interpreter) (next : Next) (x : X) → took x [] x
       → Reached (machine_of m next []) x m next x
   at_first m next x none =
       record { shown = []; took_shown = none; steps = 0; is = refl; comes_same = refl }
 
   pub one_more : ((x y z : X) (es fs : List Event) → took x es y → took y fs z
       → took x (es ++ fs) z)
-      → (from : Machine) (x : X) (m : Machine') (next : Next) (y : X) (m' : Machine') (next' : Next)
+      → (from : Machine) (x : X) (m : Interpreter) (next : Next) (y : X) (m' : Interpreter)
+      (next' : Next)
       (y' : X)
       → Reached from x m next y → Turned took program m next y m' next' y'
       → Reached from x m' next' y'
@@ -95,7 +96,7 @@ module _ {X : Type 0} (took : X → List Event → X → Type 0) (program : Prog
             ∙ all_keep program (suc led.before) (machine_of m next r.shown) ∙ r.comes_same;
       }
 
-  pub nearer : (m : Machine') (next : Next) (y : X) (m' : Machine') (next' : Next) (y' : X)
+  pub nearer : (m : Interpreter) (next : Next) (y : X) (m' : Interpreter) (next' : Next) (y' : X)
       → is_over next ≡ false → Turned took program m next y m' next' y'
       → distance (machine_of m' next' []) < distance (machine_of m next [])
   nearer m next y m' next' y' going t =
@@ -109,7 +110,7 @@ module _ {X : Type 0} (took : X → List Event → X → Type 0) (program : Prog
       omega (arith, first, rest, same)
 
   -- what was taken is the front of what is shown
-  pub so_far : (from : Machine) (x : X) (m : Machine') (next : Next) (y : X)
+  pub so_far : (from : Machine) (x : X) (m : Interpreter) (next : Next) (y : X)
       → Reached from x m next y → ShownPart took program from x y
   so_far from x m next y r = record {
     shown = r.shown;
@@ -120,7 +121,8 @@ module _ {X : Type 0} (took : X → List Event → X → Type 0) (program : Prog
   }
 
   pub at_most : ((x y z : X) (es fs : List Event) → took x es y → took y fs z → took x (es ++ fs) z)
-      → (from : Machine) (x : X) (m : Machine') (next : Next) (y y' : X) → Reached from x m next y
+      → (from : Machine) (x : X) (m : Interpreter) (next : Next) (y y' : X)
+      → Reached from x m next y
       → took y [] y' → ShownPart took program from x y'
   at_most more from x m next y y' r none = record {
     shown = r.shown ++ [];
@@ -139,7 +141,8 @@ module _ {X : Type 0} (took : X → List Event → X → Type 0) (program : Prog
 -- a step whose line failed, after steps whose lines were written
 pub stops : {X N : Type 0} (taken : X → Option (List ℕ)) (faults : X → ℕ)
     (named : N → ℕ → Option (List ℕ)) (program : Program) (from : Machine) (x : Lines X N)
-    (m : Machine') (next : Next) (y : Lines X N) (m' : Machine') (next' : Next) (y' : Lines X N)
+    (m : Interpreter) (next : Next) (y : Lines X N) (m' : Interpreter) (next' : Next)
+    (y' : Lines X N)
     → Reached (TookEvents taken faults named) program from x m next y
     → Turned (TookEvents taken faults named) program m next y m' next' y'
     → y.failed ≡ false → y'.failed ≡ true → Stopped taken faults named program from x m' y'
@@ -169,7 +172,7 @@ stops taken faults named program from x m next y m' next' y' r t is was =
 -- a line has failed where the run was stopped by one
 pub has_failed : {X N : Type 0} (taken : X → Option (List ℕ)) (faults : X → ℕ)
     (named : N → ℕ → Option (List ℕ)) (program : Program) (from : Machine) (x : Lines X N)
-    (m' : Machine') (x' : Lines X N) (e : RunErr)
+    (m' : Interpreter) (x' : Lines X N) (e : RunErr)
     → HasStopped e taken faults named program from x m' x' → HasFailed e x'.failed
 has_failed taken faults named program from x m' x' Write h = h.failed
 has_failed taken faults named program from x m' x' Memory h = tt

@@ -16,7 +16,7 @@ use Rattle.source_machine.specs.Frames.{Next}
 use Rattle.source_machine.specs.Machine.{Machine}
 use Rattle.source_machine.specs.FrameMeanings.{comes_to}
 use Rattle.source_machine.specs.Runs.{after}
-use Rattle.source_steps.specs.declared.machine.Machine.{Machine as Machine'}
+use Rattle.source_steps.specs.declared.machine.Interpreter.{Interpreter}
 use Rattle.source_steps.specs.Machines.{machine_of}
 use Rattle.source_steps.specs.Directly.{Led}
 use Rattle.c_meaning.specs.declared.run.RunErr.{RunErr}
@@ -24,7 +24,8 @@ use Rattle.c_meaning.specs.declared.run.RunErr.TheVariants.{Write, Memory}
 
 -- some steps that show nothing were made, and one more, of which the receiver took what it shows
 pub record Turned {X : Type 0} (took : X → List Event → X → Type 0) (program : Program)
-    (m : Machine') (next : Next) (x : X) (m' : Machine') (next' : Next) (x' : X) : Type 0 where
+    (m : Interpreter) (next : Next) (x : X) (m' : Interpreter) (next' : Next)
+    (x' : X) : Type 0 where
   pub shown : List Event
   pub took_shown : took x shown x'
   pub stepped : (es : List Event) → Led program (machine_of m next es)
@@ -49,7 +50,7 @@ pub record ShownPart {X : Type 0} (took : X → List Event → X → Type 0) (pr
 -- after the next one, which shows it
 pub record Stopped {X N : Type 0} (taken : X → Option (List ℕ)) (faults : X → ℕ)
     (named : N → ℕ → Option (List ℕ)) (program : Program) (m : Machine) (x : Lines X N)
-    (m' : Machine') (x' : Lines X N) : Type 0 where
+    (m' : Interpreter) (x' : Lines X N) : Type 0 where
   pub steps : ℕ
   pub before : Lines X N
   pub took_before : TookEvents taken faults named x (after program steps m).state.events before
@@ -62,7 +63,7 @@ pub record Stopped {X N : Type 0} (taken : X → Option (List ℕ)) (faults : X 
       ≡ machine_of m' next ((after program steps m).state.events ++ shown)
 
 abbrev pub HasStopped : {X N : Type 0} → RunErr → (X → Option (List ℕ)) → (X → ℕ)
-    → (N → ℕ → Option (List ℕ)) → Program → Machine → Lines X N → Machine' → Lines X N → Type 0
+    → (N → ℕ → Option (List ℕ)) → Program → Machine → Lines X N → Interpreter → Lines X N → Type 0
 HasStopped Write taken faults named program m x m' x' = Stopped taken faults named program m x m' x'
 HasStopped Memory taken faults named program m x m' x' = Unit {0}
 

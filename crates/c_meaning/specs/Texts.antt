@@ -1,4 +1,6 @@
 -- The text of a program's meaning: a line for each event that is shown, and one for the end.
+--
+-- The main definition: `text`.
 use Rattle.std.specs.Prelude.{◌≡◌, ℕ, Bool, List, ◌++◌, codes, Option, Some, None}
 use Rattle.std.specs.Fmt.{decimal, signed_decimal}
 use Rattle.seh_num.specs.Shown.{Shown}
@@ -26,7 +28,8 @@ abbrev pub ended_within : ℕ → Option Ended → Ended
 ended_within steps None = OutOfSteps steps
 ended_within steps (Some e) = e
 
--- the names are those of the program's functions
+-- the lines of the events, with the names of functions, and one for the end. That is `exit V`,
+-- `unhandled C`, `undefined A`, `deep D`, or `out of steps N` where there is no end within N steps.
 abbrev pub text : Bool → ℕ → Shown Ended → (ℕ → Option (List ℕ)) → List ℕ
 text trace steps shown names =
     lines trace shown.events names ++ ended_line (ended_within steps shown.end)

@@ -29,7 +29,7 @@ use source_plans::place::{NO_EXCEPTION, Place};
 use source_steps::activations::Activations;
 use source_steps::calls::low_signed;
 use source_steps::functions::LiveFunctions;
-use source_steps::machine::{Machine, MachineStep, StepEvents};
+use source_steps::machine::{Interpreter, MachineStep, StepEvents};
 use std::alloc::{AllocError, Global};
 use vectored_list::VectoredList;
 
@@ -67,7 +67,7 @@ fn turn<'p, V: Events>(
     alloc: Global,
     program: &'p Checked,
     data_end: u64,
-    machine: &mut Machine<'p>,
+    machine: &mut Interpreter<'p>,
     next: Next<'p>,
     to: &mut V,
 ) -> Result<Next<'p>, AllocError>
@@ -96,7 +96,7 @@ fn run<'p, O: Sink, N: Names>(
     alloc: Global,
     program: &'p Checked,
     data_end: u64,
-    machine: &mut Machine<'p>,
+    machine: &mut Interpreter<'p>,
     first: Next<'p>,
     lines: &mut Lines<'_, O, N>,
 ) -> Result<Finish, RunErr>
@@ -134,11 +134,11 @@ fn first_machine<'p>(
     alloc: Global,
     program: &'p Checked,
     budget: u64,
-) -> Result<Machine<'p>, AllocError>
+) -> Result<Interpreter<'p>, AllocError>
     ensures { IfOk result (λ m. (next : frames.Next) → machine_of m next [] ≡ model_runs.beginning
         (whole.program program.now) budget next) }
 {
-    Ok(Machine {
+    Ok(Interpreter {
         steps_left: budget,
         memory: first_memory(alloc, &program.globals)?,
         activations: Activations::new(alloc),

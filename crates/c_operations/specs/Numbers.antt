@@ -1,4 +1,9 @@
 -- Results of the operations without faults, as whole numbers modulo 2^32 or 2^64.
+--
+-- `Size`: values are whole numbers modulo 2^32 (`Int`) or 2^64 (`Long`). A type of at most 32 bits
+-- is kept as an `Int`, so that the integer promotions do nothing (C11, 6.3.1.1).
+--
+-- The main definition: `result_of`.
 use Rattle.std.specs.Prelude.{ℕ, ◌+◌, ◌-◌, ◌*◌, ◌/◌, ◌%◌, ◌^◌, Bool, not, nat_eq, nat_lt}
 use Rattle.std.specs.Prelude.{if◌then◌else◌, int_lt, bit_and, bit_or, bit_xor}
 use Rattle.seh_num.specs.declared.width.Width.{Width}
@@ -47,7 +52,9 @@ shifted_right Unsigned w a c = a / 2 ^ c
 shifted_right Signed w a c =
     if nat_lt a (half w) then a / 2 ^ c else low w (a / 2 ^ c + (limit w - limit w / 2 ^ c))
 
--- the result of an operation without faults on two operands
+-- what each operation without faults gives (C11, 6.5). There are sums, differences and products
+-- modulo the limit, `&`, `|`, `^`, and shifts by the count modulo 32 or 64 (own). There are
+-- relations of signed and of unsigned numbers too, and extensions by the sign or by zeros.
 abbrev pub result_of : Pure → ℕ → ℕ → ℕ
 result_of (pures.Constant v) a b = low W64 v
 result_of pures.First a b = a

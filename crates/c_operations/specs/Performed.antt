@@ -1,4 +1,6 @@
 -- What an operation on two numbers comes to, in the memory of a program.
+--
+-- The main definition: `performed`.
 use Rattle.std.specs.Prelude.{ℕ, ◌+◌, ◌-◌, ◌^◌, Bool, true, false, not, ◌&&◌, ℤ, Option, Some, None, Result, Ok, Err}
 use Rattle.seh_num.specs.declared.width.Width.{Width}
 use Rattle.seh_num.specs.declared.width.Width.TheVariants.{W64}
@@ -88,6 +90,10 @@ before_last w n = low W64 (n + (2 ^ 64 - bytes_of w))
 
 -- ---- operations on two operands of 64 bits
 
+-- what an operation on two operands in a memory comes to. It is a number and the memory after it; a
+-- fault, which changes nothing; or Undefined, with the first reserved byte of the access. The
+-- faults are division by zero C0000094, a quotient that doesn't fit C0000095 (own), and a refused
+-- access C0000005 with its first refused byte.
 abbrev pub performed : (ℕ → Bool) → Operation → ℕ → ℕ → Memory → OperationResult
 performed reserved (operations.Pure p) a b m = Gives (result_of p a b) m
 performed reserved (operations.Divide s z) a b m = quotient s (width z) a b m

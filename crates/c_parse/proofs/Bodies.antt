@@ -4,7 +4,7 @@ use Rattle.std.proofs.Common.{arith}
 use Rattle.c_syntax.specs.declared.limit.TheConstants.{MOST_LOCALS, MOST_ARRAY_BYTES}
 use Rattle.c_lex.specs.declared.punctuator.Punctuator.TheVariants as punctuators
 use Rattle.c_lex.specs.declared.token.Kind.TheVariants as kinds
-use Rattle.c_parse.specs.Words.{Token, Parameter, Wraps, FunctionWithinFirst, end_of_all_arrays, bytes_so_far, AreParameters, Empty, token, HasPunctuator, Left, NoPunctuator, APunctuator, NoBlockItems, HasBlockItems, NoParameters, HasParameters, IsTail, NoTail, HasTail}
+use Rattle.c_parse.specs.Words.{Token, Parameter, Wraps, FunctionWithinFirst, end_of_all_arrays, bytes_so_far, AreParameters, Empty, token, HasPunctuator, Remaining, NoPunctuator, APunctuator, NoBlockItems, HasBlockItems, NoParameters, HasParameters, IsTail, NoTail, HasTail}
 use Rattle.c_syntax.specs.Statements.{AreBlockItems}
 use Rattle.c_parse.proofs.Lemmas.{append_append, alike_same, has_same, parameters}
 use Rattle.c_syntax.proofs.MovesPrograms as programs
@@ -87,7 +87,7 @@ in_brace text funclets ts b found is few =
       };
     }
 
-pub in_body : (text : List ℕ) (left : Left) (ts b c : List Token) (found : List Parameter)
+pub in_body : (text : List ℕ) (left : Remaining) (ts b c : List Token) (found : List Parameter)
     → left.locals ≡ MOST_LOCALS → left.bytes ≡ MOST_ARRAY_BYTES → AreParameters found ts b
     → length found ≤ 8 → HasPunctuator punctuators.OpenBrace b c
     → Wraps (NoBlockItems 65 left) (HasBlockItems 65 left) (NoTail left.funclets)

@@ -27,7 +27,7 @@ pub use Rattle.c_parse_expr.specs.declared.refusal.ParseErr.TheVariants.{Unexpec
 pub use Rattle.c_parse_stmt.specs.Parts.{NoPunctuator, APunctuator, IsBracketed}
 pub use Rattle.c_parse_stmt.specs.ArrayBytes.{bytes_so_far}
 pub use Rattle.c_parse_stmt.specs.Within.{NoBlockItems, HasBlockItems}
-pub use Rattle.c_parse_stmt.specs.declared.left.Left.{Left}
+pub use Rattle.c_parse_stmt.specs.declared.remaining.Remaining.{Remaining}
 pub use Rattle.c_parse.specs.Counts.{NoExternalDeclaration, HasExternalDeclaration, FitsCounts, Taken}
 pub use Rattle.c_parse.specs.Parts.{NoParameters, HasParameters, IsTail, NoTail, HasTail, NoConstant, HasConstant, NoConstants, HasConstants, IsGiven, NoneGiven, HasGiven, NoInitialiser, HasInitialiser, end_of, NoGlobal, NoGlobals, HasGlobals, NoLength, HasLength, EndsScalar, IsDeclarationHead, NoHead, HasHead, NoneBracketed, HasBracketed, IsAfterName, NoParameter, HasParameter, IsVoid, NoListed, HasListed}
 pub use Rattle.c_parse.specs.declared.counts.Counts.{Counts}

@@ -17,8 +17,8 @@ use c_lex::punctuator::Punctuator;
 use c_lex::token::Token;
 use c_parse_atom::operands::name;
 use c_parse_expr::refusal::{ParseErr, place, unexpected};
-use c_parse_stmt::left::Left;
 use c_parse_stmt::parts::{expect, word};
+use c_parse_stmt::remaining::Remaining;
 use c_parse_stmt::statements::items;
 use c_parse_type::front::after;
 use c_parse_type::specifiers::c_type;
@@ -145,7 +145,7 @@ pub fn tail<'a>(
 {
     let (parameters, following) = parameters(alloc, text, tokens)?;
     let inner = expect(text, Punctuator::OpenBrace, following)?;
-    let left = Left {
+    let left = Remaining {
         locals: MOST_LOCALS,
         bytes: MOST_ARRAY_BYTES,
         funclets,

@@ -1,7 +1,7 @@
 -- Locals of a declaration are read as far as they go.
 use Rattle.std.proofs.Common.{◌≡◌, ◌≤◌, ◌+◌, ℕ, List, [], ◌∷◌, ◌++◌, length, map, refl, sym, ap, ◌∙◌, subst, append_assoc, arith}
 use Rattle.std.proofs.lemmas.List.{append-nil}
-use Rattle.c_parse_stmt.specs.Words.{Punctuator, Token, Base, Alike, SameFirst, place, Onward, Failed, Wraps, Stops, height_of, one_over, height_of_locals, one_over_locals, end_of_local, end_of_locals, assignment, Local, local, IsLocal, AreMoreLocals, AreLocals, token, HasPunctuator, NoPunctuator, APunctuator, NoLocal, HasLocal, LocalsWithin, NoMoreLocals, NoLocals, HasLocals, Left, bytes_so_far}
+use Rattle.c_parse_stmt.specs.Words.{Punctuator, Token, Base, Alike, SameFirst, place, Onward, Failed, Wraps, Stops, height_of, one_over, height_of_locals, one_over_locals, end_of_local, end_of_locals, assignment, Local, local, IsLocal, AreMoreLocals, AreLocals, token, HasPunctuator, NoPunctuator, APunctuator, NoLocal, HasLocal, LocalsWithin, NoMoreLocals, NoLocals, HasLocals, Remaining, bytes_so_far}
 use Rattle.c_lex.specs.declared.punctuator.Punctuator.TheVariants as punctuators
 use Rattle.c_lex.specs.declared.token.Kind.TheVariants as kinds
 use Rattle.c_syntax.specs.declared.statement.Local.{Local as Local'}
@@ -18,8 +18,8 @@ use Rattle.c_parse_stmt.proofs.ArrayEnds.{locals_grow}
 
 -- What was read of the locals, and what is left: they continue with what is at the rest, and there
 -- are none if none are there.
-pub record Begun (text : List ℕ) (base : Base) (room : ℕ) (whole : Left) (ts : List Token)
-    (found : List Local') (rest : List Token) (left : Left) : Type 0 where
+pub record Begun (text : List ℕ) (base : Base) (room : ℕ) (whole : Remaining) (ts : List Token)
+    (found : List Local') (rest : List Token) (left : Remaining) : Type 0 where
   pub before : List Token
   pub split : ts ≡ before ++ rest
   pub forward : (text' : List ℕ) (other : List Token) → Alike text text' ts
@@ -36,13 +36,13 @@ pub record Begun (text : List ℕ) (base : Base) (room : ℕ) (whole : Left) (ts
       → NoLocals base room whole n text' (before ++ other)
 
 -- what is left after one more
-pub record After (base : Base) (whole left : Left) (l : Local) : Type 0 where
+pub record After (base : Base) (whole left : Remaining) (l : Local) : Type 0 where
   pub count : left.locals + 1 ≡ whole.locals
   pub bytes : bytes_so_far left.bytes
       ≡ end_of_local base l.pointers l.length (bytes_so_far whole.bytes)
   pub funclets : left.funclets ≡ whole.funclets
 
-pub after : (base : Base) (whole left : Left) (l : Local') (bytes : ℕ)
+pub after : (base : Base) (whole left : Remaining) (l : Local') (bytes : ℕ)
     → left.locals + 1 ≡ whole.locals → left.bytes ≡ bytes → left.funclets ≡ whole.funclets
     → bytes_so_far bytes
     ≡ end_of_local base (local l).pointers (local l).length (bytes_so_far whole.bytes)
@@ -54,7 +54,7 @@ after base whole left l bytes c b f e = record {
 }
 
 -- those after the first
-less : (base : Base) (n room : ℕ) (whole left : Left) (x l : Local) (ls : List Local) → x ≡ l
+less : (base : Base) (n room : ℕ) (whole left : Remaining) (x l : Local) (ls : List Local) → x ≡ l
     → After base whole left x → LocalsWithin base n room whole (l ∷ ls)
     → LocalsWithin base n room left ls
 less base n room whole left x l ls same a w = record {
@@ -66,7 +66,7 @@ less base n room whole left x l ls same a w = record {
       (bytes_so_far whole.bytes)) same)) (w.bytes k);
 }
 
-first_back : (text : List ℕ) (base : Base) (room : ℕ) (whole left : Left) (n : ℕ)
+first_back : (text : List ℕ) (base : Base) (room : ℕ) (whole left : Remaining) (n : ℕ)
     (ts rest : List Token) (x : Local) → IsLocal text x ts rest → Stops assignment rest
     → After base whole left x
     → NoMoreLocals base room left n text rest → NoLocals base room whole n text ts
@@ -76,7 +76,8 @@ first_back text base room whole left n ts rest x is st c none (l ∷ ls) end h w
     none ls end (subst (λ (z : List Token). AreMoreLocals text ls z end) (sym u.1) h.2)
     (less base n room whole left x l ls u.0 c w)
 
-pub begins : (text : List ℕ) (base : Base) (room : ℕ) (whole left : Left) (ts rest : List Token)
+pub begins : (text : List ℕ) (base : Base) (room : ℕ) (whole left : Remaining)
+    (ts rest : List Token)
     (x : Local') → IsLocal text (local x) ts rest → Stops assignment rest
     → height_of (local x).initialiser ≤ 64 → one_over (local x).initialiser ≤ room
     → After base whole left (local x)
@@ -128,7 +129,7 @@ other_punctuator : (s z : Punctuator) (ts rest end : List Token) → HasPunctuat
     → HasPunctuator z ts end → s ≡ z
 other_punctuator s z ts rest end h g = (punctuator_same s z h.0 g.0 ts ts rest end refl h.1 g.1).0
 
-next_back : (text : List ℕ) (base : Base) (room : ℕ) (left more : Left) (n : ℕ)
+next_back : (text : List ℕ) (base : Base) (room : ℕ) (left more : Remaining) (n : ℕ)
     (rest b after : List Token) (x : Local) → HasPunctuator punctuators.Comma rest b
     → IsLocal text x b after → Stops assignment after → After base left more x
     → NoMoreLocals base room more n text after → NoMoreLocals base room left n text rest
@@ -142,7 +143,7 @@ next_back text base room left more n rest b after x c is st e none (l ∷ ls) en
     none ls end (subst (λ (z : List Token). AreMoreLocals text ls z end) (sym u.1) h.others)
     (less base n room left more x l ls u.0 e w)
 
-pub continues : (text : List ℕ) (base : Base) (room : ℕ) (whole left more : Left)
+pub continues : (text : List ℕ) (base : Base) (room : ℕ) (whole left more : Remaining)
     (ts rest b after : List Token) (found : List Local') (x : Local')
     → Begun text base room whole ts found rest left
     → HasPunctuator punctuators.Comma rest b → IsLocal text (local x) b after
@@ -189,7 +190,7 @@ continues text base room whole left more ts rest b after found x d c is st low o
           (stops_first assignment after other same st) e none));
     }
 
-pub ends : (text : List ℕ) (base : Base) (room : ℕ) (whole left : Left)
+pub ends : (text : List ℕ) (base : Base) (room : ℕ) (whole left : Remaining)
     (ts rest end : List Token) (found : List Local')
     → Begun text base room whole ts found rest left
     → HasPunctuator punctuators.Semicolon rest end → AreLocals text (map local found) ts end
@@ -201,7 +202,7 @@ ends text base room whole left ts rest end found d h =
 -- ---- where they fail
 
 -- the locals found so far and further ones, up to the semicolon
-closed : (text : List ℕ) (base : Base) (room : ℕ) (whole left : Left) (ts rest : List Token)
+closed : (text : List ℕ) (base : Base) (room : ℕ) (whole left : Remaining) (ts rest : List Token)
     (found : List Local') (d : Begun text base room whole ts found rest left) (text' : List ℕ)
     (other end : List Token)
     → Alike text text' ts → HasPunctuator punctuators.Semicolon other end
@@ -210,7 +211,8 @@ closed text base room whole left ts rest found d text' other end a h = subst
     (λ (z : List Local). AreLocals text' z (d.before ++ other) end) (append-nil (map local found))
     (d.forward text' other a [] end h)
 
-pub full : (text : List ℕ) (base : Base) (room : ℕ) (whole left : Left) (ts rest b : List Token)
+pub full : (text : List ℕ) (base : Base) (room : ℕ) (whole left : Remaining)
+    (ts rest b : List Token)
     (found : List Local') → Begun text base room whole ts found rest left → left.locals ≡ 0
     → HasPunctuator punctuators.Comma rest b
     → Failed 2 (place text rest) (NoLocals base room whole) (HasLocals base room whole) text ts
@@ -290,7 +292,8 @@ first_fits : (base : Base) (l : Local) (ls : List Local) (from : ℕ)
 first_fits base l ls from h =
     let a = locals_grow base ls (end_of_local base l.pointers l.length from) in omega arith
 
-next_none : (text : List ℕ) (base : Base) (room : ℕ) (left : Left) (n : ℕ) (rest b : List Token)
+next_none : (text : List ℕ) (base : Base) (room : ℕ) (left : Remaining) (n : ℕ)
+    (rest b : List Token)
     → HasPunctuator punctuators.Comma rest b
     → NoLocal base (bytes_so_far left.bytes) room n text b → NoMoreLocals base room left n text rest
 next_none text base room left n rest b c none [] end h w = let e : punctuators.Comma
@@ -303,7 +306,7 @@ next_none text base room left n rest b c none (l ∷ ls) end h w =
     (λ k. let e = w.expressions k in omega arith) (λ k. let e = w.statements k in omega arith)
     (λ k. first_fits base l ls (bytes_so_far left.bytes) (w.bytes k))
 
-pub no_next : (text : List ℕ) (base : Base) (room : ℕ) (whole left : Left)
+pub no_next : (text : List ℕ) (base : Base) (room : ℕ) (whole left : Remaining)
     (ts rest b : List Token) (found : List Local') → Begun text base room whole ts found rest left
     → HasPunctuator punctuators.Comma rest b → 1 ≤ left.locals
     → Wraps (NoLocal base (bytes_so_far left.bytes) room)
@@ -354,13 +357,14 @@ no_next text base room whole left ts rest b found d c some =
       };
     }
 
-unended_at : (text : List ℕ) (base : Base) (room : ℕ) (left : Left) (n : ℕ) (rest : List Token)
+unended_at : (text : List ℕ) (base : Base) (room : ℕ) (left : Remaining) (n : ℕ) (rest : List Token)
     → Lacks punctuators.Comma rest
     → Lacks punctuators.Semicolon rest → NoMoreLocals base room left n text rest
 unended_at text base room left n rest c s [] end h w = s end h
 unended_at text base room left n rest c s (l ∷ ls) end h w = c h.after_comma h.comma
 
-pub unended : (text : List ℕ) (base : Base) (room : ℕ) (whole left : Left) (ts rest : List Token)
+pub unended : (text : List ℕ) (base : Base) (room : ℕ) (whole left : Remaining)
+    (ts rest : List Token)
     (found : List Local') → Begun text base room whole ts found rest left
     → Lacks punctuators.Comma rest
     → Wraps (NoPunctuator punctuators.Semicolon) (APunctuator punctuators.Semicolon)
@@ -389,7 +393,7 @@ unended text base room whole left ts rest found d lacks = record {
   };
 }
 
-pub no_first : (text : List ℕ) (base : Base) (room : ℕ) (left : Left) (ts : List Token)
+pub no_first : (text : List ℕ) (base : Base) (room : ℕ) (left : Remaining) (ts : List Token)
     → 1 ≤ left.locals → Wraps (NoLocal base (bytes_so_far left.bytes) room)
     (HasLocal base (bytes_so_far left.bytes) room) (NoLocals base room left)
     (HasLocals base room left) text ts ts

@@ -1,6 +1,6 @@
 -- Failures in the parentheses of a `for`, and in expression statements.
 use Rattle.std.proofs.Common.{◌≡◌, ◌≤◌, ◌+◌, ◌++◌, ℕ, List, [], ◌∷◌, Option, None, refl, sym, subst, arith}
-use Rattle.c_parse_stmt.specs.Words.{Keyword, Punctuator, Token, Expression, Wraps, height_of, height_of_for_initialiser, locals_of_for_initialiser, ForInitialiser, Evaluating, Evaluate, For, IsUpTo, IsForInitialiser, token, IsKeyword, HasPunctuator, HasKeyword, Left, NoPunctuator, APunctuator, NoneUpTo, HasUpTo, NoForInitialiser, HasForInitialiser, NoStatement, HasStatement, NoEvaluation, HasEvaluation, bytes_so_far, end_of_for_initialiser}
+use Rattle.c_parse_stmt.specs.Words.{Keyword, Punctuator, Token, Expression, Wraps, height_of, height_of_for_initialiser, locals_of_for_initialiser, ForInitialiser, Evaluating, Evaluate, For, IsUpTo, IsForInitialiser, token, IsKeyword, HasPunctuator, HasKeyword, Remaining, NoPunctuator, APunctuator, NoneUpTo, HasUpTo, NoForInitialiser, HasForInitialiser, NoStatement, HasStatement, NoEvaluation, HasEvaluation, bytes_so_far, end_of_for_initialiser}
 use Rattle.c_lex.specs.declared.keyword.Keyword.TheVariants as keywords
 use Rattle.c_lex.specs.declared.punctuator.Punctuator.TheVariants as punctuators
 use Rattle.c_lex.specs.declared.token.Kind.TheVariants as kinds
@@ -13,7 +13,7 @@ use Rattle.c_parse_stmt.proofs.Heading.{Key, Sig, UpTo, key_moves, semicolon, Em
 
 -- ---- in the parentheses of a `for`
 
-pub for_open : (room at : ℕ) (left : Left) (text : List ℕ) (ts a : List Token) → 1 ≤ room
+pub for_open : (room at : ℕ) (left : Remaining) (text : List ℕ) (ts a : List Token) → 1 ≤ room
     → IsKeyword keywords.For at ts a → Wraps (NoPunctuator punctuators.OpenParenthesis)
     (APunctuator punctuators.OpenParenthesis) (NoStatement room left) (HasStatement room left)
     text a ts
@@ -78,7 +78,8 @@ for_condition_moves at f c text ts a b d g k o h u = both_moves (ForFirst at f)
     (UpTo punctuators.Semicolon c) text ts d g (for_first_moves at f text ts a b d k o h)
     (up_to_moves punctuators.Semicolon c text d g u)
 
-pub for_initialiser : (room at : ℕ) (left : Left) (text : List ℕ) (ts a b : List Token) → 1 ≤ room
+pub for_initialiser : (room at : ℕ) (left : Remaining) (text : List ℕ) (ts a b : List Token)
+    → 1 ≤ room
     → IsKeyword keywords.For at ts a → HasPunctuator punctuators.OpenParenthesis a b
     → Wraps (NoForInitialiser left) (HasForInitialiser left) (NoStatement room left)
     (HasStatement room left) text b ts
@@ -111,7 +112,8 @@ for_initialiser room at left text ts a b o k s =
       };
     })
 
-started : (at : ℕ) (text : List ℕ) (left mid : Left) (f : ForInitialiser) (ts rest : List Token)
+started : (at : ℕ) (text : List ℕ) (left mid : Remaining) (f : ForInitialiser)
+    (ts rest : List Token)
     (r : ForFirst at f text ts rest) → height_of_for_initialiser f ≤ 64
     → mid.locals + locals_of_for_initialiser f ≡ left.locals → mid.funclets ≡ left.funclets
     → bytes_so_far mid.bytes ≡ end_of_for_initialiser f (bytes_so_far left.bytes)
@@ -125,7 +127,7 @@ started at text left mid f ts rest r low l m ends = record {
   funclets = m;
 }
 
-pub for_condition : (room at : ℕ) (left mid : Left) (f : ForInitialiser) (text : List ℕ)
+pub for_condition : (room at : ℕ) (left mid : Remaining) (f : ForInitialiser) (text : List ℕ)
     (ts a b d : List Token) → 1 ≤ room → IsKeyword keywords.For at ts a
     → HasPunctuator punctuators.OpenParenthesis a b → IsForInitialiser text f b d
     → height_of_for_initialiser f ≤ 64 → mid.locals + locals_of_for_initialiser f ≡ left.locals
@@ -163,7 +165,7 @@ for_condition room at left mid f text ts a b d o k s u low l m ends =
       };
     })
 
-pub for_next : (room at : ℕ) (left mid : Left) (f : ForInitialiser) (c : Option Expression)
+pub for_next : (room at : ℕ) (left mid : Remaining) (f : ForInitialiser) (c : Option Expression)
     (text : List ℕ) (ts a b d g : List Token) → 1 ≤ room → IsKeyword keywords.For at ts a
     → HasPunctuator punctuators.OpenParenthesis a b → IsForInitialiser text f b d
     → height_of_for_initialiser f ≤ 64 → mid.locals + locals_of_for_initialiser f ≡ left.locals
@@ -206,7 +208,7 @@ for_next room at left mid f c text ts a b d g o k s u low l m ends v low' =
 
 -- ---- expression statements
 
-pub evaluation : (room : ℕ) (left : Left) (text : List ℕ) (ts : List Token)
+pub evaluation : (room : ℕ) (left : Remaining) (text : List ℕ) (ts : List Token)
     → Wraps (NoneUpTo punctuators.Semicolon room) (HasUpTo punctuators.Semicolon room)
     (NoEvaluation room left) (HasEvaluation room left) text ts ts
 evaluation room left text ts = record {
@@ -227,7 +229,7 @@ evaluation room left text ts = record {
       });
 }
 
-evaluation_wraps : (room : ℕ) (left : Left) (text : List ℕ) (ts : List Token)
+evaluation_wraps : (room : ℕ) (left : Remaining) (text : List ℕ) (ts : List Token)
     → Lacks punctuators.OpenBrace ts → ((k : Keyword) (rest : List Token) → HasKeyword k ts rest
     → Plain k) → Wraps (NoEvaluation room left) (HasEvaluation room left) (NoStatement room left)
     (HasStatement room left) text ts ts
@@ -243,7 +245,8 @@ evaluation_wraps room left text ts o p = record {
 }
 
 -- no statement but one of an expression begins with the keyword
-pub evaluation_after : (room at : ℕ) (left : Left) (k : Keyword) (text : List ℕ) (ts a : List Token)
+pub evaluation_after : (room at : ℕ) (left : Remaining) (k : Keyword) (text : List ℕ)
+    (ts a : List Token)
     → IsKeyword k at ts a → Plain k → Wraps (NoEvaluation room left) (HasEvaluation room left)
     (NoStatement room left) (HasStatement room left) text ts ts
 evaluation_after room at left k text ts a is p =
@@ -253,7 +256,7 @@ evaluation_after room at left k text ts a is p =
     ≡ kinds.Keyword k = q.0 in cc)
     (λ j rest h. subst Plain (sym (keyword_same j k ts ts rest a refl h (at, is)).0) p)
 
-pub evaluation_alone : (room : ℕ) (left : Left) (text : List ℕ) (ts : List Token)
+pub evaluation_alone : (room : ℕ) (left : Remaining) (text : List ℕ) (ts : List Token)
     → Lacks punctuators.OpenBrace ts → ((k : Keyword) (rest : List Token) → HasKeyword k ts rest
     → ⊥) → Wraps (NoEvaluation room left) (HasEvaluation room left) (NoStatement room left)
     (HasStatement room left) text ts ts

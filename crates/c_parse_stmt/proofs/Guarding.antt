@@ -3,7 +3,7 @@ use Rattle.std.proofs.Common.{◌≡◌, ◌≤◌, ◌+◌, ◌++◌, ℕ, Bool
 use Rattle.c_lex.specs.declared.keyword.Keyword.TheVariants as keywords
 use Rattle.c_lex.specs.declared.punctuator.Punctuator.TheVariants as punctuators
 use Rattle.c_lex.specs.declared.token.Kind.TheVariants as kinds
-use Rattle.c_parse_stmt.specs.Words.{Token, Expression, height, Alike, place, Able, Failed, Wraps, statements_over_all, accepts, numbered, funclets_of_all, Statement, Declare, TryExcept, TryFinally, Statements, Empty, Then, IsCondition, IsBlockItem, AreBlockItems, token, IsKeyword, HasPunctuator, HasKeyword, Left, numbers_of, NoFilter, HasFilter, IsTry, Guards, NoPunctuator, APunctuator, AllWithin, AllTaken, NoBlockItems, HasBlockItems, NoStatement, HasStatement}
+use Rattle.c_parse_stmt.specs.Words.{Token, Expression, height, Alike, place, Able, Failed, Wraps, statements_over_all, accepts, numbered, funclets_of_all, Statement, Declare, TryExcept, TryFinally, Statements, Empty, Then, IsCondition, IsBlockItem, AreBlockItems, token, IsKeyword, HasPunctuator, HasKeyword, Remaining, numbers_of, NoFilter, HasFilter, IsTry, Guards, NoPunctuator, APunctuator, AllWithin, AllTaken, NoBlockItems, HasBlockItems, NoStatement, HasStatement}
 use Rattle.c_parse_stmt.proofs.Lemmas.{alike_inner, no_keyword, Moves, condition, items, filter}
 use Rattle.c_syntax.proofs.MovesStatements.{funclets_of_all as same_funclets}
 use Rattle.c_parse_stmt.proofs.Heading.{Key, Sig, Condition, key_moves, key_wraps, unit, braces, finally}
@@ -28,13 +28,13 @@ bare text (Then s ss) h =
     omega (arith, length-append {A = ℕ})
 
 -- after the block of a `__try` that can continue, a statement may be or a number is left
-pub still : (text : List ℕ) (room : ℕ) (left after : Left) (body : Statements)
+pub still : (text : List ℕ) (room : ℕ) (left after : Remaining) (body : Statements)
     → 1 ≤ room + left.funclets → AllTaken text room left after body → 1 ≤ room + after.funclets
 still text zero left after body h t = let b = bare text body t.statements in let f = t.funclets in
     omega arith
 still text (suc room) left after body h t = omega arith
 
-pub guard_able : (room : ℕ) (left : Left) (n : ℕ) (text : List ℕ) (body : Statements)
+pub guard_able : (room : ℕ) (left : Remaining) (n : ℕ) (text : List ℕ) (body : Statements)
     (front : List Token) → 1 ≤ room + left.funclets → AllWithin n text room left body
     → Fixed (Guard body) text front → Able (HasStatement room left) n text front
 guard_able zero left n text body front h w r = record {
@@ -75,11 +75,11 @@ guard_able (suc room) left n text body front h w r = record {
 
 -- ---- the first block
 
-no_open : (room : ℕ) (left : Left) (n : ℕ) (text : List ℕ) (ts : List Token)
+no_open : (room : ℕ) (left : Remaining) (n : ℕ) (text : List ℕ) (ts : List Token)
     → NoPunctuator punctuators.OpenBrace n text ts → NoneBraced room left n text ts
 no_open room left n text ts none ss end h w = none h.after_brace h.brace
 
-pub try_open : (room at : ℕ) (left : Left) (text : List ℕ) (ts a : List Token)
+pub try_open : (room at : ℕ) (left : Remaining) (text : List ℕ) (ts a : List Token)
     → 1 ≤ room + left.funclets → IsKeyword keywords.Try at ts a
     → Wraps (NoPunctuator punctuators.OpenBrace) (APunctuator punctuators.OpenBrace)
     (NoStatement room left) (HasStatement room left) text a ts
@@ -102,7 +102,7 @@ try_open room at left text ts a o k =
     (both_fixed Tries (Items Empty) text' front brace
     (λ other. (inner ++ other, (at, (end, refl)), has other)) (is_brace text'))))
 
-pub try_body : (room : ℕ) (left : Left) (text : List ℕ) (ts rest : List Token)
+pub try_body : (room : ℕ) (left : Remaining) (text : List ℕ) (ts rest : List Token)
     → 1 ≤ room + left.funclets → IsTry ts rest
     → Wraps (NoBlockItems room left) (HasBlockItems room left) (NoStatement room left)
     (HasStatement room left) text rest ts
@@ -116,14 +116,14 @@ try_body room left text ts rest o t =
 
 -- ---- after the first block
 
-pub guard_moves : (room : ℕ) (whole left : Left) (body : Statements) (text : List ℕ)
+pub guard_moves : (room : ℕ) (whole left : Remaining) (body : Statements) (text : List ℕ)
     (ts rest : List Token) → Guards text room whole left body ts rest
     → Moves (Guard body) text ts rest
 guard_moves room whole left body text ts rest g = both_moves Tries (Items body) text ts g.mid rest
     (try_moves text ts g.mid g.is) (items body text g.mid rest g.are)
 
 -- as many numbers are taken in a text that spells it alike
-pub taken_moved : (room : ℕ) (whole left : Left) (body : Statements) (text text' : List ℕ)
+pub taken_moved : (room : ℕ) (whole left : Remaining) (body : Statements) (text text' : List ℕ)
     (ts rest : List Token) → Alike text text' ts → Guards text room whole left body ts rest
     → AllTaken text' room whole left body
 taken_moved room whole left body text text' ts rest h g =
@@ -139,7 +139,7 @@ taken_moved room whole left body text text' ts rest h g =
       funclets = omega arith;
     }
 
-pub all_within : (n room : ℕ) (whole left : Left) (body : Statements) (text : List ℕ)
+pub all_within : (n room : ℕ) (whole left : Remaining) (body : Statements) (text : List ℕ)
     → AllTaken text room whole left body → AllWithin n text room whole body
 all_within n room whole left body text t =
     let l = t.locals in let f = t.funclets in let b = t.bytes in
@@ -155,14 +155,14 @@ pub braced : (body : Statements) (text : List ℕ) (ts rest : List Token)
     (r : Guard body text ts rest) → IsBraced text body r.first.0 rest
 braced body text ts rest r = record { after_brace = r.mid; brace = r.first.2; items = r.second }
 
-guard_stays : (n room : ℕ) (whole left : Left) (body : Statements) (text text' : List ℕ)
+guard_stays : (n room : ℕ) (whole left : Remaining) (body : Statements) (text text' : List ℕ)
     (ts rest front : List Token) → Alike text text' ts → Guards text room whole left body ts rest
     → Fixed (Guard body) text' front → Able (HasStatement room whole) n text' front
 guard_stays n room whole left body text text' ts rest front h g r = guard_able room whole n text'
     body front g.some (all_within n room whole left body text'
     (taken_moved room whole left body text text' ts rest h g)) r
 
-pub unguarded_fails : (room : ℕ) (whole left : Left) (body : Statements) (text : List ℕ)
+pub unguarded_fails : (room : ℕ) (whole left : Remaining) (body : Statements) (text : List ℕ)
     (ts rest : List Token) → Guards text room whole left body ts rest
     → ((z : List Token) → HasKeyword keywords.Except rest z → ⊥)
     → ((z : List Token) → HasKeyword keywords.Finally rest z → ⊥) →
@@ -176,7 +176,7 @@ unguarded_fails room whole left body text ts rest g x y =
     (λ text' front h r. guard_stays 7 room whole left body text text' ts rest front h g r)
     (λ text' k front h r e. absurd (omega arith))
 
-pub except_too_deep : (room at : ℕ) (whole left : Left) (body : Statements) (text : List ℕ)
+pub except_too_deep : (room at : ℕ) (whole left : Remaining) (body : Statements) (text : List ℕ)
     (ts rest j : List Token) → room ≡ 0 → Guards text room whole left body ts rest
     → IsKeyword keywords.Except at rest j → Failed 1 at (NoStatement room whole)
     (HasStatement room whole) text ts
@@ -212,7 +212,7 @@ except_too_deep room at whole left body text ts rest j z g key =
       };
     }))
 
-pub finally_too_many : (room at : ℕ) (whole left : Left) (body : Statements) (text : List ℕ)
+pub finally_too_many : (room at : ℕ) (whole left : Remaining) (body : Statements) (text : List ℕ)
     (ts rest j : List Token) → left.funclets ≡ 0 → Guards text room whole left body ts rest
     → IsKeyword keywords.Finally at rest j → Failed 7 at (NoStatement room whole)
     (HasStatement room whole) text ts
@@ -259,14 +259,14 @@ Excepting body at = Both (Guard body) (Key keywords.Except at)
 abbrev pub Filtering : Statements → ℕ → Expression → List ℕ → List Token → List Token → Type 0
 Filtering body at f = Both (Excepting body at) (Condition f)
 
-excepting_moves : (room at : ℕ) (whole left : Left) (body : Statements) (text : List ℕ)
+excepting_moves : (room at : ℕ) (whole left : Remaining) (body : Statements) (text : List ℕ)
     (ts rest j : List Token) → Guards text room whole left body ts rest
     → IsKeyword keywords.Except at rest j → Moves (Excepting body at) text ts j
 excepting_moves room at whole left body text ts rest j g k = both_moves (Guard body)
     (Key keywords.Except at) text ts rest j (guard_moves room whole left body text ts rest g)
     (key_moves keywords.Except at text rest j k)
 
-filtering_moves : (room at : ℕ) (whole left : Left) (body : Statements) (f : Expression)
+filtering_moves : (room at : ℕ) (whole left : Remaining) (body : Statements) (f : Expression)
     (text : List ℕ) (ts rest j c : List Token) → Guards text room whole left body ts rest
     → IsKeyword keywords.Except at rest j → IsCondition text f j c
     → Moves (Filtering body at f) text ts c
@@ -274,7 +274,7 @@ filtering_moves room at whole left body f text ts rest j c g k is = both_moves (
     (Condition f) text ts j c (excepting_moves room at whole left body text ts rest j g k)
     (condition f text j c is)
 
-pub filter_moved : (room at : ℕ) (whole left next : Left) (body : Statements) (f : Expression)
+pub filter_moved : (room at : ℕ) (whole left next : Remaining) (body : Statements) (f : Expression)
     (text text' : List ℕ) (ts rest j c : List Token) → Alike text text' ts
     → Guards text room whole left body ts rest → IsKeyword keywords.Except at rest j
     → IsCondition text f j c → next.funclets + numbers_of (accepts text f) ≡ left.funclets
@@ -301,7 +301,7 @@ filtered body at f last text ts rest c w end o i = excepted body last at f text 
   };
 })
 
-pub filter_fails : (room at : ℕ) (whole left : Left) (body : Statements) (text : List ℕ)
+pub filter_fails : (room at : ℕ) (whole left : Remaining) (body : Statements) (text : List ℕ)
     (ts rest j : List Token) → 1 ≤ room → Guards text room whole left body ts rest
     → IsKeyword keywords.Except at rest j → Wraps (NoFilter left.funclets) (HasFilter left.funclets)
     (NoStatement room whole) (HasStatement room whole) text j ts
@@ -339,7 +339,7 @@ filter_fails room at whole left body text ts rest j o g k =
           };
     })
 
-pub except_open : (room at : ℕ) (whole left next : Left) (body : Statements) (f : Expression)
+pub except_open : (room at : ℕ) (whole left next : Remaining) (body : Statements) (f : Expression)
     (text : List ℕ) (ts rest j c : List Token) → 1 ≤ room → Guards text room whole left body ts rest
     → IsKeyword keywords.Except at rest j → IsCondition text f j c → height f ≤ 64
     → next.funclets + numbers_of (accepts text f) ≡ left.funclets → next.locals ≡ left.locals
@@ -399,7 +399,7 @@ finished_so body at last text ts rest c w end o i = finished body last at text t
   second = (rest, w.second, record { after_brace = c; brace = o; items = i });
 })
 
-pub finally_open : (room at : ℕ) (whole left next : Left) (body : Statements) (text : List ℕ)
+pub finally_open : (room at : ℕ) (whole left next : Remaining) (body : Statements) (text : List ℕ)
     (ts rest j : List Token) → Guards text room whole left body ts rest
     → IsKeyword keywords.Finally at rest j → next.funclets + 1 ≡ left.funclets
     → next.locals ≡ left.locals → next.bytes ≡ left.bytes →

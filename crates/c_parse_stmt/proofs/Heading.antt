@@ -1,6 +1,6 @@
 -- Failures in what a statement begins with.
 use Rattle.std.proofs.Common.{◌≡◌, ◌≤◌, IsFalse, ◌+◌, ◌++◌, ℕ, suc, List, [], ◌∷◌, Option, None, refl, arith}
-use Rattle.c_parse_stmt.specs.Words.{Keyword, Punctuator, Token, Expression, Constant, Family, Able, Failed, Wraps, ForInitialiser, Evaluating, Statement, Evaluate, If, While, DoWhile, For, TryFinally, Empty, IsUpTo, IsCondition, IsForInitialiser, is_declaration, IsBlockItem, token, IsKeyword, HasPunctuator, Left, NoCondition, HasCondition, NoStatement, HasStatement, AfterKeyword}
+use Rattle.c_parse_stmt.specs.Words.{Keyword, Punctuator, Token, Expression, Constant, Family, Able, Failed, Wraps, ForInitialiser, Evaluating, Statement, Evaluate, If, While, DoWhile, For, TryFinally, Empty, IsUpTo, IsCondition, IsForInitialiser, is_declaration, IsBlockItem, token, IsKeyword, HasPunctuator, Remaining, NoCondition, HasCondition, NoStatement, HasStatement, AfterKeyword}
 use Rattle.c_lex.specs.declared.keyword.Keyword.TheVariants as keywords
 use Rattle.c_lex.specs.declared.punctuator.Punctuator.TheVariants as punctuators
 use Rattle.c_lex.specs.declared.token.IntegerType.TheVariants as types
@@ -47,7 +47,7 @@ is_empty text other = (
   a_punctuator punctuators.Semicolon other,
 )
 
-pub least : (room : ℕ) (left : Left) (n : ℕ) (text : List ℕ)
+pub least : (room : ℕ) (left : Remaining) (n : ℕ) (text : List ℕ)
     → HasStatement room left n text semicolon
 least room left n text = record {
   tree = Evaluate None;
@@ -62,7 +62,7 @@ least room left n text = record {
   };
 }
 
-pub any_able : (room : ℕ) (left : Left) (n : ℕ) (text : List ℕ)
+pub any_able : (room : ℕ) (left : Remaining) (n : ℕ) (text : List ℕ)
     → Able (HasStatement room left) n text []
 any_able room left n text = record { more = semicolon; has = least room left n text }
 
@@ -90,7 +90,8 @@ is_unit text other = record {
 -- ---- at the keyword itself
 
 -- a limit excludes what the keyword begins
-pub at_keyword : (k : Keyword) (at kind room : ℕ) (left : Left) (text : List ℕ) (ts a : List Token)
+pub at_keyword : (k : Keyword) (at kind room : ℕ) (left : Remaining) (text : List ℕ)
+    (ts a : List Token)
     → IsKeyword k at ts a →
     ((text' : List ℕ) → (all more : List Token) → IsKeyword k at all more
     → NoStatement room left kind text' all) →
@@ -116,7 +117,7 @@ at_keyword k at kind room left text ts a key excludes go = record {
       };
 }
 
-pub if_too_deep : (room at : ℕ) (left : Left) (text : List ℕ) (ts a : List Token) → room ≡ 0
+pub if_too_deep : (room at : ℕ) (left : Remaining) (text : List ℕ) (ts a : List Token) → room ≡ 0
     → IsKeyword keywords.If at ts a → Failed 1 at (NoStatement room left) (HasStatement room left)
     text ts
 if_too_deep room at left text ts a z k =
@@ -144,7 +145,7 @@ if_too_deep room at left text ts a z k =
       },
     ))
 
-pub while_too_deep : (room at : ℕ) (left : Left) (text : List ℕ) (ts a : List Token) → room ≡ 0
+pub while_too_deep : (room at : ℕ) (left : Remaining) (text : List ℕ) (ts a : List Token) → room ≡ 0
     → IsKeyword keywords.While at ts a → Failed 1 at (NoStatement room left)
     (HasStatement room left) text ts
 while_too_deep room at left text ts a z k =
@@ -176,7 +177,7 @@ while_too_deep room at left text ts a z k =
 abbrev pub while_end : List Token
 while_end = word keywords.While ∷ in_parentheses ++ semicolon
 
-pub do_too_deep : (room at : ℕ) (left : Left) (text : List ℕ) (ts a : List Token) → room ≡ 0
+pub do_too_deep : (room at : ℕ) (left : Remaining) (text : List ℕ) (ts a : List Token) → room ≡ 0
     → IsKeyword keywords.Do at ts a → Failed 1 at (NoStatement room left) (HasStatement room left)
     text ts
 do_too_deep room at left text ts a z k =
@@ -270,7 +271,7 @@ is_for1 text other = record {
   second = is_for2 text other;
 }
 
-pub for_too_deep : (room at : ℕ) (left : Left) (text : List ℕ) (ts a : List Token) → room ≡ 0
+pub for_too_deep : (room at : ℕ) (left : Remaining) (text : List ℕ) (ts a : List Token) → room ≡ 0
     → IsKeyword keywords.For at ts a → Failed 1 at (NoStatement room left) (HasStatement room left)
     text ts
 for_too_deep room at left text ts a z k =
@@ -305,7 +306,7 @@ braces = punctuator punctuators.OpenBrace ∷ punctuator punctuators.CloseBrace 
 abbrev pub finally : List Token
 finally = word keywords.Finally ∷ braces
 
-pub try_too_many : (room at : ℕ) (left : Left) (text : List ℕ) (ts a : List Token) → room ≡ 0
+pub try_too_many : (room at : ℕ) (left : Remaining) (text : List ℕ) (ts a : List Token) → room ≡ 0
     → left.funclets ≡ 0 → IsKeyword keywords.Try at ts a
     → Failed 7 at (NoStatement room left) (HasStatement room left) text ts
 try_too_many room at left text ts a z y k =
@@ -347,7 +348,7 @@ try_too_many room at left text ts a z y k =
 
 -- ---- after the keyword
 
-pub key_wraps : (k : Keyword) (at room : ℕ) (left : Left) (No Has : Family) (text : List ℕ)
+pub key_wraps : (k : Keyword) (at room : ℕ) (left : Remaining) (No Has : Family) (text : List ℕ)
     (ts a : List Token) → IsKeyword k at ts a →
     ((n : ℕ) (text' : List ℕ) (other : List Token) → No n text' other
     → AfterKeyword k at other (NoStatement room left n text')) →
@@ -362,7 +363,8 @@ key_wraps k at room left No Has text ts a key f g = record {
   has = λ n text' inner h s has. g n text' inner key.0 has;
 }
 
-pub while_condition : (room at : ℕ) (left : Left) (text : List ℕ) (ts a : List Token) → 1 ≤ room
+pub while_condition : (room at : ℕ) (left : Remaining) (text : List ℕ) (ts a : List Token)
+    → 1 ≤ room
     → IsKeyword keywords.While at ts a → Wraps NoCondition HasCondition (NoStatement room left)
     (HasStatement room left) text a ts
 while_condition room at left text ts a o k =
@@ -394,7 +396,7 @@ while_condition room at left text ts a o k =
       };
     })
 
-pub if_condition : (room at : ℕ) (left : Left) (text : List ℕ) (ts a : List Token) → 1 ≤ room
+pub if_condition : (room at : ℕ) (left : Remaining) (text : List ℕ) (ts a : List Token) → 1 ≤ room
     → IsKeyword keywords.If at ts a → Wraps NoCondition HasCondition (NoStatement room left)
     (HasStatement room left) text a ts
 if_condition room at left text ts a o k =

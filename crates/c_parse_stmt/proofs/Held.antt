@@ -2,7 +2,7 @@
 use Rattle.std.proofs.Common.{◌≡◌, ◌≤◌, ◌+◌, ℕ, List, [], ◌∷◌, ◌++◌, length, length-append, map, IsFalse, true, false, Bool, refl, sym, ap, ◌∙◌, subst, arith, inl, inr}
 use Rattle.std.specs.Prelude.{Option, None, IfNone}
 use Rattle.c_lex.specs.declared.punctuator.Punctuator.TheVariants as punctuators
-use Rattle.c_parse_stmt.specs.Words.{Token, Base, Stmt, Alike, Able, Wraps, Closed, statements_over, over_block_item, locals, numbered, Local, Statement, Declare, Block, For, Statements, Empty, Then, statement, statements, is_declaration, IsDeclaration, IsBlockItem, AreBlockItems, HasPunctuator, IsBase, NoBase, Left, Opening, Opens, NoDeclaration, HasDeclaration, AllTaken, NoBlockItems, HasBlockItems, Within, IsStatementWithin, NoStatement, HasStatement, ReadsBlockItem, NoBlockItem, AnItem, HasBlockItem, bytes_so_far, end_of_arrays, end_of_all_arrays}
+use Rattle.c_parse_stmt.specs.Words.{Token, Base, Stmt, Alike, Able, Wraps, Closed, statements_over, over_block_item, locals, numbered, Local, Statement, Declare, Block, For, Statements, Empty, Then, statement, statements, is_declaration, IsDeclaration, IsBlockItem, AreBlockItems, HasPunctuator, IsBase, NoBase, Remaining, Opening, Opens, NoDeclaration, HasDeclaration, AllTaken, NoBlockItems, HasBlockItems, Within, IsStatementWithin, NoStatement, HasStatement, ReadsBlockItem, NoBlockItem, AnItem, HasBlockItem, bytes_so_far, end_of_arrays, end_of_all_arrays}
 use Rattle.c_parse_stmt.proofs.Lemmas.{base_front, begins, item_class, item_begins, class_low, brace_begins, items_else, typed_begins, one_statement, same_begins, no_base, no_punctuator, closed, has_punctuator}
 use Rattle.c_syntax.proofs.MovesStatements.{item as item_moves, numbered as same_funclets}
 use Rattle.c_parse_stmt.specs.declared.openings.Opening.TheVariants as openings
@@ -28,7 +28,7 @@ kind s = counts refl (λ n. refl)
 both : (b : Bool) → b ≡ false → b ≡ true → ⊥
 both b f t = let e = sym f ∙ t in cc
 
-no_counted : (limits : ℕ) (text : List ℕ) (room less : ℕ) (left : Left) (ts : List Token)
+no_counted : (limits : ℕ) (text : List ℕ) (room less : ℕ) (left : Remaining) (ts : List Token)
     → less + 1 ≡ room → NoBase ts → NoStatement less left limits text ts
     → NoBlockItem room left limits text ts
 no_counted limits text room less left ts n b none s end h c w = by (kind s)
@@ -50,7 +50,7 @@ more_over : (n room less over whole : ℕ) → less + 1 ≡ room → whole ≡ 1
 more_over n room less over whole m q f i = let a = f i in omega arith
 
 -- a statement is as an item, one deeper
-pub statement_item : (room less : ℕ) (left : Left) (text : List ℕ) (ts : List Token)
+pub statement_item : (room less : ℕ) (left : Remaining) (text : List ℕ) (ts : List Token)
     → less + 1 ≡ room → NoBase ts → Wraps (NoStatement less left) (HasStatement less left)
     (NoBlockItem room left) (HasBlockItem room left) text ts ts
 statement_item room less left text ts m b = record {
@@ -84,7 +84,7 @@ class_one : (s : Statement) → item_class s ≡ 1 → (b : Base) × (ls : List 
 class_one (Declare b ls) h = (b, ls, refl)
 class_one s h = absurd (omega arith)
 
-no_declared : (limits : ℕ) (text : List ℕ) (room : ℕ) (left : Left) (ts : List Token)
+no_declared : (limits : ℕ) (text : List ℕ) (room : ℕ) (left : Remaining) (ts : List Token)
     → begins ts ≡ 1 → NoDeclaration room left limits text ts
     → NoBlockItem room left limits text ts
 no_declared limits text room left ts typed none s end h c w =
@@ -102,7 +102,7 @@ no_declared limits text room left ts typed none s end h c w =
       bytes = v.bytes;
     })
 
-declared_item : (room : ℕ) (left : Left) (n : ℕ) (text : List ℕ) (ts : List Token)
+declared_item : (room : ℕ) (left : Remaining) (n : ℕ) (text : List ℕ) (ts : List Token)
     → HasDeclaration room left n text ts → HasBlockItem room left n text ts
 declared_item room left n text ts (inl e) = inl e
 declared_item room left n text ts (inr d) = inr
@@ -119,7 +119,7 @@ declared_item room left n text ts (inr d) = inr
     })
 
 -- a declaration is as an item
-pub declaration_item : (room : ℕ) (left : Left) (d : Base) (text : List ℕ)
+pub declaration_item : (room : ℕ) (left : Remaining) (d : Base) (text : List ℕ)
     (ts following : List Token) → IsBase d ts following
     → Wraps (NoDeclaration room left) (HasDeclaration room left)
     (NoBlockItem room left) (HasBlockItem room left) text ts ts
@@ -147,28 +147,29 @@ all : (xs : List Statement) → before xs Empty ≡ statements xs
 all [] = refl
 all (x ∷ xs) = ap (λ (z : Statements). Then x z) (all xs)
 
-abbrev Given : List ℕ → ℕ → Left → Left → Statements → List Token → List Token → Type 0
+abbrev Given : List ℕ → ℕ → Remaining → Remaining → Statements → List Token → List Token → Type 0
 Given text room left after ss ts end = AreBlockItems text ss ts end
     × AllTaken text room left after ss
 
 -- What was read of a block, and what is left: it continues with what is at the rest, and fails
 -- where that fails.
-pub record Held (text : List ℕ) (room : ℕ) (whole : Left) (ts : List Token) (found : List Stmt)
-    (rest : List Token) (left : Left) : Type 0 where
-  pub forward : (ss : Statements) (end : List Token) (after : Left) → AreBlockItems text ss rest end
+pub record Held (text : List ℕ) (room : ℕ) (whole : Remaining) (ts : List Token) (found : List Stmt)
+    (rest : List Token) (left : Remaining) : Type 0 where
+  pub forward : (ss : Statements) (end : List Token) (after : Remaining)
+      → AreBlockItems text ss rest end
       → AllTaken text room left after ss → Given text room whole after
       (before (map statement found) ss) ts end
   pub wraps : Wraps (NoBlockItems room left) (HasBlockItems room left) (NoBlockItems room whole)
       (HasBlockItems room whole) text rest ts
 
-pub start : (text : List ℕ) (room : ℕ) (whole : Left) (ts : List Token)
+pub start : (text : List ℕ) (room : ℕ) (whole : Remaining) (ts : List Token)
     → Held text room whole ts [] ts whole
 start text room whole ts = record {
   forward = λ ss end after h t. (h, t);
   wraps = wraps_same (NoBlockItems room whole) (HasBlockItems room whole) text ts;
 }
 
-one_more : (text : List ℕ) (room : ℕ) (left less after : Left) (s : Statement)
+one_more : (text : List ℕ) (room : ℕ) (left less after : Remaining) (s : Statement)
     (rest following : List Token) (ss : Statements)
     → ReadsBlockItem text room left less s rest following → AllTaken text room less after ss
     → AllTaken text room left after (Then s ss)
@@ -184,7 +185,7 @@ one_more text room left less after s rest following ss r t =
       funclets = omega (arith, length-append {A = ℕ});
     }
 
-one_back : (limits : ℕ) (text : List ℕ) (room : ℕ) (left less : Left) (s : Statement)
+one_back : (limits : ℕ) (text : List ℕ) (room : ℕ) (left less : Remaining) (s : Statement)
     (rest following : List Token) → ReadsBlockItem text room left less s rest following
     → NoBlockItems room less limits text following → NoBlockItems room left limits text rest
 one_back limits text room left less s rest following r none Empty end h w = absurd
@@ -209,7 +210,7 @@ one_back limits text room left less s rest following r none (Then z zs) end h w 
       funclets = λ i. let a = w.funclets i in omega (arith, length-append {A = ℕ});
     })
 
-item_moved : (text text' : List ℕ) (room : ℕ) (left less : Left) (s : Statement)
+item_moved : (text text' : List ℕ) (room : ℕ) (left less : Remaining) (s : Statement)
     (ts rest all other : List Token) → Alike text text' ts
     → ReadsBlockItem text room left less s ts rest → IsBlockItem text' s all other → Closed s other
     → ReadsBlockItem text' room left less s all other
@@ -229,7 +230,7 @@ item_moved text text' room left less s ts rest all other h r i c =
     }
 
 -- after an item
-more_items : (room : ℕ) (left less : Left) (s : Statement) (text : List ℕ)
+more_items : (room : ℕ) (left less : Remaining) (s : Statement) (text : List ℕ)
     (rest following : List Token) → ReadsBlockItem text room left less s rest following
     → Wraps (NoBlockItems room less) (HasBlockItems room less) (NoBlockItems room left)
     (HasBlockItems room left) text following rest
@@ -257,7 +258,8 @@ more_items room left less s text rest following r =
       };
     }))
 
-pub continues : (text : List ℕ) (room : ℕ) (whole left less : Left) (ts rest following : List Token)
+pub continues : (text : List ℕ) (room : ℕ) (whole left less : Remaining)
+    (ts rest following : List Token)
     (found : List Stmt) (x : Stmt) → Held text room whole ts found rest left
     → ReadsBlockItem text room left less (statement x) rest following
     → Held text room whole ts (found ++ x ∷ []) following less
@@ -270,7 +272,7 @@ continues text room whole left less ts rest following found x d r = record {
       rest ts (more_items room left less (statement x) text rest following r) d.wraps;
 }
 
-nothing : (text : List ℕ) (room : ℕ) (left : Left) → AllTaken text room left left Empty
+nothing : (text : List ℕ) (room : ℕ) (left : Remaining) → AllTaken text room left left Empty
 nothing text room left = record {
   statements = omega arith;
   expressions = omega arith;
@@ -279,7 +281,7 @@ nothing text room left = record {
   funclets = omega arith;
 }
 
-pub ends : (text : List ℕ) (room : ℕ) (whole left : Left) (ts rest end : List Token)
+pub ends : (text : List ℕ) (room : ℕ) (whole left : Remaining) (ts rest end : List Token)
     (found : List Stmt) → Held text room whole ts found rest left
     → HasPunctuator punctuators.CloseBrace rest end
     → Given text room whole left (statements (map statement found)) ts end
@@ -287,7 +289,7 @@ ends text room whole left ts rest end found d h = subst
     (λ (z : Statements). Given text room whole left z ts end) (all (map statement found))
     (d.forward Empty end left h (nothing text room left))
 
-stuck : (limits : ℕ) (text : List ℕ) (room : ℕ) (left : Left) (rest : List Token)
+stuck : (limits : ℕ) (text : List ℕ) (room : ℕ) (left : Remaining) (rest : List Token)
     → Lacks punctuators.CloseBrace rest → NoBlockItem room left limits text rest
     → NoBlockItems room left limits text rest
 stuck limits text room left rest l none Empty end h w = l end h
@@ -304,7 +306,7 @@ stuck limits text room left rest l none (Then s ss) end h w =
       funclets = λ i. let a = w.funclets i in omega (arith, length-append {A = ℕ});
     })
 
-one_item : (room : ℕ) (left : Left) (n : ℕ) (text : List ℕ) (ts : List Token)
+one_item : (room : ℕ) (left : Remaining) (n : ℕ) (text : List ℕ) (ts : List Token)
     → HasBlockItem room left n text ts → Able (HasBlockItems room left) n text ts
 one_item room left n text ts (inl e) = record {
   more = brace;
@@ -339,7 +341,7 @@ one_item room left n text ts (inr has) = record {
   };
 }
 
-item_items : (room : ℕ) (left : Left) (text : List ℕ) (rest : List Token)
+item_items : (room : ℕ) (left : Remaining) (text : List ℕ) (rest : List Token)
     → Lacks punctuators.CloseBrace rest → Wraps (NoBlockItem room left) (HasBlockItem room left)
     (NoBlockItems room left) (HasBlockItems room left) text rest rest
 item_items room left text rest l = record {
@@ -351,7 +353,7 @@ item_items room left text rest l = record {
 }
 
 -- no other item is at the rest, which isn't the end
-pub item_fails : (text : List ℕ) (room : ℕ) (whole left : Left) (ts rest : List Token)
+pub item_fails : (text : List ℕ) (room : ℕ) (whole left : Remaining) (ts rest : List Token)
     (found : List Stmt) → Held text room whole ts found rest left
     → Lacks punctuators.CloseBrace rest → Wraps (NoBlockItem room left) (HasBlockItem room left)
     (NoBlockItems room whole) (HasBlockItems room whole) text rest ts
@@ -362,7 +364,7 @@ item_fails text room whole left ts rest found d l = wraps_wraps (NoBlockItem roo
 
 -- ---- blocks
 
-block_items : (room : ℕ) (left : Left) (text : List ℕ) (ts a : List Token)
+block_items : (room : ℕ) (left : Remaining) (text : List ℕ) (ts a : List Token)
     → HasPunctuator punctuators.OpenBrace ts a
     → Wraps (NoBlockItems room left) (HasBlockItems room left) (NoStatement room left)
     (HasStatement room left) text a ts
@@ -387,18 +389,19 @@ block_items room left text ts a o =
       };
     }))
 
-pub block_fails : (text : List ℕ) (room : ℕ) (left after : Left) (o : Opening)
+pub block_fails : (text : List ℕ) (room : ℕ) (left after : Remaining) (o : Opening)
     (ts rest : List Token) → Opens text room left after o ts rest → o ≡ openings.Block
     → Wraps (NoBlockItems room after) (HasBlockItems room after) (NoStatement room left)
     (HasStatement room left) text rest ts
 block_fails text room left after o ts rest i e =
     let q : Opens text room left after openings.Block ts rest = subst
     (λ (x : Opening). Opens text room left after x ts rest) e i in
-    subst (λ (x : Left). Wraps (NoBlockItems room x) (HasBlockItems room x) (NoStatement room left)
+    subst (λ (x : Remaining). Wraps (NoBlockItems room x) (HasBlockItems room x)
+    (NoStatement room left)
     (HasStatement room left) text rest ts) (sym q.0) (block_items room left text ts rest q.1)
 
 -- a brace, and what the block holds: the block is a statement
-pub block_found : (text : List ℕ) (room : ℕ) (left between after : Left) (o : Opening)
+pub block_found : (text : List ℕ) (room : ℕ) (left between after : Remaining) (o : Opening)
     (ss : Statements) (ts a rest : List Token) → Opens text room left between o ts a
     → o ≡ openings.Block → AreBlockItems text ss a rest → AllTaken text room between after ss
     → IsStatementWithin text room left after (Block ss) ts rest
@@ -406,7 +409,8 @@ block_found text room left between after o ss ts a rest i e are t =
     let q : Opens text room left between openings.Block ts a = subst
     (λ (x : Opening). Opens text room left between x ts a) e i in
     let same : between ≡ left = q.0 in
-    let k : AllTaken text room left after ss = subst (λ (x : Left). AllTaken text room x after ss)
+    let k : AllTaken text room left after ss =
+    subst (λ (x : Remaining). AllTaken text room x after ss)
     same t in
     record {
       is = record { after_brace = a; brace = q.1; items = are };

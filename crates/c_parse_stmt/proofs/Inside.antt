@@ -2,7 +2,7 @@
 use Rattle.std.proofs.Common.{◌≡◌, ◌≤◌, ◌+◌, ◌++◌, ◌∙◌, ℕ, List, length, length-append, Option, option_map, refl, sym, ap, subst, arith}
 use Rattle.c_lex.specs.declared.keyword.Keyword.TheVariants as keywords
 use Rattle.c_lex.specs.declared.punctuator.Punctuator.TheVariants as punctuators
-use Rattle.c_parse_stmt.specs.Words.{Token, Stmt, expression, Alike, Able, Wraps, NoElse, Closed, Statement, If, IfElse, While, DoWhile, For, first, statement, IsCondition, dangles, IsBlockItem, IsKeyword, HasPunctuator, HasKeyword, Left, Opening, Ends, IsStatementHead, expressions_over, Heads, Opens, Holds, IsStatementWithin, NoStatement, HasStatement, bytes_so_far, end_of_arrays}
+use Rattle.c_parse_stmt.specs.Words.{Token, Stmt, expression, Alike, Able, Wraps, NoElse, Closed, Statement, If, IfElse, While, DoWhile, For, first, statement, IsCondition, dangles, IsBlockItem, IsKeyword, HasPunctuator, HasKeyword, Remaining, Opening, Ends, IsStatementHead, expressions_over, Heads, Opens, Holds, IsStatementWithin, NoStatement, HasStatement, bytes_so_far, end_of_arrays}
 use Rattle.c_syntax.specs.declared.expression.Expr.{Expr}
 use Rattle.c_syntax.specs.declared.statement.ForInitialiser.{ForInitialiser}
 use Rattle.c_parse_stmt.proofs.Lemmas.{absent, alike_inner, closed, Moves, has_keyword, condition, item}
@@ -46,16 +46,16 @@ head_moves (heads.For at f c n) text ts rest h =
 
 -- ---- the same counts
 
-pub record SameLeft (a b : Left) : Type 0 where
+pub record SameLeft (a b : Remaining) : Type 0 where
   pub locals : a.locals ≡ b.locals
   pub bytes : bytes_so_far a.bytes ≡ bytes_so_far b.bytes
   pub funclets : a.funclets ≡ b.funclets
 
-abbrev pub same_left : (a b : Left) → a.locals ≡ b.locals
+abbrev pub same_left : (a b : Remaining) → a.locals ≡ b.locals
     → bytes_so_far a.bytes ≡ bytes_so_far b.bytes → a.funclets ≡ b.funclets → SameLeft a b
 same_left a b p q r = record { locals = p; bytes = q; funclets = r }
 
-pub reads_from : (text : List ℕ) (room : ℕ) (left mid after : Left) (s : Statement)
+pub reads_from : (text : List ℕ) (room : ℕ) (left mid after : Remaining) (s : Statement)
     (ts rest : List Token) → SameLeft left mid → IsStatementWithin text room left after s ts rest
     → IsStatementWithin text room mid after s ts rest
 reads_from text room left mid after s ts rest e r =
@@ -73,7 +73,7 @@ reads_from text room left mid after s ts rest e r =
       };
     }
 
-none_from : (n : ℕ) (text : List ℕ) (room : ℕ) (left mid : Left) (ts : List Token)
+none_from : (n : ℕ) (text : List ℕ) (room : ℕ) (left mid : Remaining) (ts : List Token)
     → SameLeft left mid → NoStatement room left n text ts → NoStatement room mid n text ts
 none_from n text room left mid ts e none s end h d c w = none s end h d c (record {
   statements = w.statements;
@@ -84,7 +84,7 @@ none_from n text room left mid ts e none s end h d c w = none s end h d c (recor
 })
 
 -- a statement that was read, in a text that spells it alike and before what begins alike
-pub reads_moved : (text text' : List ℕ) (room : ℕ) (left after : Left) (s : Statement)
+pub reads_moved : (text text' : List ℕ) (room : ℕ) (left after : Remaining) (s : Statement)
     (ts rest all other : List Token) → Alike text text' ts
     → IsStatementWithin text room left after s ts rest → IsBlockItem text' s all other
     → Closed s other → IsStatementWithin text' room left after s all other
@@ -124,7 +124,7 @@ is_while_end text other = record {
 
 -- ---- the first statement
 
-no_inner : (h : Head) (n : ℕ) (text : List ℕ) (room less : ℕ) (whole left : Left)
+no_inner : (h : Head) (n : ℕ) (text : List ℕ) (room less : ℕ) (whole left : Remaining)
     (all other : List Token) → less + 1 ≡ room → IsStatementHead text h all other
     → expressions_over h ≤ 64 → left.locals + locals h ≡ whole.locals
     → bytes_so_far left.bytes ≡ end_of_head h (bytes_so_far whole.bytes)
@@ -151,7 +151,7 @@ no_inner (heads.For at g c e) n text room less whole left all other m h w l b f 
       funclets = f;
     }) h.condition h.next none all h.keyword
 
-has_inner : (h : Head) (n : ℕ) (text : List ℕ) (room less : ℕ) (whole left : Left)
+has_inner : (h : Head) (n : ℕ) (text : List ℕ) (room less : ℕ) (whole left : Remaining)
     (front inner : List Token) → less + 1 ≡ room → expressions_over h ≤ 64
     → left.locals + locals h ≡ whole.locals
     → bytes_so_far left.bytes ≡ end_of_head h (bytes_so_far whole.bytes)
@@ -251,7 +251,7 @@ has_inner (heads.For at g c e) n text room less whole left front inner m w l b f
       };
     })
 
-pub inner_fails : (h : Head) (room less : ℕ) (whole left : Left) (text : List ℕ)
+pub inner_fails : (h : Head) (room less : ℕ) (whole left : Remaining) (text : List ℕ)
     (ts rest : List Token) → less + 1 ≡ room → Heads text room whole left h ts rest
     → Wraps (NoStatement less left) (HasStatement less left) (NoStatement room whole)
     (HasStatement room whole) text rest ts
@@ -274,7 +274,8 @@ inner_moves h s text ts mid rest i j = both_moves (Headed h) (Item s) text ts mi
     (head_moves h text ts mid i) (item s text mid rest j)
 
 -- the statement after the head, wherever both are, before what begins alike
-pub inner_reads : (room : ℕ) (whole left : Left) (h : Head) (s : Statement) (text text' : List ℕ)
+pub inner_reads : (room : ℕ) (whole left : Remaining) (h : Head) (s : Statement)
+    (text text' : List ℕ)
     (ts rest all mid other : List Token) (g : Holds text room whole left h s ts rest)
     → Alike text text' ts → IsBlockItem text' s mid other → Closed s other
     → IsStatementWithin text' g.less g.between left s mid other
@@ -288,7 +289,7 @@ inner_reads room whole left h s text text' ts rest all mid other g k i c =
 abbrev pub Else : ℕ → Expr → Statement → List ℕ → List Token → List Token → Type 0
 Else at c s = Both (Inner (heads.If at c) s) (λ t. HasKeyword keywords.Else)
 
-pub else_fails : (at room : ℕ) (whole left : Left) (c : Expr) (s : Statement) (text : List ℕ)
+pub else_fails : (at room : ℕ) (whole left : Remaining) (c : Expr) (s : Statement) (text : List ℕ)
     (ts rest j : List Token) (g : Holds text room whole left (heads.If at c) s ts rest)
     → HasKeyword keywords.Else rest j → Wraps (NoStatement g.less left) (HasStatement g.less left)
     (NoStatement room whole) (HasStatement room whole) text j ts
@@ -342,7 +343,7 @@ else_fails at room whole left c s text ts rest j g els =
       };
     }))
 
-pub else_found : (at room : ℕ) (whole left after : Left) (c : Expr) (s z : Statement)
+pub else_found : (at room : ℕ) (whole left after : Remaining) (c : Expr) (s z : Statement)
     (text : List ℕ) (ts rest j end : List Token)
     (g : Holds text room whole left (heads.If at c) s ts rest) → HasKeyword keywords.Else rest j
     → IsStatementWithin text g.less left after z j end
@@ -357,7 +358,7 @@ else_found at room whole left after c s z text ts rest j end g els r =
 
 -- ---- without another statement
 
-pub if_ends : (at room : ℕ) (whole left : Left) (c : Expr) (s : Statement) (text : List ℕ)
+pub if_ends : (at room : ℕ) (whole left : Remaining) (c : Expr) (s : Statement) (text : List ℕ)
     (ts rest : List Token) → Holds text room whole left (heads.If at c) s ts rest → NoElse rest
     → IsStatementWithin text room whole left (If at (expression c) s) ts rest
 if_ends at room whole left c s text ts rest g els =
@@ -367,7 +368,7 @@ if_ends at room whole left c s text ts rest g els =
     if_found text room g.less at whole left (expression c) s i.0 g.mid rest g.more i.2 g.head.low
     (reads_from text g.less g.between whole left s g.mid rest p g.inner) els ts i.1
 
-pub while_ends : (at room : ℕ) (whole left : Left) (c : Expr) (s : Statement) (text : List ℕ)
+pub while_ends : (at room : ℕ) (whole left : Remaining) (c : Expr) (s : Statement) (text : List ℕ)
     (ts rest : List Token) → Holds text room whole left (heads.While at c) s ts rest
     → IsStatementWithin text room whole left (While at (expression c) s) ts rest
 while_ends at room whole left c s text ts rest g =
@@ -377,7 +378,7 @@ while_ends at room whole left c s text ts rest g =
     while_found text room g.less at whole left (expression c) s i.0 g.mid rest g.more i.2 g.head.low
     (reads_from text g.less g.between whole left s g.mid rest p g.inner) ts i.1
 
-pub for_ends : (at room : ℕ) (whole left : Left) (f : ForInitialiser) (c n : Option Expr)
+pub for_ends : (at room : ℕ) (whole left : Remaining) (f : ForInitialiser) (c n : Option Expr)
     (s : Statement) (text : List ℕ) (ts rest : List Token)
     → Holds text room whole left (heads.For at f c n) s ts rest
     → IsStatementWithin text room whole left (For at (first f) (option_map expression c)
@@ -397,14 +398,14 @@ for_ends at room whole left f c n s text ts rest g =
 
 -- ---- by what was read
 
-abbrev pub holds : (text : List ℕ) (room less : ℕ) (whole left after : Left) (h : Head)
+abbrev pub holds : (text : List ℕ) (room less : ℕ) (whole left after : Remaining) (h : Head)
     (s : Statement) (ts mid rest : List Token) → less + 1 ≡ room
     → Heads text room whole left h ts mid → IsStatementWithin text less left after s mid rest
     → Holds text room whole after h s ts rest
 holds text room less whole left after h s ts mid rest m g
     r = record { less = less; more = m; between = left; mid = mid; head = g; inner = r }
 
-pub otherwise_fails : (text : List ℕ) (room less at : ℕ) (whole left after : Left) (h : Head)
+pub otherwise_fails : (text : List ℕ) (room less at : ℕ) (whole left after : Remaining) (h : Head)
     (c : Expr) (t : Stmt) (s : Statement) (z : Ending) (ts mid rest j : List Token)
     → less + 1 ≡ room → Heads text room whole left h ts mid
     → IsStatementWithin text less left after s mid rest → Ends text h s z rest j
@@ -418,7 +419,8 @@ otherwise_fails text room less at whole left after h c t s z ts mid rest j m g r
     else_fails at room whole after c s text ts rest j
     (holds text room less whole left after (heads.If at c) s ts mid rest m g' r) q.2
 
-pub otherwise_found : (text : List ℕ) (room less at : ℕ) (whole left after last : Left) (h : Head)
+pub otherwise_found : (text : List ℕ) (room less at : ℕ) (whole left after last : Remaining)
+    (h : Head)
     (c : Expr) (t : Stmt) (s y : Statement) (z : Ending) (ts mid rest j end : List Token)
     → less + 1 ≡ room → Heads text room whole left h ts mid
     → IsStatementWithin text less left after s mid rest → Ends text h s z rest j
@@ -434,7 +436,8 @@ otherwise_found text room less at whole left after last h c t s y z ts mid rest 
     (else_found at room whole after last c s y text ts rest j end
     (holds text room less whole left after (heads.If at c) s ts mid rest m g' r) q.2 d)
 
-pub whole_found : (text : List ℕ) (room less : ℕ) (whole left after : Left) (h : Head) (made : Stmt)
+pub whole_found : (text : List ℕ) (room less : ℕ) (whole left after : Remaining) (h : Head)
+    (made : Stmt)
     (s : Statement) (z : Ending) (ts mid rest end : List Token) → less + 1 ≡ room
     → Heads text room whole left h ts mid → IsStatementWithin text less left after s mid rest
     → Ends text h s z rest end → z ≡ endings.Whole made
@@ -444,13 +447,13 @@ whole_found text room less whole left after h made s z ts mid rest end m g r i e
     (λ (x : Ending). Ends text h s x rest end) e i in
     q room whole after ts (holds text room less whole left after h s ts mid rest m g r)
 
-pub holds_as : (text : List ℕ) (room : ℕ) (left after : Left) (h k : Head) (s : Statement)
+pub holds_as : (text : List ℕ) (room : ℕ) (left after : Remaining) (h k : Head) (s : Statement)
     (ts rest : List Token) → h ≡ k → Holds text room left after h s ts rest
     → Holds text room left after k s ts rest
 holds_as text room left after h k s ts rest e g = subst
     (λ (x : Head). Holds text room left after x s ts rest) e g
 
-pub opens_head : (text : List ℕ) (room : ℕ) (left after : Left) (o : Opening) (h : Head)
+pub opens_head : (text : List ℕ) (room : ℕ) (left after : Remaining) (o : Opening) (h : Head)
     (ts rest : List Token) → Opens text room left after o ts rest → o ≡ openings.Head h
     → Heads text room left after h ts rest
 opens_head text room left after o h ts rest i e = subst

@@ -2,7 +2,7 @@
 use Rattle.std.proofs.Common.{◌≤◌, ◌+◌, ◌++◌, ℕ, IsFalse, List, length, refl, ap, ◌∙◌, arith}
 use Rattle.c_lex.specs.declared.keyword.Keyword.TheVariants as keywords
 use Rattle.c_lex.specs.declared.punctuator.Punctuator.TheVariants as punctuators
-use Rattle.c_parse_stmt.specs.Words.{Token, Expression, height, Alike, place, Failed, Wraps, Closed, statements_over, Statement, While, DoWhile, first, statement, IsCondition, is_declaration, IsBlockItem, IsKeyword, HasPunctuator, HasKeyword, Left, Holds, NoPunctuator, APunctuator, NoCondition, HasCondition, Within, IsStatementWithin, NoStatement, HasStatement, end_of_arrays}
+use Rattle.c_parse_stmt.specs.Words.{Token, Expression, height, Alike, place, Failed, Wraps, Closed, statements_over, Statement, While, DoWhile, first, statement, IsCondition, is_declaration, IsBlockItem, IsKeyword, HasPunctuator, HasKeyword, Remaining, Holds, NoPunctuator, APunctuator, NoCondition, HasCondition, Within, IsStatementWithin, NoStatement, HasStatement, end_of_arrays}
 use Rattle.c_parse_stmt.proofs.Lemmas.{while_else, alike_inner, closed, no_keyword, Moves, condition, item}
 use Rattle.c_syntax.proofs.MovesStatements.{numbered as same_funclets}
 use Rattle.c_parse_stmt.specs.declared.openings.Head.TheVariants as heads
@@ -14,7 +14,7 @@ use Rattle.c_parse_stmt.proofs.Inside.{head_moves, same_left, reads_from, WhileE
 
 -- ---- `do`
 
-pub do_ends : (room p : ℕ) (whole left : Left) (s : Statement) (c : Expression) (text : List ℕ)
+pub do_ends : (room p : ℕ) (whole left : Remaining) (s : Statement) (c : Expression) (text : List ℕ)
     (ts rest d e end : List Token) → Holds text room whole left heads.Do s ts rest
     → IsKeyword keywords.While p rest d → IsCondition text c d e → height c ≤ 64
     → HasPunctuator punctuators.Semicolon e end
@@ -26,7 +26,7 @@ do_ends room p whole left s c text ts rest d e end g k is low semi =
     do_found text room g.less i.0 p whole left s c g.mid rest d e end g.more
     (reads_from text g.less g.between whole left s g.mid rest q g.inner) k is low semi ts i.1
 
-do_reads : (room : ℕ) (whole left : Left) (s : Statement) (text text' : List ℕ)
+do_reads : (room : ℕ) (whole left : Remaining) (s : Statement) (text text' : List ℕ)
     (ts rest all other : List Token) (g : Holds text room whole left heads.Do s ts rest)
     → Alike text text' ts → (r : Inner heads.Do s text' all other) → Closed s other
     → IsStatementWithin text' g.less whole left s r.mid other
@@ -36,7 +36,7 @@ do_reads room whole left s text text' ts rest all other g k r c =
     reads_from text' g.less g.between whole left s r.mid other q
     (inner_reads room whole left heads.Do s text text' ts rest all r.mid other g k r.second c)
 
-do_within : (n room : ℕ) (whole left : Left) (s : Statement) (c : Expression) (at : ℕ)
+do_within : (n room : ℕ) (whole left : Remaining) (s : Statement) (c : Expression) (at : ℕ)
     (text text' : List ℕ) (ts rest : List Token) → Holds text room whole left heads.Do s ts rest
     → Alike text text' ts → (1 ≤ n → height c ≤ 64)
     → Within n text' (statements_over (DoWhile s at c)) room whole (DoWhile s at c)
@@ -56,12 +56,13 @@ do_within n room whole left s c at text text' ts rest g k low =
       funclets = λ i. omega arith;
     }
 
-do_moves : (room : ℕ) (whole left : Left) (s : Statement) (text : List ℕ) (ts rest : List Token)
+do_moves : (room : ℕ) (whole left : Remaining) (s : Statement) (text : List ℕ)
+    (ts rest : List Token)
     → Holds text room whole left heads.Do s ts rest → Moves (Inner heads.Do s) text ts rest
 do_moves room whole left s text ts rest g = inner_moves heads.Do s text ts g.mid rest g.head.is
     g.inner.is
 
-pub do_unended : (room : ℕ) (whole left : Left) (s : Statement) (text : List ℕ)
+pub do_unended : (room : ℕ) (whole left : Remaining) (s : Statement) (text : List ℕ)
     (ts rest : List Token) → Holds text room whole left heads.Do s ts rest
     → ((z : List Token) → HasKeyword keywords.While rest z → ⊥)
     → Failed 0 (place text rest) (NoStatement room whole) (HasStatement room whole) text ts
@@ -126,14 +127,14 @@ before_while : (s : Statement) (p : ℕ) (ts rest : List Token) → IsKeyword ke
     → Closed s ts
 before_while s p ts rest k i = while_else p ts rest k
 
-whiles_moves : (room p : ℕ) (whole left : Left) (s : Statement) (text : List ℕ)
+whiles_moves : (room p : ℕ) (whole left : Remaining) (s : Statement) (text : List ℕ)
     (ts rest d : List Token) → Holds text room whole left heads.Do s ts rest
     → IsKeyword keywords.While p rest d → Moves (DoWhiles s p) text ts d
 whiles_moves room p whole left s text ts rest d g k = both_moves (Inner heads.Do s)
     (Key keywords.While p) text ts rest d (do_moves room whole left s text ts rest g)
     (key_moves keywords.While p text rest d k)
 
-pub do_condition : (room p : ℕ) (whole left : Left) (s : Statement) (text : List ℕ)
+pub do_condition : (room p : ℕ) (whole left : Remaining) (s : Statement) (text : List ℕ)
     (ts rest d : List Token) → Holds text room whole left heads.Do s ts rest
     → IsKeyword keywords.While p rest d → Wraps NoCondition HasCondition (NoStatement room whole)
     (HasStatement room whole) text d ts
@@ -159,7 +160,8 @@ do_condition room p whole left s text ts rest d g key =
       };
     })
 
-pub do_semicolon : (room p : ℕ) (whole left : Left) (s : Statement) (c : Expression) (text : List ℕ)
+pub do_semicolon : (room p : ℕ) (whole left : Remaining) (s : Statement) (c : Expression)
+    (text : List ℕ)
     (ts rest d e : List Token) → Holds text room whole left heads.Do s ts rest
     → IsKeyword keywords.While p rest d → IsCondition text c d e → height c ≤ 64
     → Wraps (NoPunctuator punctuators.Semicolon) (APunctuator punctuators.Semicolon)

@@ -1,6 +1,6 @@
 -- Failures after the keyword of a jump.
 use Rattle.std.proofs.Common.{◌++◌, ℕ, List, [], ◌∷◌, refl, arith}
-use Rattle.c_parse_stmt.specs.Words.{Token, Wraps, Return, Break, Continue, Leave, token, IsKeyword, Left, NoPunctuator, APunctuator, NoneUpTo, HasUpTo, NoStatement, HasStatement}
+use Rattle.c_parse_stmt.specs.Words.{Token, Wraps, Return, Break, Continue, Leave, token, IsKeyword, Remaining, NoPunctuator, APunctuator, NoneUpTo, HasUpTo, NoStatement, HasStatement}
 use Rattle.c_lex.specs.declared.keyword.Keyword.TheVariants as keywords
 use Rattle.c_lex.specs.declared.punctuator.Punctuator.TheVariants as punctuators
 use Rattle.c_lex.specs.declared.token.Kind.TheVariants as kinds
@@ -8,7 +8,7 @@ use Rattle.c_parse_stmt.proofs.Heading.{key_wraps}
 use Rattle.c_parse_stmt.proofs.Sequences.{able_now}
 use Rattle.c_parse_stmt.proofs.Wholes.{no_return, no_break, no_continue, no_leave}
 
-pub return_value : (room at : ℕ) (left : Left) (text : List ℕ) (ts a : List Token)
+pub return_value : (room at : ℕ) (left : Remaining) (text : List ℕ) (ts a : List Token)
     → IsKeyword keywords.Return at ts a → Wraps (NoneUpTo punctuators.Semicolon room)
     (HasUpTo punctuators.Semicolon room) (NoStatement room left) (HasStatement room left) text a
     ts
@@ -30,7 +30,7 @@ return_value room at left text ts a k =
       };
     }))
 
-pub break_end : (room at : ℕ) (left : Left) (text : List ℕ) (ts a : List Token)
+pub break_end : (room at : ℕ) (left : Remaining) (text : List ℕ) (ts a : List Token)
     → IsKeyword keywords.Break at ts a → Wraps (NoPunctuator punctuators.Semicolon)
     (APunctuator punctuators.Semicolon) (NoStatement room left) (HasStatement room left) text a ts
 break_end room at left text ts a k =
@@ -51,7 +51,7 @@ break_end room at left text ts a k =
       };
     }))
 
-pub continue_end : (room at : ℕ) (left : Left) (text : List ℕ) (ts a : List Token)
+pub continue_end : (room at : ℕ) (left : Remaining) (text : List ℕ) (ts a : List Token)
     → IsKeyword keywords.Continue at ts a → Wraps (NoPunctuator punctuators.Semicolon)
     (APunctuator punctuators.Semicolon) (NoStatement room left) (HasStatement room left) text a ts
 continue_end room at left text ts a k =
@@ -72,7 +72,7 @@ continue_end room at left text ts a k =
       };
     }))
 
-pub leave_end : (room at : ℕ) (left : Left) (text : List ℕ) (ts a : List Token)
+pub leave_end : (room at : ℕ) (left : Remaining) (text : List ℕ) (ts a : List Token)
     → IsKeyword keywords.Leave at ts a → Wraps (NoPunctuator punctuators.Semicolon)
     (APunctuator punctuators.Semicolon) (NoStatement room left) (HasStatement room left) text a ts
 leave_end room at left text ts a k =

@@ -2,7 +2,7 @@
 use Rattle.std.proofs.Common.{◌≡◌, ◌≤◌, ◌+◌, ℕ, List, length-append, Option, Some, None, refl, sym, ap, ◌∙◌, subst, arith}
 use Rattle.c_lex.specs.declared.keyword.Keyword.TheVariants as keywords
 use Rattle.c_lex.specs.declared.punctuator.Punctuator.TheVariants as punctuators
-use Rattle.c_parse_stmt.specs.Words.{Token, Expression, height, height_of, one_over, height_of_for_initialiser, locals, locals_of_for_initialiser, ForInitialiser, Statement, While, DoWhile, For, IsUpTo, IsCondition, IsForInitialiser, IsBlockItem, IsKeyword, HasPunctuator, HasKeyword, Left, NoCondition, NoneUpTo, NoForInitialiser, IsStatementWithin, NoStatement, AfterKeyword, bytes_so_far, end_of_arrays, end_of_for_initialiser}
+use Rattle.c_parse_stmt.specs.Words.{Token, Expression, height, height_of, one_over, height_of_for_initialiser, locals, locals_of_for_initialiser, ForInitialiser, Statement, While, DoWhile, For, IsUpTo, IsCondition, IsForInitialiser, IsBlockItem, IsKeyword, HasPunctuator, HasKeyword, Remaining, NoCondition, NoneUpTo, NoForInitialiser, IsStatementWithin, NoStatement, AfterKeyword, bytes_so_far, end_of_arrays, end_of_for_initialiser}
 use Rattle.c_parse_stmt.proofs.Lemmas.{has_same, while_else, one_statement}
 use Rattle.c_syntax.proofs.Declarations.{condition, first}
 use Rattle.c_syntax.proofs.Blocks.{place}
@@ -12,7 +12,7 @@ use Rattle.c_parse_stmt.proofs.Wholes.{Lacks, fits, closed_as, after_condition, 
 
 -- ---- `while`
 
-pub while_found : (text : List ℕ) (room less at : ℕ) (left after : Left) (c : Expression)
+pub while_found : (text : List ℕ) (room less at : ℕ) (left after : Remaining) (c : Expression)
     (z : Statement) (a b rest : List Token) → less + 1 ≡ room → IsCondition text c a b
     → height c ≤ 64 → IsStatementWithin text less left after z b rest
     → AfterKeyword keywords.While at a (λ ts. IsStatementWithin text room left after (While at c z)
@@ -38,7 +38,7 @@ while_found text room less at left after c z a b rest n is low r ts k =
       };
     }
 
-pub no_while_room : (limits : ℕ) (text : List ℕ) (room at : ℕ) (left : Left) (a : List Token)
+pub no_while_room : (limits : ℕ) (text : List ℕ) (room at : ℕ) (left : Remaining) (a : List Token)
     → 1 ≤ limits → room ≡ 0 → AfterKeyword keywords.While at a (NoStatement room left limits text)
 no_while_room limits text room at left a i n ts k s end h d c w =
     let t = after_while text at s ts a end k h in
@@ -46,7 +46,8 @@ no_while_room limits text room at left a i n ts k s end h d c w =
     let o = v.statements (omega arith) in
     absurd (omega arith)
 
-pub no_while_condition : (limits : ℕ) (text : List ℕ) (room at : ℕ) (left : Left) (a : List Token)
+pub no_while_condition : (limits : ℕ) (text : List ℕ) (room at : ℕ) (left : Remaining)
+    (a : List Token)
     → NoCondition limits text a → AfterKeyword keywords.While at a
     (NoStatement room left limits text)
 no_while_condition limits text room at left a none ts k s end h d c w =
@@ -55,7 +56,8 @@ no_while_condition limits text room at left a none ts k s end h d c w =
     none t.condition t.after_condition t.is_condition
     (λ lim. let o = v.expressions lim in omega arith)
 
-pub no_while_body : (limits : ℕ) (text : List ℕ) (room less at : ℕ) (left : Left) (e : Expression)
+pub no_while_body : (limits : ℕ) (text : List ℕ) (room less at : ℕ) (left : Remaining)
+    (e : Expression)
     (a b : List Token) → less + 1 ≡ room → IsCondition text e a b
     → NoStatement less left limits text b → AfterKeyword keywords.While at a
     (NoStatement room left limits text)
@@ -75,7 +77,7 @@ no_while_body limits text room less at left e a b n is none ts k s end h d c w =
 
 -- ---- `do`
 
-pub no_do_room : (limits : ℕ) (text : List ℕ) (room at : ℕ) (left : Left) (a : List Token)
+pub no_do_room : (limits : ℕ) (text : List ℕ) (room at : ℕ) (left : Remaining) (a : List Token)
     → 1 ≤ limits → room ≡ 0 → AfterKeyword keywords.Do at a (NoStatement room left limits text)
 no_do_room limits text room at left a i n ts k s end h d c w =
     let t = after_do text at s ts a end k h in
@@ -83,7 +85,7 @@ no_do_room limits text room at left a i n ts k s end h d c w =
     let o = v.statements (omega arith) in
     absurd (omega arith)
 
-pub no_do_body : (limits : ℕ) (text : List ℕ) (room less at : ℕ) (left : Left) (a : List Token)
+pub no_do_body : (limits : ℕ) (text : List ℕ) (room less at : ℕ) (left : Remaining) (a : List Token)
     → less + 1 ≡ room → NoStatement less left limits text a
     → AfterKeyword keywords.Do at a (NoStatement room left limits text)
 no_do_body limits text room less at left a n none ts k s end h d c w =
@@ -98,7 +100,8 @@ no_do_body limits text room less at left a n none ts k s end h d c w =
       funclets = v.funclets;
     })
 
-pub no_do_while : (limits : ℕ) (text : List ℕ) (room less at : ℕ) (left mid : Left) (z : Statement)
+pub no_do_while : (limits : ℕ) (text : List ℕ) (room less at : ℕ) (left mid : Remaining)
+    (z : Statement)
     (a b : List Token) → IsStatementWithin text less left mid z a b
     → ((rest : List Token) → HasKeyword keywords.While b rest → ⊥)
     → AfterKeyword keywords.Do at a (NoStatement room left limits text)
@@ -109,7 +112,7 @@ no_do_while limits text room less at left mid z a b r none ts k s end h d c w =
     none t.after_while (subst (λ (y : List Token). HasKeyword keywords.While y t.after_while)
     (sym p) (t.at, t.keyword))
 
-pub no_do_condition : (limits : ℕ) (text : List ℕ) (room less at p : ℕ) (left mid : Left)
+pub no_do_condition : (limits : ℕ) (text : List ℕ) (room less at p : ℕ) (left mid : Remaining)
     (z : Statement) (a b j : List Token) → IsStatementWithin text less left mid z a b
     → IsKeyword keywords.While p b j → NoCondition limits text j
     → AfterKeyword keywords.Do at a (NoStatement room left limits text)
@@ -123,7 +126,8 @@ no_do_condition limits text room less at p left mid z a b j r kw none ts k s end
     (subst (λ (y : List Token). IsCondition text t.condition y t.after_condition)
     (sym u.1) t.is_condition) (λ lim. let o = v.expressions lim in omega arith)
 
-pub no_do_end : (limits : ℕ) (text : List ℕ) (room less at p : ℕ) (left mid : Left) (z : Statement)
+pub no_do_end : (limits : ℕ) (text : List ℕ) (room less at p : ℕ) (left mid : Remaining)
+    (z : Statement)
     (e : Expression) (a b j g : List Token) → IsStatementWithin text less left mid z a b
     → IsKeyword keywords.While p b j → IsCondition text e j g → Lacks punctuators.Semicolon g
     → AfterKeyword keywords.Do at a (NoStatement room left limits text)
@@ -137,7 +141,7 @@ no_do_end limits text room less at p left mid z e a b j g r kw is none ts k s en
     none end (subst (λ (y : List Token). HasPunctuator punctuators.Semicolon y end)
     (sym v.1) t.semicolon)
 
-pub do_found : (text : List ℕ) (room less at p : ℕ) (left after : Left) (z : Statement)
+pub do_found : (text : List ℕ) (room less at p : ℕ) (left after : Remaining) (z : Statement)
     (c : Expression) (a b d e rest : List Token) → less + 1 ≡ room
     → IsStatementWithin text less left after z a b → IsKeyword keywords.While p b d
     → IsCondition text c d e → height c ≤ 64 → HasPunctuator punctuators.Semicolon e rest
@@ -170,7 +174,7 @@ do_found text room less at p left after z c a b d e rest n r kw is low semi ts k
 
 -- ---- `for`
 
-pub no_for_room : (limits : ℕ) (text : List ℕ) (room at : ℕ) (left : Left) (a : List Token)
+pub no_for_room : (limits : ℕ) (text : List ℕ) (room at : ℕ) (left : Remaining) (a : List Token)
     → 1 ≤ limits → room ≡ 0 → AfterKeyword keywords.For at a (NoStatement room left limits text)
 no_for_room limits text room at left a i n ts k s end h d c w =
     let t = after_for text at s ts a end k h in
@@ -178,14 +182,15 @@ no_for_room limits text room at left a i n ts k s end h d c w =
     let o = v.statements (omega arith) in
     absurd (omega arith)
 
-pub no_for_open : (limits : ℕ) (text : List ℕ) (room at : ℕ) (left : Left) (a : List Token)
+pub no_for_open : (limits : ℕ) (text : List ℕ) (room at : ℕ) (left : Remaining) (a : List Token)
     → Lacks punctuators.OpenParenthesis a → AfterKeyword keywords.For at a
     (NoStatement room left limits text)
 no_for_open limits text room at left a none ts k s end h d c w =
     let t = after_for text at s ts a end k h in
     none t.after_opening t.opening
 
-pub no_for_initialiser : (limits : ℕ) (text : List ℕ) (room at : ℕ) (left : Left) (a b : List Token)
+pub no_for_initialiser : (limits : ℕ) (text : List ℕ) (room at : ℕ) (left : Remaining)
+    (a b : List Token)
     → HasPunctuator punctuators.OpenParenthesis a b → NoForInitialiser left limits text b
     → AfterKeyword keywords.For at a (NoStatement room left limits text)
 no_for_initialiser limits text room at left a b o none ts k s end h d c w =
@@ -199,7 +204,7 @@ no_for_initialiser limits text room at left a b o none ts k s end h d c w =
     let g = grows t.body (end_of_for_initialiser t.first (bytes_so_far left.bytes)) in omega arith)
 
 -- what was read after `for`
-pub record Started (text : List ℕ) (left mid : Left) (f : ForInitialiser)
+pub record Started (text : List ℕ) (left mid : Remaining) (f : ForInitialiser)
     (a b e : List Token) : Type 0 where
   pub opens : HasPunctuator punctuators.OpenParenthesis a b
   pub is : IsForInitialiser text f b e
@@ -208,7 +213,7 @@ pub record Started (text : List ℕ) (left mid : Left) (f : ForInitialiser)
   pub bytes : bytes_so_far mid.bytes ≡ end_of_for_initialiser f (bytes_so_far left.bytes)
   pub funclets : mid.funclets ≡ left.funclets
 
-after_first : (text : List ℕ) (left mid : Left) (f g : ForInitialiser) (a b e d r : List Token)
+after_first : (text : List ℕ) (left mid : Remaining) (f g : ForInitialiser) (a b e d r : List Token)
     → Started text left mid f a b e → HasPunctuator punctuators.OpenParenthesis a d
     → IsForInitialiser text g d r → (f ≡ g) × (e ≡ r)
 after_first text left mid f g a b e d r st o i = first text f g b d e r
@@ -218,7 +223,7 @@ some_over : (e : Option Expression) → one_over e ≤ 1
 some_over None = omega arith
 some_over (Some e) = omega arith
 
-pub no_for_condition : (limits : ℕ) (text : List ℕ) (room at : ℕ) (left mid : Left)
+pub no_for_condition : (limits : ℕ) (text : List ℕ) (room at : ℕ) (left mid : Remaining)
     (f : ForInitialiser) (a b e : List Token) → Started text left mid f a b e
     → NoneUpTo punctuators.Semicolon 1 limits text e
     → AfterKeyword keywords.For at a (NoStatement room left limits text)
@@ -232,7 +237,8 @@ no_for_condition limits text room at left mid f a b e st none ts k s end h d c w
     (sym p.1) t.is_condition) (λ lim. let o = v.expressions lim in omega arith)
     (λ i. some_over t.condition)
 
-pub no_for_next : (limits : ℕ) (text : List ℕ) (room at : ℕ) (left mid : Left) (f : ForInitialiser)
+pub no_for_next : (limits : ℕ) (text : List ℕ) (room at : ℕ) (left mid : Remaining)
+    (f : ForInitialiser)
     (m : Option Expression) (a b e g : List Token) → Started text left mid f a b e
     → IsUpTo text punctuators.Semicolon m e g
     → NoneUpTo punctuators.CloseParenthesis 1 limits text g
@@ -248,7 +254,7 @@ no_for_next limits text room at left mid f m a b e g st is none ts k s end h d c
     t.next y t.after_head) (sym q) t.is_next) (λ lim. let o = v.expressions lim in omega arith)
     (λ i. some_over t.next)
 
-pub no_for_body : (limits : ℕ) (text : List ℕ) (room less at : ℕ) (left mid : Left)
+pub no_for_body : (limits : ℕ) (text : List ℕ) (room less at : ℕ) (left mid : Remaining)
     (f : ForInitialiser) (m n : Option Expression) (a b e g j : List Token) → less + 1 ≡ room
     → Started text left mid f a b e → IsUpTo text punctuators.Semicolon m e g
     → IsUpTo text punctuators.CloseParenthesis n g j → NoStatement less mid limits text j
@@ -276,7 +282,7 @@ no_for_body limits text room less at left mid f m n a b e g j i st is is' none t
       funclets = λ lim. let o = v.funclets lim in omega (arith, length-append {A = ℕ});
     })
 
-pub for_found : (text : List ℕ) (room less at : ℕ) (left mid after : Left) (f : ForInitialiser)
+pub for_found : (text : List ℕ) (room less at : ℕ) (left mid after : Remaining) (f : ForInitialiser)
     (m n : Option Expression) (z : Statement) (a b e g j rest : List Token) → less + 1 ≡ room
     → Started text left mid f a b e → IsUpTo text punctuators.Semicolon m e g → height_of m ≤ 64
     → IsUpTo text punctuators.CloseParenthesis n g j → height_of n ≤ 64

@@ -1,6 +1,6 @@
 -- Where there is room for no statement.
 use Rattle.std.proofs.Common.{◌≡◌, ℕ, suc, List, [], ◌∷◌, ◌++◌, Some, None, IsFalse, refl, sym, subst, append_assoc, arith, inl, inr}
-use Rattle.c_parse_stmt.specs.Words.{Punctuator, Token, Derives, Alike, SameFirst, place, Able, Onward, Failed, statements_over, over_block_item, comma, Statement, Declare, is_declaration, IsBlockItem, HasPunctuator, NoBase, Left, Expressed, BeginsExpression, BeginsNoExpression, Stated, BeginsStatement, BeginsNoStatement, NoneUpTo, HasUpTo, NoBlockItem, HasBlockItem}
+use Rattle.c_parse_stmt.specs.Words.{Punctuator, Token, Derives, Alike, SameFirst, place, Able, Onward, Failed, statements_over, over_block_item, comma, Statement, Declare, is_declaration, IsBlockItem, HasPunctuator, NoBase, Remaining, Expressed, BeginsExpression, BeginsNoExpression, Stated, BeginsStatement, BeginsNoStatement, NoneUpTo, HasUpTo, NoBlockItem, HasBlockItem}
 use Rattle.c_parse_stmt.proofs.Begins.{base_first, punctuator}
 use Rattle.c_parse_stmt.proofs.Placing.{Lacks, lacks_first, missing}
 
@@ -77,7 +77,7 @@ room_for : (s : Statement) (n : ℕ) → IsFalse (is_declaration s) → over_blo
 room_for (Declare base ls) n d = absurd cc
 room_for s n d = omega arith
 
-pub no_statement : (left : Left) (text : List ℕ) (ts : List Token) → NoBase ts
+pub no_statement : (left : Remaining) (text : List ℕ) (ts : List Token) → NoBase ts
     → BeginsNoStatement ts → Failed 0 (place text ts) (NoBlockItem 0 left) (HasBlockItem 0 left)
     text ts
 no_statement left text ts none free =
@@ -86,7 +86,7 @@ no_statement left text ts none free =
     (undeclared text' s other end h (base_first ts other same none)))
     (λ text' a k. record { more = []; has = inl refl })
 
-stated : (left : Left) (text : List ℕ) (t : Token) → Stated text t
+stated : (left : Remaining) (text : List ℕ) (t : Token) → Stated text t
     → (more : List Token) × HasBlockItem 0 left 0 text (t ∷ more)
 stated left text t x = (
   x.more,
@@ -103,7 +103,7 @@ stated left text t x = (
   }),
 )
 
-pub deep_statement : (left : Left) (text : List ℕ) (ts : List Token) → NoBase ts
+pub deep_statement : (left : Remaining) (text : List ℕ) (ts : List Token) → NoBase ts
     → BeginsStatement ts → Failed 1 (place text ts) (NoBlockItem 0 left) (HasBlockItem 0 left) text
     ts
 deep_statement left text ts none b = record {

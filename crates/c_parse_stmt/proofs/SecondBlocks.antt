@@ -2,7 +2,7 @@
 use Rattle.std.proofs.Common.{◌≤◌, ◌+◌, ◌++◌, ℕ, List, length-append, refl, ap, ◌∙◌, subst, arith}
 use Rattle.c_lex.specs.declared.keyword.Keyword.TheVariants as keywords
 use Rattle.c_lex.specs.declared.punctuator.Punctuator.TheVariants as punctuators
-use Rattle.c_parse_stmt.specs.Words.{Token, expression, Wraps, accepts, TryExcept, TryFinally, Statements, AreBlockItems, Left, IsClause, ClauseIsTaken, with_clause, IsTry, Guards, AllTaken, NoBlockItems, HasBlockItems, IsStatementWithin, NoStatement, HasStatement, bytes_so_far, end_of_all_arrays}
+use Rattle.c_parse_stmt.specs.Words.{Token, expression, Wraps, accepts, TryExcept, TryFinally, Statements, AreBlockItems, Remaining, IsClause, ClauseIsTaken, with_clause, IsTry, Guards, AllTaken, NoBlockItems, HasBlockItems, IsStatementWithin, NoStatement, HasStatement, bytes_so_far, end_of_all_arrays}
 use Rattle.c_parse_stmt.proofs.Lemmas.{Moves, has_punctuator, condition, items, filter}
 use Rattle.c_parse_stmt.specs.declared.endings.Clause.{Clause}
 use Rattle.c_parse_stmt.specs.declared.endings.Clause.TheVariants as clauses
@@ -43,14 +43,15 @@ clause_moves (clauses.Finally at) text ts rest h =
 abbrev pub Clausing : Statements → Clause → List ℕ → List Token → List Token → Type 0
 Clausing body c = Both (Guard body) (λ t. IsClause t c)
 
-clausing_moves : (room : ℕ) (whole left : Left) (body : Statements) (c : Clause) (text : List ℕ)
+clausing_moves : (room : ℕ) (whole left : Remaining) (body : Statements) (c : Clause)
+    (text : List ℕ)
     (ts rest j : List Token) → Guards text room whole left body ts rest → IsClause text c rest j
     → Moves (Clausing body c) text ts j
 clausing_moves room whole left body c text ts rest j g is = both_moves (Guard body)
     (λ t. IsClause t c) text ts rest j (guard_moves room whole left body text ts rest g)
     (clause_moves c text rest j is)
 
-pub last_block : (room : ℕ) (whole left next : Left) (body : Statements) (c : Clause)
+pub last_block : (room : ℕ) (whole left next : Remaining) (body : Statements) (c : Clause)
     (text : List ℕ) (ts rest j : List Token) → Guards text room whole left body ts rest
     → ClauseIsTaken text room left next c rest j
     → Wraps (NoBlockItems room next) (HasBlockItems room next) (NoStatement room whole)
@@ -139,12 +140,14 @@ last_block room whole left next body (clauses.Finally at) text ts rest j g c =
       };
     }))
 
-pub guarded_found : (room : ℕ) (whole left next after : Left) (body last : Statements) (c : Clause)
+pub try_statement_found : (room : ℕ) (whole left next after : Remaining) (body last : Statements)
+    (c : Clause)
     (text : List ℕ) (ts rest j end : List Token) → Guards text room whole left body ts rest
     → ClauseIsTaken text room left next c rest j → AreBlockItems text last j end
     → AllTaken text room next after last → IsStatementWithin text room whole after
     (with_clause body c last) ts end
-guarded_found room whole left next after body last (clauses.Except at f) text ts rest j end g c are
+try_statement_found room whole left next after body last
+    (clauses.Except at f) text ts rest j end g c are
     t =
     except_found text room g.is.1.0 at whole left next after body last
     (expression f) g.is.0 rest c.is.after_keyword c.is.after_filter end c.statements
@@ -154,7 +157,8 @@ guarded_found room whole left next after body last (clauses.Except at f) text ts
       items = g.are;
     }) g.taken c.is.keyword c.is.filter c.low c.funclets c.locals c.bytes
     (record { after_brace = j; brace = c.is.brace; items = are }) t ts g.is.1.1
-guarded_found room whole left next after body last (clauses.Finally at) text ts rest j end g c are
+try_statement_found room whole left next after body last
+    (clauses.Finally at) text ts rest j end g c are
     t =
     finally_found text room g.is.1.0 at whole left next after body last g.is.0 rest c.is.0 end
     (record {
@@ -164,7 +168,7 @@ guarded_found room whole left next after body last (clauses.Finally at) text ts 
     }) g.taken c.is.1 c.funclets c.locals c.bytes
     (record { after_brace = j; brace = c.is.2; items = are }) t ts g.is.1.1
 
-abbrev pub guards : (text : List ℕ) (room : ℕ) (left after : Left) (body : Statements)
+abbrev pub guards : (text : List ℕ) (room : ℕ) (left after : Remaining) (body : Statements)
     (ts mid rest : List Token) → 1 ≤ room + left.funclets → IsTry ts mid
     → AreBlockItems text body mid rest → AllTaken text room left after body
     → Guards text room left after body ts rest

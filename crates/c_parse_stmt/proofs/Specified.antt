@@ -3,7 +3,7 @@
 use Rattle.std.proofs.Common.{◌≡◌, ◌≤◌, ℕ, List, [], ◌∷◌, ◌++◌, Option, Some, None, refl, sym, ap, ◌∙◌, subst, append_assoc, arith, inl, inr}
 use Rattle.std.proofs.lemmas.List.{append_cancel_right}
 use Rattle.c_lex.specs.declared.punctuator.Punctuator.TheVariants as punctuators
-use Rattle.c_parse_stmt.specs.Words.{Token, Base, Expression, Alike, SameFirst, place, Able, Onward, Failed, Wraps, one_over, one_over_locals, Local, Declaring, Evaluating, AreLocals, IsDeclaration, IsForInitialiser, IsBase, NoBase, EndsBase, NoneUpTo, HasUpTo, NoLocals, HasLocals, NoDeclaration, HasDeclaration, NoForInitialiser, HasForInitialiser, LocalsWithin, Left}
+use Rattle.c_parse_stmt.specs.Words.{Token, Base, Expression, Alike, SameFirst, place, Able, Onward, Failed, Wraps, one_over, one_over_locals, Local, Declaring, Evaluating, AreLocals, IsDeclaration, IsForInitialiser, IsBase, NoBase, EndsBase, NoneUpTo, HasUpTo, NoLocals, HasLocals, NoDeclaration, HasDeclaration, NoForInitialiser, HasForInitialiser, LocalsWithin, Remaining}
 use Rattle.c_parse_stmt.proofs.Lemmas.{locals_type, optional_front, base_front, Moves, base}
 use Rattle.c_parse_stmt.proofs.Begins.{punctuator, name, base_first}
 use Rattle.c_parse_stmt.proofs.Declarators.{plain}
@@ -16,13 +16,13 @@ no_base : (text : List ℕ) (ls : List Local) (ts rest : List Token) → AreLoca
     → NoBase ts
 no_base text ls ts rest h b end g = locals_type text ls ts rest h (base_front b ts end g)
 
-pub undeclared : (text : List ℕ) (room : ℕ) (left : Left) (ts : List Token) → NoBase ts
+pub undeclared : (text : List ℕ) (room : ℕ) (left : Remaining) (ts : List Token) → NoBase ts
     → Failed 0 (place text ts) (NoDeclaration room left) (HasDeclaration room left) text ts
 undeclared text room left ts none = missing (NoDeclaration room left) (HasDeclaration room left)
     text ts [] ts refl (λ text' other a same b ls end h w. base_first ts other same none b h.0 h.1)
     (λ text' a k. record { more = []; has = inl refl })
 
-pub full : (text : List ℕ) (room : ℕ) (left : Left) (ts following : List Token) (b : Base)
+pub full : (text : List ℕ) (room : ℕ) (left : Remaining) (ts following : List Token) (b : Base)
     → left.locals ≡ 0 → IsBase b ts following
     → Failed 2 (place text ts) (NoDeclaration room left) (HasDeclaration room left) text ts
 full text room left ts following b zero is = record {
@@ -86,7 +86,7 @@ full text room left ts following b zero is = record {
       });
     }
 
-pub no_locals : (text : List ℕ) (room : ℕ) (left : Left) (ts following : List Token) (b : Base)
+pub no_locals : (text : List ℕ) (room : ℕ) (left : Remaining) (ts following : List Token) (b : Base)
     → IsBase b ts following → EndsBase b ts following
     → Wraps (NoLocals b room left) (HasLocals b room left) (NoDeclaration room left)
     (HasDeclaration room left) text following ts
@@ -129,7 +129,7 @@ some_at_most None = omega arith
 some_at_most (Some e) = omega arith
 
 -- nothing, if no declaration is there
-first_has : (left : Left) (n : ℕ) (text : List ℕ) (ts : List Token)
+first_has : (left : Remaining) (n : ℕ) (text : List ℕ) (ts : List Token)
     → HasDeclaration 1 left n text ts → Able (HasForInitialiser left) n text ts
 first_has left n text ts (inl e) = subst (λ z. Able (HasForInitialiser left) n text z) (sym e)
     (record {
@@ -155,7 +155,7 @@ first_has left n text ts (inr d) = record {
   };
 }
 
-pub no_declaration : (text : List ℕ) (left : Left) (ts following : List Token) (b : Base)
+pub no_declaration : (text : List ℕ) (left : Remaining) (ts following : List Token) (b : Base)
     → IsBase b ts following → Wraps (NoDeclaration 1 left) (HasDeclaration 1 left)
     (NoForInitialiser left) (HasForInitialiser left) text ts ts
 no_declaration text left ts following b is = record {
@@ -181,7 +181,7 @@ no_declaration text left ts following b is = record {
         let c = optional_front text' punctuators.Semicolon e other h.0 end refl h.1 h.2 in
         absurd (omega arith)
 
-pub no_optional : (text : List ℕ) (left : Left) (ts : List Token) → NoBase ts
+pub no_optional : (text : List ℕ) (left : Remaining) (ts : List Token) → NoBase ts
     → Wraps (NoneUpTo punctuators.Semicolon 1) (HasUpTo punctuators.Semicolon 1)
     (NoForInitialiser left) (HasForInitialiser left) text ts ts
 no_optional text left ts none = record {

@@ -4,7 +4,7 @@ use Rattle.std.proofs.Common.{◌≡◌, ◌≤◌, ◌+◌, ℕ, Bool, true, fa
 use Rattle.std.specs.Prelude.{◌⊎◌}
 use Rattle.c_lex.specs.declared.keyword.Keyword.TheVariants as keywords
 use Rattle.c_lex.specs.declared.punctuator.Punctuator.TheVariants as punctuators
-use Rattle.c_parse_stmt.specs.Words.{Token, Expression, height, locals, locals_of_all, accepts, funclets_of_all, Statement, TryExcept, TryFinally, Statements, IsCondition, AreBlockItems, IsKeyword, HasPunctuator, HasKeyword, Left, numbers_of, NoFilter, AllWithin, AllTaken, NoBlockItems, IsStatementWithin, NoStatement, AfterKeyword, bytes_so_far, end_of_all_arrays}
+use Rattle.c_parse_stmt.specs.Words.{Token, Expression, height, locals, locals_of_all, accepts, funclets_of_all, Statement, TryExcept, TryFinally, Statements, IsCondition, AreBlockItems, IsKeyword, HasPunctuator, HasKeyword, Remaining, numbers_of, NoFilter, AllWithin, AllTaken, NoBlockItems, IsStatementWithin, NoStatement, AfterKeyword, bytes_so_far, end_of_all_arrays}
 use Rattle.c_parse_stmt.proofs.Lemmas.{keyword_same, has_same, same_items}
 use Rattle.c_syntax.proofs.Declarations.{condition}
 use Rattle.c_syntax.proofs.Blocks.{place}
@@ -12,7 +12,7 @@ use Rattle.c_parse_stmt.proofs.ArrayEnds.{all_grow}
 use Rattle.c_parse_stmt.proofs.Tails.{IsBraced, AfterExcept, AfterFinally, after_try}
 use Rattle.c_parse_stmt.proofs.Wholes.{fits}
 
-abbrev pub NoneBraced : ℕ → Left → ℕ → List ℕ → List Token → Type 0
+abbrev pub NoneBraced : ℕ → Remaining → ℕ → List ℕ → List Token → Type 0
 NoneBraced room left n text ts = (ss : Statements) (end : List Token) → IsBraced text ss ts end
     → AllWithin n text room left ss → ⊥
 
@@ -27,7 +27,8 @@ pub number_length : (b : Bool) (at : ℕ) → length (cond b [] (at ∷ [])) ≡
 number_length true at = refl
 number_length false at = refl
 
-pub no_try : (limits : ℕ) (text : List ℕ) (room at : ℕ) (left : Left) (a : List Token) → 7 ≤ limits
+pub no_try : (limits : ℕ) (text : List ℕ) (room at : ℕ) (left : Remaining) (a : List Token)
+    → 7 ≤ limits
     → room ≡ 0 → left.funclets ≡ 0 → AfterKeyword keywords.Try at a
     (NoStatement room left limits text)
 no_try limits text room at left a i n m ts k s end h d c w = by (after_try text at s ts a end k h)
@@ -42,7 +43,7 @@ no_try limits text room at left a i n m ts k s end h d c w = by (after_try text 
         let o = v.funclets i in
         absurd (omega (arith, length-append {A = ℕ}))
 
-pub no_try_body : (limits : ℕ) (text : List ℕ) (room at : ℕ) (left : Left) (a : List Token)
+pub no_try_body : (limits : ℕ) (text : List ℕ) (room at : ℕ) (left : Remaining) (a : List Token)
     → NoneBraced room left limits text a → AfterKeyword keywords.Try at a
     (NoStatement room left limits text)
 no_try_body limits text room at left a none ts k s end h d c w = by
@@ -88,7 +89,8 @@ not_except text body p s a b j end is kw t =
     t.after_body j t.after_except u.1 (p, kw) (t.at, t.keyword)).0 in
     cc
 
-pub no_except_room : (limits : ℕ) (text : List ℕ) (room at p : ℕ) (left : Left) (body : Statements)
+pub no_except_room : (limits : ℕ) (text : List ℕ) (room at p : ℕ) (left : Remaining)
+    (body : Statements)
     (a b j : List Token) → 1 ≤ limits → room ≡ 0 → IsBraced text body a b
     → IsKeyword keywords.Except p b j → AfterKeyword keywords.Try at a
     (NoStatement room left limits text)
@@ -102,7 +104,8 @@ no_except_room limits text room at p left body a b j i n is kw ts k s end h d c 
         absurd (omega arith)
     by (inr t) = not_finally text body p s a b j end is kw t
 
-pub no_filter : (limits : ℕ) (text : List ℕ) (room at p : ℕ) (left mid : Left) (body : Statements)
+pub no_filter : (limits : ℕ) (text : List ℕ) (room at p : ℕ) (left mid : Remaining)
+    (body : Statements)
     (a b j : List Token) → IsBraced text body a b → AllTaken text room left mid body
     → IsKeyword keywords.Except p b j → NoFilter mid.funclets limits text j
     → AfterKeyword keywords.Try at a (NoStatement room left limits text)
@@ -122,7 +125,7 @@ no_filter limits text room at p left mid body a b j is tk kw none ts k s end h d
         (λ lim. let o = v.funclets lim in omega (arith, length-append {A = ℕ}))
     by (inr t) = not_finally text body p s a b j end is kw t
 
-pub no_handler : (limits : ℕ) (text : List ℕ) (room at p : ℕ) (left mid next : Left)
+pub no_handler : (limits : ℕ) (text : List ℕ) (room at p : ℕ) (left mid next : Remaining)
     (body : Statements) (f : Expression) (a b j g : List Token) → IsBraced text body a b
     → AllTaken text room left mid body → IsKeyword keywords.Except p b j → IsCondition text f j g
     → next.funclets + numbers_of (accepts text f) ≡ mid.funclets → next.locals ≡ mid.locals
@@ -157,7 +160,7 @@ no_handler limits text room at p left mid next body f a b j g is tk kw cn nx ny 
         })
     by (inr t) = not_finally text body p s a b j end is kw t
 
-pub except_found : (text : List ℕ) (room at p : ℕ) (left mid next after : Left)
+pub except_found : (text : List ℕ) (room at p : ℕ) (left mid next after : Remaining)
     (body handler : Statements) (f : Expression) (a b j g rest : List Token) → 1 ≤ room
     → IsBraced text body a b → AllTaken text room left mid body → IsKeyword keywords.Except p b j
     → IsCondition text f j g → height f ≤ 64 → next.funclets + numbers_of (accepts text f)
@@ -194,7 +197,7 @@ except_found text room at p left mid next after body handler f a b j g rest n is
       };
     }
 
-pub unguarded : (limits : ℕ) (text : List ℕ) (room at : ℕ) (left : Left) (body : Statements)
+pub unguarded : (limits : ℕ) (text : List ℕ) (room at : ℕ) (left : Remaining) (body : Statements)
     (a b : List Token) → IsBraced text body a b
     → ((rest : List Token) → HasKeyword keywords.Except b rest → ⊥)
     → ((rest : List Token) → HasKeyword keywords.Finally b rest → ⊥)
@@ -212,7 +215,7 @@ unguarded limits text room at left body a b is x y ts k s end h d c w = by
         y t.after_finally (subst (λ (i : List Token). HasKeyword keywords.Finally i t.after_finally)
         (sym u.1) (t.at, t.keyword))
 
-pub no_finally_left : (limits : ℕ) (text : List ℕ) (room at p : ℕ) (left mid : Left)
+pub no_finally_left : (limits : ℕ) (text : List ℕ) (room at p : ℕ) (left mid : Remaining)
     (body : Statements) (a b j : List Token) → IsBraced text body a b
     → AllTaken text room left mid body → IsKeyword keywords.Finally p b j → 7 ≤ limits
     → mid.funclets ≡ 0 → AfterKeyword keywords.Try at a (NoStatement room left limits text)
@@ -228,7 +231,7 @@ no_finally_left limits text room at p left mid body a b j is tk kw i n ts k s en
         let z = tk.funclets in
         let o = v.funclets i in absurd (omega (arith, length-append {A = ℕ}))
 
-pub no_last : (limits : ℕ) (text : List ℕ) (room at p : ℕ) (left mid next : Left)
+pub no_last : (limits : ℕ) (text : List ℕ) (room at p : ℕ) (left mid next : Remaining)
     (body : Statements) (a b j : List Token) → IsBraced text body a b
     → AllTaken text room left mid body → IsKeyword keywords.Finally p b j
     → next.funclets + 1 ≡ mid.funclets → next.locals ≡ mid.locals → next.bytes ≡ mid.bytes
@@ -258,7 +261,7 @@ no_last limits text room at p left mid next body a b j is tk kw nx ny nz none ts
           funclets = λ lim. let o = v.funclets lim in omega (arith, length-append {A = ℕ});
         })
 
-pub finally_found : (text : List ℕ) (room at p : ℕ) (left mid next after : Left)
+pub finally_found : (text : List ℕ) (room at p : ℕ) (left mid next after : Remaining)
     (body last : Statements) (a b j rest : List Token) → IsBraced text body a b
     → AllTaken text room left mid body → IsKeyword keywords.Finally p b j
     → next.funclets + 1 ≡ mid.funclets → next.locals ≡ mid.locals → next.bytes ≡ mid.bytes
@@ -291,7 +294,7 @@ finally_found text room at p left mid next after body last a b j rest is tk kw n
       };
     }
 
-pub no_braced : (limits : ℕ) (text : List ℕ) (room : ℕ) (left : Left) (ts a : List Token)
+pub no_braced : (limits : ℕ) (text : List ℕ) (room : ℕ) (left : Remaining) (ts a : List Token)
     → HasPunctuator punctuators.OpenBrace ts a → NoBlockItems room left limits text a
     → NoneBraced room left limits text ts
 no_braced limits text room left ts a o none ss end h w =

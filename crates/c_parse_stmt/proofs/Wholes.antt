@@ -2,7 +2,7 @@
 -- missing.
 use Rattle.std.proofs.Common.{◌≡◌, ◌≤◌, ◌<◌, ◌+◌, ℕ, Bool, true, false, IsTrue, IsFalse, List, length, length-append, Option, refl, sym, ap, ◌∙◌, subst, arith, inl, inr}
 use Rattle.std.specs.Prelude.{◌⊎◌}
-use Rattle.c_parse_stmt.specs.Words.{Keyword, Punctuator, Token, Expression, height, punctuator_follows, NoElse, Closed, statements_over, locals, numbered, comma, Statement, Declare, Block, Evaluate, If, IfElse, While, DoWhile, For, Return, Break, Continue, Leave, TryExcept, TryFinally, IsUpTo, IsCondition, dangles, IsBlockItem, IsKeyword, HasPunctuator, HasKeyword, Left, NoCondition, NoneUpTo, NoBlockItems, Within, IsStatementWithin, NoStatement, NoEvaluation, AfterKeyword, bytes_so_far, end_of_arrays}
+use Rattle.c_parse_stmt.specs.Words.{Keyword, Punctuator, Token, Expression, height, punctuator_follows, NoElse, Closed, statements_over, locals, numbered, comma, Statement, Declare, Block, Evaluate, If, IfElse, While, DoWhile, For, Return, Break, Continue, Leave, TryExcept, TryFinally, IsUpTo, IsCondition, dangles, IsBlockItem, IsKeyword, HasPunctuator, HasKeyword, Remaining, NoCondition, NoneUpTo, NoBlockItems, Within, IsStatementWithin, NoStatement, NoEvaluation, AfterKeyword, bytes_so_far, end_of_arrays}
 use Rattle.c_lex.specs.declared.keyword.Keyword.TheVariants as keywords
 use Rattle.c_lex.specs.declared.punctuator.Punctuator.TheVariants as punctuators
 use Rattle.c_parse_stmt.proofs.Lemmas.{punctuator_class, optional, word, absent, one_statement}
@@ -10,14 +10,14 @@ use Rattle.c_syntax.proofs.Declarations.{condition}
 use Rattle.c_parse_stmt.proofs.ArrayEnds.{grows}
 use Rattle.c_parse_stmt.proofs.Tails.{AfterIf, AfterIfElse, after_if, after_return, after_break, after_continue, after_leave, after_brace}
 
-abbrev pub Fits : ℕ → List ℕ → ℕ → Left → Statement → Type 0
+abbrev pub Fits : ℕ → List ℕ → ℕ → Remaining → Statement → Type 0
 Fits limits text room left s = Within limits text (statements_over s) room left s
 
 -- the punctuator isn't at the front
 abbrev pub Lacks : Punctuator → List Token → Type 0
 Lacks s ts = (rest : List Token) → HasPunctuator s ts rest → ⊥
 
-pub fits : (limits : ℕ) (text : List ℕ) (room : ℕ) (left : Left) (s z : Statement) → s ≡ z
+pub fits : (limits : ℕ) (text : List ℕ) (room : ℕ) (left : Remaining) (s z : Statement) → s ≡ z
     → Fits limits text room left s → Fits limits text room left z
 fits limits text room left s z e w = subst (λ (x : Statement). Fits limits text room left x) e w
 
@@ -31,7 +31,7 @@ after_condition text c d a b e h g = (condition text c d a a b e refl h g).1
 
 -- ---- `if`
 
-pub no_if_room : (limits : ℕ) (text : List ℕ) (room at : ℕ) (left : Left) (a : List Token)
+pub no_if_room : (limits : ℕ) (text : List ℕ) (room at : ℕ) (left : Remaining) (a : List Token)
     → 1 ≤ limits → room ≡ 0 → AfterKeyword keywords.If at a (NoStatement room left limits text)
 no_if_room limits text room at left a i n ts k s end h d c w = by (after_if text at s ts a end k h)
   where
@@ -45,7 +45,7 @@ no_if_room limits text room at left a i n ts k s end h d c w = by (after_if text
         let o = v.statements (omega arith) in
         absurd (omega arith)
 
-pub no_if_condition : (limits : ℕ) (text : List ℕ) (room at : ℕ) (left : Left) (a : List Token)
+pub no_if_condition : (limits : ℕ) (text : List ℕ) (room at : ℕ) (left : Remaining) (a : List Token)
     → NoCondition limits text a → AfterKeyword keywords.If at a (NoStatement room left limits text)
 no_if_condition limits text room at left a none ts k s end h d c w = by
     (after_if text at s ts a end k h)
@@ -60,7 +60,7 @@ no_if_condition limits text room at left a none ts k s end h d c w = by
         none t.condition t.after_condition t.is_condition
         (λ lim. let o = v.expressions lim in omega arith)
 
-pub no_then : (limits : ℕ) (text : List ℕ) (room less at : ℕ) (left : Left) (e : Expression)
+pub no_then : (limits : ℕ) (text : List ℕ) (room less at : ℕ) (left : Remaining) (e : Expression)
     (a b : List Token) → less + 1 ≡ room → IsCondition text e a b
     → NoStatement less left limits text b → AfterKeyword keywords.If at a
     (NoStatement room left limits text)
@@ -95,7 +95,7 @@ no_then limits text room less at left e a b n is none ts k s end h d c w = by
           funclets = λ lim. let o = v.funclets lim in omega (arith, length-append {A = ℕ});
         })
 
-pub no_otherwise : (limits : ℕ) (text : List ℕ) (room less at : ℕ) (left mid : Left)
+pub no_otherwise : (limits : ℕ) (text : List ℕ) (room less at : ℕ) (left mid : Remaining)
     (e : Expression) (z : Statement) (a b j g : List Token) → less + 1 ≡ room
     → IsCondition text e a b → IsStatementWithin text less left mid z b j
     → HasKeyword keywords.Else j g → NoStatement less mid limits text g
@@ -133,7 +133,7 @@ no_otherwise limits text room less at left mid e z a b j g n is r els none ts k 
           funclets = λ lim. let o = v.funclets lim in omega (arith, length-append {A = ℕ});
         })
 
-pub if_found : (text : List ℕ) (room less at : ℕ) (left after : Left) (c : Expression)
+pub if_found : (text : List ℕ) (room less at : ℕ) (left after : Remaining) (c : Expression)
     (z : Statement) (a b rest : List Token) → less + 1 ≡ room → IsCondition text c a b
     → height c ≤ 64 → IsStatementWithin text less left after z b rest → NoElse rest
     → AfterKeyword keywords.If at a (λ ts. IsStatementWithin text room left after (If at c z) ts
@@ -163,7 +163,7 @@ pub not_dangling : (b : Bool) → (IsTrue b → ⊥) → IsFalse b
 not_dangling true h = absurd (h refl)
 not_dangling false h = refl
 
-pub if_else_found : (text : List ℕ) (room less at : ℕ) (left mid after : Left) (c : Expression)
+pub if_else_found : (text : List ℕ) (room less at : ℕ) (left mid after : Remaining) (c : Expression)
     (z y : Statement) (a b d e rest : List Token) → less + 1 ≡ room → IsCondition text c a b
     → height c ≤ 64 → IsStatementWithin text less left mid z b d → HasKeyword keywords.Else d e
     → IsStatementWithin text less mid after y e rest
@@ -206,11 +206,11 @@ pub up_to : (text : List ℕ) (s : Punctuator) (e f : Option Expression) (ts us 
 up_to text s e f ts us r q p l c h g = (optional text s e f ts us h.0 g.0 r q p l c h.1 g.1 h.2
     g.2).1
 
-pub no_evaluation : (limits : ℕ) (text : List ℕ) (room : ℕ) (left : Left) (ts : List Token)
+pub no_evaluation : (limits : ℕ) (text : List ℕ) (room : ℕ) (left : Remaining) (ts : List Token)
     → NoneUpTo punctuators.Semicolon room limits text ts → NoEvaluation room left limits text ts
 no_evaluation limits text room left ts none e end h w = none e end h w.expressions w.statements
 
-pub no_return : (limits : ℕ) (text : List ℕ) (room at : ℕ) (left : Left) (a : List Token)
+pub no_return : (limits : ℕ) (text : List ℕ) (room at : ℕ) (left : Remaining) (a : List Token)
     → NoneUpTo punctuators.Semicolon room limits text a
     → AfterKeyword keywords.Return at a (NoStatement room left limits text)
 no_return limits text room at left a none ts k s end h d c w =
@@ -218,19 +218,19 @@ no_return limits text room at left a none ts k s end h d c w =
     let v = fits limits text room left s (Return at t.0) t.1 w in
     none t.0 end t.2 v.expressions v.statements
 
-pub no_break : (limits : ℕ) (text : List ℕ) (room at : ℕ) (left : Left) (ts a : List Token)
+pub no_break : (limits : ℕ) (text : List ℕ) (room at : ℕ) (left : Remaining) (ts a : List Token)
     → IsKeyword keywords.Break at ts a → Lacks punctuators.Semicolon a
     → NoStatement room left limits text ts
 no_break limits text room at left ts a k none s end h d c w = none end
     (after_break text at s ts a end k h)
 
-pub no_continue : (limits : ℕ) (text : List ℕ) (room at : ℕ) (left : Left) (ts a : List Token)
+pub no_continue : (limits : ℕ) (text : List ℕ) (room at : ℕ) (left : Remaining) (ts a : List Token)
     → IsKeyword keywords.Continue at ts a → Lacks punctuators.Semicolon a
     → NoStatement room left limits text ts
 no_continue limits text room at left ts a k none s end h d c w = none end
     (after_continue text at s ts a end k h)
 
-pub no_leave : (limits : ℕ) (text : List ℕ) (room at : ℕ) (left : Left) (ts a : List Token)
+pub no_leave : (limits : ℕ) (text : List ℕ) (room at : ℕ) (left : Remaining) (ts a : List Token)
     → IsKeyword keywords.Leave at ts a → Lacks punctuators.Semicolon a
     → NoStatement room left limits text ts
 no_leave limits text room at left ts a k none s end h d c w = none end
@@ -238,7 +238,7 @@ no_leave limits text room at left ts a k none s end h d c w = none end
 
 -- ---- blocks
 
-pub no_block : (limits : ℕ) (text : List ℕ) (room : ℕ) (left : Left) (ts a : List Token)
+pub no_block : (limits : ℕ) (text : List ℕ) (room : ℕ) (left : Remaining) (ts a : List Token)
     → HasPunctuator punctuators.OpenBrace ts a → NoBlockItems room left limits text a
     → NoStatement room left limits text ts
 no_block limits text room left ts a o none s end h d c w =
@@ -267,7 +267,7 @@ Plain keywords.Try = ⊥
 Plain keywords.Leave = ⊥
 Plain k = Unit {0}
 
-pub only_evaluations : (limits : ℕ) (text : List ℕ) (room : ℕ) (left : Left) (ts : List Token)
+pub only_evaluations : (limits : ℕ) (text : List ℕ) (room : ℕ) (left : Remaining) (ts : List Token)
     → Lacks punctuators.OpenBrace ts → ((k : Keyword) (rest : List Token) → HasKeyword k ts rest
     → Plain k) → NoEvaluation room left limits text ts → NoStatement room left limits text ts
 only_evaluations limits text room left ts o p none (Declare b ls) end h d c w = cc
@@ -311,5 +311,5 @@ plain_by keywords.Try i w d f t r b c l = t refl
 plain_by keywords.Leave i w d f t r b c l = l refl
 plain_by k i w d f t r b c l = tt
 
-abbrev pub left_of : ℕ → ℕ → ℕ → Left
+abbrev pub left_of : ℕ → ℕ → ℕ → Remaining
 left_of locals bytes funclets = record { locals = locals; bytes = bytes; funclets = funclets }

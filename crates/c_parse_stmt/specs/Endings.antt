@@ -16,7 +16,7 @@ use Rattle.c_parse_stmt.specs.declared.endings.Clause.{Clause}
 use Rattle.c_parse_stmt.specs.declared.endings.Clause.TheVariants as clauses
 use Rattle.c_parse_stmt.specs.declared.endings.Ending.{Ending}
 use Rattle.c_parse_stmt.specs.declared.endings.Ending.TheVariants as endings
-use Rattle.c_parse_stmt.specs.declared.left.Left.{Left}
+use Rattle.c_parse_stmt.specs.declared.remaining.Remaining.{Remaining}
 use Rattle.c_parse_stmt.specs.declared.openings.Head.{Head}
 use Rattle.c_parse_stmt.specs.declared.openings.Head.TheVariants as heads
 use Rattle.c_parse_stmt.specs.Filters.{numbers_of}
@@ -27,7 +27,8 @@ use Rattle.c_parse_stmt.specs.Within.{IsStatementWithin, AfterKeyword}
 -- to the head's `if`.
 abbrev pub Ends : List ℕ → Head → Statement → Ending → List Token → List Token → Type 0
 Ends text h s (endings.Whole z) ts rest =
-    (room : ℕ) (left after : Left) (start : List Token) → Holds text room left after h s start ts
+    (room : ℕ) (left after : Remaining) (start : List Token)
+    → Holds text room left after h s start ts
     → IsStatementWithin text room left after (statement z) start rest
 Ends text h s (endings.Else at c t) ts rest =
     (h ≡ heads.If at c) × (statement t ≡ s) × HasKeyword keywords.Else ts rest
@@ -60,7 +61,7 @@ numbers text (clauses.Except at f) = numbers_of (accepts text (expression f))
 numbers text (clauses.Finally at) = 1
 
 -- within the limits, and of the counts so much is left after it
-pub record ClauseIsTaken (text : List ℕ) (room : ℕ) (left after : Left) (c : Clause)
+pub record ClauseIsTaken (text : List ℕ) (room : ℕ) (left after : Remaining) (c : Clause)
     (ts rest : List Token) : Type 0 where
   pub is : IsClause text c ts rest
   pub statements : statements_over c ≤ room
@@ -70,11 +71,12 @@ pub record ClauseIsTaken (text : List ℕ) (room : ℕ) (left after : Left) (c :
   pub funclets : after.funclets + numbers text c ≡ left.funclets
 
 -- after the keyword of the clause, which is at a place
-abbrev pub ContinuesAfterKeyword : Keyword → ℕ → List ℕ → ℕ → Left → Left → Clause → List Token
+abbrev pub ContinuesAfterKeyword : Keyword → ℕ → List ℕ → ℕ → Remaining → Remaining → Clause
+    → List Token
     → List Token → Type 0
 ContinuesAfterKeyword keyword at text room left after c following rest =
     AfterKeyword keyword at following (λ ts. ClauseIsTaken text room left after c ts rest)
 
 abbrev pub with_clause : Statements → Clause → Statements → Statement
 with_clause body (clauses.Except at f) last = TryExcept body at (expression f) last
-with_clause body (clauses.Finally at) last = TryFinally body at last
+with_clause body (clauses.Finally at) finally_block = TryFinally body at finally_block

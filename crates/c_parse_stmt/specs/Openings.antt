@@ -13,7 +13,7 @@ use Rattle.c_syntax.specs.Statement.{Statement, Statements, first, statement}
 use Rattle.c_syntax.specs.Statements.{IsUpTo, IsCondition, IsForInitialiser, IsForHead, AreBlockItems}
 use Rattle.c_syntax.specs.Tokens.{Phrase, IsKeyword, HasPunctuator, HasKeyword}
 use Rattle.c_parse_stmt.specs.ArrayBytes.{bytes_so_far}
-use Rattle.c_parse_stmt.specs.declared.left.Left.{Left}
+use Rattle.c_parse_stmt.specs.declared.remaining.Remaining.{Remaining}
 use Rattle.c_parse_stmt.specs.declared.openings.Head.{Head}
 use Rattle.c_parse_stmt.specs.declared.openings.Head.TheVariants as heads
 use Rattle.c_parse_stmt.specs.declared.openings.Opening.{Opening}
@@ -55,7 +55,7 @@ end_of_arrays heads.Do from = from
 end_of_arrays (heads.For at f c n) from = end_of_for_initialiser (first f) from
 
 -- within the limits, with room for the statement, and of the counts so much is left after it
-pub record Heads (text : List ℕ) (room : ℕ) (left after : Left) (h : Head)
+pub record Heads (text : List ℕ) (room : ℕ) (left after : Remaining) (h : Head)
     (ts rest : List Token) : Type 0 where
   pub is : IsStatementHead text h ts rest
   pub some : 1 ≤ room
@@ -67,7 +67,7 @@ pub record Heads (text : List ℕ) (room : ℕ) (left after : Left) (h : Head)
 abbrev pub IsTry : Phrase
 IsTry = InTurn (HasKeyword keywords.Try) (HasPunctuator punctuators.OpenBrace)
 
-abbrev pub Opens : List ℕ → ℕ → Left → Left → Opening → List Token → List Token → Type 0
+abbrev pub Opens : List ℕ → ℕ → Remaining → Remaining → Opening → List Token → List Token → Type 0
 Opens text room left after (openings.Whole s) ts rest =
     IsStatementWithin text room left after (statement s) ts rest
 Opens text room left after openings.Block ts rest =
@@ -79,17 +79,17 @@ Opens text room left after (openings.Head h) ts rest = Heads text room left afte
 -- ---- with what is after it
 
 -- a head and the statement after it
-pub record Holds (text : List ℕ) (room : ℕ) (left after : Left) (h : Head) (s : Statement)
+pub record Holds (text : List ℕ) (room : ℕ) (left after : Remaining) (h : Head) (s : Statement)
     (ts rest : List Token) : Type 0 where
   pub less : ℕ
   pub more : less + 1 ≡ room
-  pub between : Left
+  pub between : Remaining
   pub mid : List Token
   pub head : Heads text room left between h ts mid
   pub inner : IsStatementWithin text less between after s mid rest
 
 -- `__try` and its block, after which it can continue
-pub record Guards (text : List ℕ) (room : ℕ) (left after : Left) (body : Statements)
+pub record Guards (text : List ℕ) (room : ℕ) (left after : Remaining) (body : Statements)
     (ts rest : List Token) : Type 0 where
   pub some : 1 ≤ room + left.funclets
   pub mid : List Token
@@ -100,19 +100,22 @@ pub record Guards (text : List ℕ) (room : ℕ) (left after : Left) (body : Sta
 -- ---- what follows the first tokens
 
 -- the keyword of a statement, which is at a place
-abbrev pub OpensAfter : Keyword → ℕ → List ℕ → ℕ → Left → Left → Opening → List Token → List Token
+abbrev pub OpensAfter : Keyword → ℕ → List ℕ → ℕ → Remaining → Remaining → Opening → List Token
+    → List Token
     → Type 0
 OpensAfter keyword at text room left after o following rest =
     AfterKeyword keyword at following (λ ts. Opens text room left after o ts rest)
 
 -- the head of a statement
-abbrev pub ReadsAfterHead : Head → List ℕ → ℕ → Left → Left → Statement → List Token → List Token
+abbrev pub ReadsAfterHead : Head → List ℕ → ℕ → Remaining → Remaining → Statement → List Token
+    → List Token
     → Type 0
 ReadsAfterHead h text room left after s following rest =
-    (whole : Left) (ts : List Token) → Heads text room whole left h ts following
+    (whole : Remaining) (ts : List Token) → Heads text room whole left h ts following
     → IsStatementWithin text room whole after s ts rest
 
 -- `__try` and a brace
-abbrev pub ReadsAfterTry : List ℕ → ℕ → Left → Left → Statement → List Token → List Token → Type 0
+abbrev pub ReadsAfterTry : List ℕ → ℕ → Remaining → Remaining → Statement → List Token → List Token
+    → Type 0
 ReadsAfterTry text room left after s following rest =
     (ts : List Token) → IsTry ts following → IsStatementWithin text room left after s ts rest

@@ -18,7 +18,7 @@ use Rattle.c_syntax.specs.Statement.{Local, ForInitialiser}
 use Rattle.c_syntax.specs.Statements.{IsLength, IsInitialiser, IsLocal, AreMoreLocals, AreLocals, IsDeclaration, IsUpTo, IsCondition, IsForInitialiser}
 use Rattle.c_syntax.specs.Tokens.{Phrase, HasPunctuator}
 use Rattle.c_parse_stmt.specs.ArrayBytes.{bytes_so_far}
-use Rattle.c_parse_stmt.specs.declared.left.Left.{Left}
+use Rattle.c_parse_stmt.specs.declared.remaining.Remaining.{Remaining}
 
 -- ---- a punctuator
 
@@ -125,35 +125,36 @@ pub record HasLocal (base : Base) (at room n : ℕ) (text : List ℕ) (ts : List
 
 -- at most so many, with not too many expressions around each expression, and one statement where
 -- there may be one; and the arrays among them end within their bytes
-pub record LocalsWithin (base : Base) (n room : ℕ) (left : Left) (ls : List Local) : Type 0 where
+pub record LocalsWithin (base : Base) (n room : ℕ) (left : Remaining)
+    (ls : List Local) : Type 0 where
   pub expressions : IsInForce Nesting n → height_of_locals ls ≤ MOST_EXPRESSIONS
   pub statements : IsInForce Nesting n → one_over_locals ls ≤ room
   pub count : IsInForce (Number Locals) n → length ls ≤ left.locals
   pub bytes : IsInForce (Number ArrayBytes) n
       → end_of_locals base ls (bytes_so_far left.bytes) ≤ MOST_ARRAY_BYTES
 
-abbrev pub NoMoreLocals : Base → ℕ → Left → ℕ → List ℕ → List Token → Type 0
+abbrev pub NoMoreLocals : Base → ℕ → Remaining → ℕ → List ℕ → List Token → Type 0
 NoMoreLocals base room left n text ts =
     (ls : List Local) (end : List Token) → AreMoreLocals text ls ts end
     → LocalsWithin base n room left ls → ⊥
 
-abbrev pub NoLocals : Base → ℕ → Left → ℕ → List ℕ → List Token → Type 0
+abbrev pub NoLocals : Base → ℕ → Remaining → ℕ → List ℕ → List Token → Type 0
 NoLocals base room left n text ts =
     (ls : List Local) (end : List Token) → AreLocals text ls ts end
     → LocalsWithin base n room left ls → ⊥
 
-pub record HasLocals (base : Base) (room : ℕ) (left : Left) (n : ℕ) (text : List ℕ)
+pub record HasLocals (base : Base) (room : ℕ) (left : Remaining) (n : ℕ) (text : List ℕ)
     (ts : List Token) : Type 0 where
   pub trees : List Local
   pub are : (other : List Token) → AreLocals text trees (ts ++ other) other
   pub within : LocalsWithin base n room left trees
 
-abbrev pub NoDeclaration : ℕ → Left → ℕ → List ℕ → List Token → Type 0
+abbrev pub NoDeclaration : ℕ → Remaining → ℕ → List ℕ → List Token → Type 0
 NoDeclaration room left n text ts =
     (base : Base) (ls : List Local) (end : List Token) → IsDeclaration text base ls ts end
     → LocalsWithin base n room left ls → ⊥
 
-pub record ADeclaration (room : ℕ) (left : Left) (n : ℕ) (text : List ℕ)
+pub record ADeclaration (room : ℕ) (left : Remaining) (n : ℕ) (text : List ℕ)
     (ts : List Token) : Type 0 where
   pub base : Base
   pub trees : List Local
@@ -161,10 +162,10 @@ pub record ADeclaration (room : ℕ) (left : Left) (n : ℕ) (text : List ℕ)
   pub within : LocalsWithin base n room left trees
 
 -- something else may take its place: where no local is left, there is no declaration
-abbrev pub HasDeclaration : ℕ → Left → ℕ → List ℕ → List Token → Type 0
+abbrev pub HasDeclaration : ℕ → Remaining → ℕ → List ℕ → List Token → Type 0
 HasDeclaration room left n text ts = (ts ≡ []) ⊎ ADeclaration room left n text ts
 
-abbrev pub NoForInitialiser : Left → ℕ → List ℕ → List Token → Type 0
+abbrev pub NoForInitialiser : Remaining → ℕ → List ℕ → List Token → Type 0
 NoForInitialiser left n text ts =
     (f : ForInitialiser) (end : List Token) → IsForInitialiser text f ts end
     → (IsInForce Nesting n → height_of_for_initialiser f ≤ MOST_EXPRESSIONS)
@@ -172,7 +173,8 @@ NoForInitialiser left n text ts =
     → (IsInForce (Number ArrayBytes) n
     → end_of_for_initialiser f (bytes_so_far left.bytes) ≤ MOST_ARRAY_BYTES) → ⊥
 
-pub record HasForInitialiser (left : Left) (n : ℕ) (text : List ℕ) (ts : List Token) : Type 0 where
+pub record HasForInitialiser (left : Remaining) (n : ℕ) (text : List ℕ)
+    (ts : List Token) : Type 0 where
   pub tree : ForInitialiser
   pub is : (other : List Token) → IsForInitialiser text tree (ts ++ other) other
   pub low : IsInForce Nesting n → height_of_for_initialiser tree ≤ MOST_EXPRESSIONS

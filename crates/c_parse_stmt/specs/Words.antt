@@ -33,5 +33,5 @@ pub use Rattle.c_parse_stmt.specs.Filters.{accepts_kind, accepts_alone, AreOpeni
 pub use Rattle.c_parse_stmt.specs.Openings.{IsTry, Guards, Opens, IsStatementHead, expressions_over, Heads, Holds}
 pub use Rattle.c_parse_stmt.specs.Parts.{NoCondition, HasCondition, NoPunctuator, APunctuator, IsBracketed, NoneBracketed, HasBracketed, IsAfterName, NoLength, HasLength, NoLocal, HasLocal, LocalsWithin, NoMoreLocals, NoLocals, HasLocals, NoInitialiser, HasInitialiser, NoneUpTo, HasUpTo, NoForInitialiser, HasForInitialiser, NoDeclaration, HasDeclaration}
 pub use Rattle.c_parse_stmt.specs.Within.{NoStatement, HasStatement, NoEvaluation, HasEvaluation, AllWithin, AllTaken, NoBlockItems, HasBlockItems, AfterKeyword, Within, IsStatementWithin, ReadsBlockItem, NoBlockItem, AnItem, HasBlockItem}
-pub use Rattle.c_parse_stmt.specs.declared.left.Left.{Left}
+pub use Rattle.c_parse_stmt.specs.declared.remaining.Remaining.{Remaining}
 pub use Rattle.c_parse_stmt.specs.declared.openings.Opening.{Opening}

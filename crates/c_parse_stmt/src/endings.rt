@@ -4,16 +4,16 @@ ghost use Rattle.std.specs.Prelude.{◌≡◌, ◌≤◌, ◌+◌, IfOk, IfErr, 
 ghost use Rattle.c_lex.specs.declared.keyword.Keyword.TheVariants as keywords;
 ghost use Rattle.c_lex.specs.declared.token.Token.{Token};
 ghost use Rattle.c_syntax.specs.Statement.{statement, statements};
-ghost use Rattle.c_parse_stmt.specs.declared.left.Left.{Left};
+ghost use Rattle.c_parse_stmt.specs.declared.remaining.Remaining.{Remaining};
 ghost use Rattle.c_parse_stmt.specs.declared.openings.Head.TheVariants.{Do};
 ghost use Rattle.c_parse_stmt.specs.Endings.{Ends, ClauseIsTaken, ContinuesAfterKeyword, with_clause};
 ghost use Rattle.c_parse_stmt.specs.Refused.{RefusesEnd, RefusesClause, RefusesClauseAfter};
 
 use crate::build::{do_of, for_of, if_of, while_of};
 use crate::filters::{filter, too_many_funclets};
-use crate::left::Left;
 use crate::openings::Head;
 use crate::parts::{condition, expect, word};
+use crate::remaining::Remaining;
 use c_lex::keyword::Keyword;
 use c_lex::punctuator::Punctuator;
 use c_lex::token::Token;
@@ -128,10 +128,10 @@ fn except_clause<'a>(
     alloc: Global,
     text: &[u8],
     room: u64,
-    left: Left,
+    left: Remaining,
     at: u64,
     tokens: &'a [Token],
-) -> Result<(Clause, Left, &'a [Token]), ParseErr>
+) -> Result<(Clause, Remaining, &'a [Token]), ParseErr>
     requires { 1 ≤ room + left.funclets }
     ensures found { IfOk result (λ x.
         ContinuesAfterKeyword keywords.Except at text.now room left x.1 x.0 tokens.now x.2.now) }
@@ -144,7 +144,7 @@ fn except_clause<'a>(
     let (filter, funclets, following) = filter(alloc, text, left.funclets, tokens)?;
     match expect(text, Punctuator::OpenBrace, following) {
         Ok(rest) => {
-            let after = Left {
+            let after = Remaining {
                 locals: left.locals,
                 bytes: left.bytes,
                 funclets,
@@ -162,10 +162,10 @@ fn except_clause<'a>(
 fn finally_clause<'a>(
     text: &[u8],
     room: u64,
-    left: Left,
+    left: Remaining,
     at: u64,
     tokens: &'a [Token],
-) -> Result<(Clause, Left, &'a [Token]), ParseErr>
+) -> Result<(Clause, Remaining, &'a [Token]), ParseErr>
     requires { 1 ≤ room + left.funclets }
     ensures found { IfOk result (λ x.
         ContinuesAfterKeyword keywords.Finally at text.now room left x.1 x.0 tokens.now x.2.now) }
@@ -176,7 +176,7 @@ fn finally_clause<'a>(
         return Err(too_many_funclets(at));
     }
     let rest = expect(text, Punctuator::OpenBrace, tokens)?;
-    let after = Left {
+    let after = Remaining {
         locals: left.locals,
         bytes: left.bytes,
         funclets: left.funclets - 1,
@@ -191,9 +191,9 @@ pub fn read_clause<'a>(
     alloc: Global,
     text: &[u8],
     room: u64,
-    left: Left,
+    left: Remaining,
     tokens: &'a [Token],
-) -> Result<(Clause, Left, &'a [Token]), ParseErr>
+) -> Result<(Clause, Remaining, &'a [Token]), ParseErr>
     requires { 1 ≤ room + left.funclets }
     ensures found { IfOk result (λ x. ClauseIsTaken text.now room left x.1 x.0 tokens.now x.2.now) }
     ensures refused { IfErr result (λ e. RefusesClause e room left text.now tokens.now) }

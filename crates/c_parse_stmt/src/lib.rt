@@ -15,9 +15,9 @@
 pub mod build;
 pub mod endings;
 pub mod filters;
-pub mod left;
 pub mod locals;
 pub mod openings;
 pub mod parts;
+pub mod remaining;
 pub mod sizes;
 pub mod statements;

@@ -16,8 +16,8 @@ ghost use Rattle.c_parse_stmt.specs.ArrayBytes.{bytes_so_far};
 ghost use Rattle.c_parse_stmt.specs.Parts.{IsBracketed};
 ghost use Rattle.c_parse_stmt.specs.Refused.{RefusesBracketed, RefusesLength, RefusesInitialiser, RefusesLocal, RefusesLocals, RefusesDeclaration, RefusesForInitialiser};
 
-use crate::left::Left;
 use crate::parts::{expect, optional};
+use crate::remaining::Remaining;
 use crate::sizes::{end_of, size_of};
 use c_lex::punctuator::Punctuator;
 use c_lex::token::Token;
@@ -180,13 +180,13 @@ fn local<'a>(
 }
 
 /// What is left after one more local, and so many bytes of arrays.
-fn after_local(left: Left, bytes: u64) -> Left
+fn after_local(left: Remaining, bytes: u64) -> Remaining
     requires { 1 ≤ left.locals }
     ensures locals { result.locals + 1 ≡ left.locals }
     ensures bytes { result.bytes ≡ bytes }
     ensures funclets { result.funclets ≡ left.funclets }
 {
-    Left {
+    Remaining {
         locals: left.locals - 1,
         bytes,
         funclets: left.funclets,
@@ -200,9 +200,9 @@ fn locals<'a>(
     text: &[u8],
     base: Base,
     room: u64,
-    left: Left,
+    left: Remaining,
     tokens: &'a [Token],
-) -> Result<(Vec<Local>, Left, &'a [Token]), ParseErr>
+) -> Result<(Vec<Local>, Remaining, &'a [Token]), ParseErr>
     requires { 1 ≤ left.locals }
     ensures found { IfOk result (λ x.
         AreLocals text.now (map trees.local x.0.items) tokens.now x.2.now) }
@@ -239,9 +239,9 @@ pub fn declaration<'a>(
     alloc: Global,
     text: &[u8],
     room: u64,
-    left: Left,
+    left: Remaining,
     tokens: &'a [Token],
-) -> Result<(Declaration, Left, &'a [Token]), ParseErr>
+) -> Result<(Declaration, Remaining, &'a [Token]), ParseErr>
     ensures found { IfOk result (λ x.
         IsDeclaration text.now x.0.base (map trees.local x.0.locals.items) tokens.now x.2.now) }
     ensures low { IfOk result (λ x.
@@ -271,9 +271,9 @@ pub fn declaration<'a>(
 pub fn for_initialiser<'a>(
     alloc: Global,
     text: &[u8],
-    left: Left,
+    left: Remaining,
     tokens: &'a [Token],
-) -> Result<(ForInitialiser, Left, &'a [Token]), ParseErr>
+) -> Result<(ForInitialiser, Remaining, &'a [Token]), ParseErr>
     ensures found { IfOk result (λ x.
         IsForInitialiser text.now (trees.first x.0) tokens.now x.2.now) }
     ensures low { IfOk result (λ x.

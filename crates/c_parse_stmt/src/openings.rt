@@ -7,9 +7,9 @@ ghost use Rattle.c_parse_stmt.specs.Openings.{Opens, OpensAfter};
 ghost use Rattle.c_parse_stmt.specs.Refused.{RefusesStatement, RefusesEvaluation, RefusesAfter};
 
 use crate::filters::too_many_funclets;
-use crate::left::Left;
 use crate::locals::for_initialiser;
 use crate::parts::{condition, expect, keyword_at, optional};
+use crate::remaining::Remaining;
 use c_lex::keyword::Keyword;
 use c_lex::punctuator::Punctuator;
 use c_lex::token::Token;
@@ -58,9 +58,9 @@ fn evaluate<'a>(
     alloc: Global,
     text: &[u8],
     room: u64,
-    left: Left,
+    left: Remaining,
     tokens: &'a [Token],
-) -> Result<(Opening, Left, &'a [Token]), ParseErr>
+) -> Result<(Opening, Remaining, &'a [Token]), ParseErr>
     ensures found { IfOk result (λ x. Opens text.now room left x.1 x.0 tokens.now x.2.now) }
     ensures refused { IfErr result (λ e. RefusesEvaluation e room left text.now tokens.now) }
 {
@@ -73,10 +73,10 @@ fn returning<'a>(
     alloc: Global,
     text: &[u8],
     room: u64,
-    left: Left,
+    left: Remaining,
     at: u64,
     tokens: &'a [Token],
-) -> Result<(Opening, Left, &'a [Token]), ParseErr>
+) -> Result<(Opening, Remaining, &'a [Token]), ParseErr>
     ensures found { IfOk result (λ x.
         OpensAfter keywords.Return at text.now room left x.1 x.0 tokens.now x.2.now) }
     ensures refused { IfErr result (λ e.
@@ -90,10 +90,10 @@ fn returning<'a>(
 fn breaking<'a>(
     text: &[u8],
     room: u64,
-    left: Left,
+    left: Remaining,
     at: u64,
     tokens: &'a [Token],
-) -> Result<(Opening, Left, &'a [Token]), ParseErr>
+) -> Result<(Opening, Remaining, &'a [Token]), ParseErr>
     ensures found { IfOk result (λ x.
         OpensAfter keywords.Break at text.now room left x.1 x.0 tokens.now x.2.now) }
     ensures refused { IfErr result (λ e.
@@ -107,10 +107,10 @@ fn breaking<'a>(
 fn continuing<'a>(
     text: &[u8],
     room: u64,
-    left: Left,
+    left: Remaining,
     at: u64,
     tokens: &'a [Token],
-) -> Result<(Opening, Left, &'a [Token]), ParseErr>
+) -> Result<(Opening, Remaining, &'a [Token]), ParseErr>
     ensures found { IfOk result (λ x.
         OpensAfter keywords.Continue at text.now room left x.1 x.0 tokens.now x.2.now) }
     ensures refused { IfErr result (λ e.
@@ -124,10 +124,10 @@ fn continuing<'a>(
 fn leaving<'a>(
     text: &[u8],
     room: u64,
-    left: Left,
+    left: Remaining,
     at: u64,
     tokens: &'a [Token],
-) -> Result<(Opening, Left, &'a [Token]), ParseErr>
+) -> Result<(Opening, Remaining, &'a [Token]), ParseErr>
     ensures found { IfOk result (λ x.
         OpensAfter keywords.Leave at text.now room left x.1 x.0 tokens.now x.2.now) }
     ensures refused { IfErr result (λ e.
@@ -142,10 +142,10 @@ fn if_head<'a>(
     alloc: Global,
     text: &[u8],
     room: u64,
-    left: Left,
+    left: Remaining,
     at: u64,
     tokens: &'a [Token],
-) -> Result<(Opening, Left, &'a [Token]), ParseErr>
+) -> Result<(Opening, Remaining, &'a [Token]), ParseErr>
     ensures found { IfOk result (λ x.
         OpensAfter keywords.If at text.now room left x.1 x.0 tokens.now x.2.now) }
     ensures refused { IfErr result (λ e.
@@ -163,10 +163,10 @@ fn while_head<'a>(
     alloc: Global,
     text: &[u8],
     room: u64,
-    left: Left,
+    left: Remaining,
     at: u64,
     tokens: &'a [Token],
-) -> Result<(Opening, Left, &'a [Token]), ParseErr>
+) -> Result<(Opening, Remaining, &'a [Token]), ParseErr>
     ensures found { IfOk result (λ x.
         OpensAfter keywords.While at text.now room left x.1 x.0 tokens.now x.2.now) }
     ensures refused { IfErr result (λ e.
@@ -183,10 +183,10 @@ fn while_head<'a>(
 fn do_head<'a>(
     text: &[u8],
     room: u64,
-    left: Left,
+    left: Remaining,
     at: u64,
     tokens: &'a [Token],
-) -> Result<(Opening, Left, &'a [Token]), ParseErr>
+) -> Result<(Opening, Remaining, &'a [Token]), ParseErr>
     ensures found { IfOk result (λ x.
         OpensAfter keywords.Do at text.now room left x.1 x.0 tokens.now x.2.now) }
     ensures refused { IfErr result (λ e.
@@ -204,10 +204,10 @@ fn for_head<'a>(
     alloc: Global,
     text: &[u8],
     room: u64,
-    left: Left,
+    left: Remaining,
     at: u64,
     tokens: &'a [Token],
-) -> Result<(Opening, Left, &'a [Token]), ParseErr>
+) -> Result<(Opening, Remaining, &'a [Token]), ParseErr>
     ensures found { IfOk result (λ x.
         OpensAfter keywords.For at text.now room left x.1 x.0 tokens.now x.2.now) }
     ensures refused { IfErr result (λ e.
@@ -250,10 +250,10 @@ fn for_head<'a>(
 fn try_head<'a>(
     text: &[u8],
     room: u64,
-    left: Left,
+    left: Remaining,
     at: u64,
     tokens: &'a [Token],
-) -> Result<(Opening, Left, &'a [Token]), ParseErr>
+) -> Result<(Opening, Remaining, &'a [Token]), ParseErr>
     ensures found { IfOk result (λ x.
         OpensAfter keywords.Try at text.now room left x.1 x.0 tokens.now x.2.now) }
     ensures refused { IfErr result (λ e.
@@ -271,12 +271,12 @@ fn by_keyword<'a>(
     alloc: Global,
     text: &[u8],
     room: u64,
-    left: Left,
+    left: Remaining,
     keyword: Keyword,
     at: u64,
     following: &'a [Token],
     tokens: &'a [Token],
-) -> Result<(Opening, Left, &'a [Token]), ParseErr>
+) -> Result<(Opening, Remaining, &'a [Token]), ParseErr>
     requires { IsKeyword keyword at tokens.now following.now }
     ensures found { IfOk result (λ x. Opens text.now room left x.1 x.0 tokens.now x.2.now) }
     ensures refused { IfErr result (λ e. RefusesStatement e room left text.now tokens.now) }
@@ -301,9 +301,9 @@ pub fn read_opening<'a>(
     alloc: Global,
     text: &[u8],
     room: u64,
-    left: Left,
+    left: Remaining,
     tokens: &'a [Token],
-) -> Result<(Opening, Left, &'a [Token]), ParseErr>
+) -> Result<(Opening, Remaining, &'a [Token]), ParseErr>
     ensures found { IfOk result (λ x. Opens text.now room left x.1 x.0 tokens.now x.2.now) }
     ensures refused { IfErr result (λ e. RefusesStatement e room left text.now tokens.now) }
 {

@@ -11,7 +11,7 @@ ghost use Rattle.c_syntax.specs.Limits.{height_of, one_over};
 ghost use Rattle.c_syntax.specs.Statements.{IsUpTo, IsCondition};
 ghost use Rattle.c_syntax.specs.Tokens.{IsKeyword, HasKeyword, HasPunctuator};
 ghost use Rattle.c_parse_type.specs.Bases.{NoBase};
-ghost use Rattle.c_parse_stmt.specs.declared.left.Left.{Left};
+ghost use Rattle.c_parse_stmt.specs.declared.remaining.Remaining.{Remaining};
 ghost use Rattle.c_parse_stmt.specs.Begins.{BeginsExpression, BeginsNoExpression, BeginsStatement, BeginsNoStatement};
 ghost use Rattle.c_parse_stmt.specs.Refused.{RefusesPunctuator, RefusesCondition, RefusesUpTo, RefusesBlockItem};
 
@@ -146,7 +146,7 @@ fn no_room_for_expression(text: &[u8], tokens: &[Token]) -> ParseErr
 /// The refusal of the first token where no declaration begins with it, and each statement is one
 /// too deep: if none begins with it, no program continues so at all.
 pub fn no_room_for_statement(text: &[u8], tokens: &[Token]) -> ParseErr
-    ensures { (left : Left) → NoBase tokens.now
+    ensures { (left : Remaining) → NoBase tokens.now
         → RefusesBlockItem result 0 left text.now tokens.now }
 {
     if begins_statement(tokens) {

@@ -5,17 +5,17 @@ ghost use Rattle.c_lex.specs.declared.token.Token.{Token};
 ghost use Rattle.c_syntax.specs.Statement.{statement, statements};
 ghost use Rattle.c_syntax.specs.Statements.{AreBlockItems};
 ghost use Rattle.c_parse_type.specs.Bases.{NoBase};
-ghost use Rattle.c_parse_stmt.specs.declared.left.Left.{Left};
+ghost use Rattle.c_parse_stmt.specs.declared.remaining.Remaining.{Remaining};
 ghost use Rattle.c_parse_stmt.specs.Openings.{ReadsAfterHead, ReadsAfterTry};
 ghost use Rattle.c_parse_stmt.specs.Within.{AllTaken, IsStatementWithin, ReadsBlockItem};
 ghost use Rattle.c_parse_stmt.specs.Refused.{RefusesStatement, RefusesBlockItem, RefusesBlockItems, RefusesAfterHead, RefusesAfterTry};
 
 use crate::build::if_else_of;
 use crate::endings::{Ending, read_clause, read_ending, try_of};
-use crate::left::Left;
 use crate::locals::declaration;
 use crate::openings::{Head, Opening, read_opening};
 use crate::parts::no_room_for_statement;
+use crate::remaining::Remaining;
 use c_lex::punctuator::Punctuator;
 use c_lex::token::Token;
 use c_parse_expr::refusal::ParseErr;
@@ -32,9 +32,9 @@ fn declared<'a>(
     alloc: Global,
     text: &[u8],
     room: u64,
-    left: Left,
+    left: Remaining,
     tokens: &'a [Token],
-) -> Result<Option<(Stmt, Left, &'a [Token])>, ParseErr>
+) -> Result<Option<(Stmt, Remaining, &'a [Token])>, ParseErr>
     ensures found { IfOk result (λ o. IfSome o (λ x.
         ReadsBlockItem text.now room left x.1 (statement x.0) tokens.now x.2.now)) }
     ensures room { IfOk result (λ o. IfNone o (1 ≤ room)) }
@@ -62,10 +62,10 @@ fn inside<'a>(
     alloc: Global,
     text: &[u8],
     room: u64,
-    left: Left,
+    left: Remaining,
     head: Head,
     tokens: &'a [Token],
-) -> Result<(Stmt, Left, &'a [Token]), ParseErr>
+) -> Result<(Stmt, Remaining, &'a [Token]), ParseErr>
     requires some { 1 ≤ room }
     requires low { room < MOST_STATEMENTS }
     ensures found { IfOk result (λ x.
@@ -105,13 +105,13 @@ fn inside<'a>(
 /// parentheses or `__finally`, and another block (Microsoft C reference, "try-except statement" and
 /// "try-finally statement").
 #[cycle(nested)]
-fn guarded<'a>(
+fn try_statement<'a>(
     alloc: Global,
     text: &[u8],
     room: u64,
-    left: Left,
+    left: Remaining,
     tokens: &'a [Token],
-) -> Result<(Stmt, Left, &'a [Token]), ParseErr>
+) -> Result<(Stmt, Remaining, &'a [Token]), ParseErr>
     requires some { 1 ≤ room + left.funclets }
     requires low { room < MOST_STATEMENTS }
     ensures found { IfOk result (λ x.
@@ -136,9 +136,9 @@ fn statement<'a>(
     alloc: Global,
     text: &[u8],
     room: u64,
-    left: Left,
+    left: Remaining,
     tokens: &'a [Token],
-) -> Result<(Stmt, Left, &'a [Token]), ParseErr>
+) -> Result<(Stmt, Remaining, &'a [Token]), ParseErr>
     requires { room < MOST_STATEMENTS }
     ensures found { IfOk result (λ x.
         IsStatementWithin text.now room left x.1 (statement x.0) tokens.now x.2.now) }
@@ -151,7 +151,7 @@ fn statement<'a>(
             let (found, left, rest) = items(alloc, text, room, left, following)?;
             Ok((block_of(found), left, rest))
         }
-        Opening::Try => guarded(alloc, text, room, left, following),
+        Opening::Try => try_statement(alloc, text, room, left, following),
         Opening::Head(head) => inside(alloc, text, room, left, head, following),
     }
 }
@@ -163,9 +163,9 @@ fn item<'a>(
     alloc: Global,
     text: &[u8],
     room: u64,
-    left: Left,
+    left: Remaining,
     tokens: &'a [Token],
-) -> Result<(Stmt, Left, &'a [Token]), ParseErr>
+) -> Result<(Stmt, Remaining, &'a [Token]), ParseErr>
     requires { room ≤ MOST_STATEMENTS }
     ensures found { IfOk result (λ x.
         ReadsBlockItem text.now room left x.1 (statement x.0) tokens.now x.2.now) }
@@ -185,9 +185,9 @@ pub fn items<'a>(
     alloc: Global,
     text: &[u8],
     room: u64,
-    left: Left,
+    left: Remaining,
     tokens: &'a [Token],
-) -> Result<(Vec<Stmt>, Left, &'a [Token]), ParseErr>
+) -> Result<(Vec<Stmt>, Remaining, &'a [Token]), ParseErr>
     requires { room ≤ MOST_STATEMENTS }
     ensures found { IfOk result (λ x.
         AreBlockItems text.now (statements (map statement x.0.items)) tokens.now x.2.now) }

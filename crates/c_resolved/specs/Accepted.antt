@@ -1,5 +1,11 @@
 -- Which programs are accepted, and which fault is reported for one that isn't: the least by place,
 -- and at one place the earliest rule.
+--
+-- `CheckFaults`, `Accepted`: the faults of a program, and that there are none.
+--
+-- `least`, `reported`: the fault that is reported, the least by place, and at one place the
+-- earliest rule. `IsRefusal` (crate `c_check`) says that a refusal of the checker is that fault, or
+-- that memory ran out.
 use Rattle.std.specs.Prelude.{◌≡◌, ℕ, Bool, ◌&&◌, ◌||◌, nat_eq, nat_lt, if◌then◌else◌, List, [], ◌∷◌, Option, Some, None}
 use Rattle.c_syntax.specs.Program.{ExternalDeclaration}
 use Rattle.c_resolved.specs.declared.fault.Fault.{Fault}

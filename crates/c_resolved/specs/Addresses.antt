@@ -89,7 +89,8 @@ abbrev mutual
   mark_statement Leave marks = marks
   mark_statement (TryExcept body filter block) marks =
       mark_statements block (mark_filter filter (mark_statements body marks))
-  mark_statement (TryFinally body k last) marks = mark_statements last (mark_statements body marks)
+  mark_statement (TryFinally body k finally_block) marks =
+      mark_statements finally_block (mark_statements body marks)
 
   pub mark_statements : Statements → List Bool → List Bool
   mark_statements Empty marks = marks
@@ -105,7 +106,7 @@ abbrev mutual
   holds_try (For ds first c next s) = holds_try s
   holds_try (DoWhile s c) = holds_try s
   holds_try (TryExcept body filter block) = true
-  holds_try (TryFinally body k last) = true
+  holds_try (TryFinally body k finally_block) = true
   holds_try other = false
 
   pub hold_try : Statements → Bool

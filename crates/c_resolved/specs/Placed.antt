@@ -131,8 +131,8 @@ abbrev mutual
   place_statement l Leave = Leave
   place_statement l (TryExcept body filter block) =
       TryExcept (place_statements l body) (place_filter l filter) (place_statements l block)
-  place_statement l (TryFinally body k last) =
-      TryFinally (place_statements l body) k (place_statements l last)
+  place_statement l (TryFinally body k finally_block) =
+      TryFinally (place_statements l body) k (place_statements l finally_block)
 
   pub place_statements : Layout → Statements → Statements
   place_statements l Empty = Empty

@@ -1,5 +1,7 @@
 -- Programs: what each is resolved to, and all rules that it breaks (C11, 6.9). Every function and
 -- global is visible in the whole text.
+--
+-- The main definition: `resolve`.
 use Rattle.std.specs.Prelude.{ℕ, zero, suc, ◌+◌, ◌-◌, ◌*◌, ◌/◌, ◌%◌, ◌^◌, Bool, true, false, not, ◌&&◌, if◌then◌else◌, List, [], ◌∷◌, ◌++◌, length, map, take, drop, replicate, Option, Some, None}
 use Rattle.seh_num.specs.declared.width.Width.TheVariants.{W32, W64}
 use Rattle.seh_num.specs.Widths.{low, wrapped}
@@ -261,7 +263,11 @@ pub record Resolved : Type 0 where
   pub program : checked_program.Program
   pub faults : List FaultAt
 
--- what a program is resolved to, with all faults
+-- the checked program that a program is, and all rules that it breaks, each with its place. The
+-- rules are those of C11, 6.2.1 for scopes, 6.3 for conversions, and 6.5 to 6.9, and of the
+-- Microsoft C reference, "try-except statement" and "try-finally statement". Every function and
+-- global is visible in the whole text (own). An expression that holds a fault has no type, and no
+-- rule on types fails for it; a name that is declared twice means its first declaration.
 abbrev pub resolve : List ℕ → List ExternalDeclaration → Resolved
 resolve text xs =
     let file = file_of text xs empty_file in

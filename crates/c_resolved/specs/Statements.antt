@@ -371,12 +371,12 @@ abbrev mutual
       (with_number m.counts q.number) in
       enclosed block (follow m k) (checked.TryExcept (checked.statements m.done) q.filter
       (checked.statements k.done)) q.faults
-  resolve_statement (statements.TryFinally body at last) a block n =
+  resolve_statement (statements.TryFinally body at finally_block) a block n =
       let here = inside a block in
       let m = resolve_statements body (record here { body = Near }) [] n in
       let number = m.counts.number in
       let k =
-      resolve_statements last (record here {
+      resolve_statements finally_block (record here {
         loop = past_finally a.loop;
         body = past_finally a.body;
         function = Beyond;

@@ -1,14 +1,14 @@
 -- Variables placed one after another.
 use Rattle.std.proofs.Common.{◌≡◌, ◌≤◌, ◌<◌, ℕ, ◌+◌, refl, ap, sym, ◌∙◌}
-use Rattle.std.proofs.lemmas.List.{append-nil, append_assoc, drop_all}
-use Rattle.std.specs.Prelude.{Bool, true, false, ◌||◌, if◌then◌else◌, List, [], ◌∷◌, ◌++◌, drop, length, get_or, Option, Some, None, is_some}
+use Rattle.std.proofs.lemmas.List.{append-nil, drop_all}
+use Rattle.std.specs.Prelude.{Bool, true, false, ◌||◌, List, [], ◌∷◌, ◌++◌, drop, length, get_or, Option, Some, None, is_some}
 use Rattle.c_stacked.proofs.Walked.{get_any}
 use Rattle.c_checked.proofs.Items.{next_of}
 use Rattle.c_resolved.specs.declared.variable.Place.{Place}
 use Rattle.c_resolved.specs.declared.variable.Variable.{Variable}
-use Rattle.c_resolved.specs.Layout.{is_addressable, place_from, end_of, places_from, end_of_all, is_placed, any_placed, with_parameter, stacked_parameters}
+use Rattle.c_resolved.specs.Layout.{places_from, end_of_all, is_placed, any_placed}
 use Rattle.c_stacked.specs.declared.layout.Placing.{Placing}
-use Rattle.c_stacked.specs.Placings.{PlacesOne, IsPlacing}
+use Rattle.c_stacked.specs.Placings.{IsPlacing}
 
 -- the places so far with those of the other variables are all
 pub record StillToPlace (vs : List Variable) (marks : List Bool) (i : ℕ) (p : Placing) : Type 0

@@ -53,7 +53,7 @@ is_loop s = false
 -- a `__try` (Microsoft C reference, "try-except statement", "try-finally statement")
 abbrev pub is_try : Statement → Bool
 is_try (TryExcept body filter block) = true
-is_try (TryFinally body k last) = true
+is_try (TryFinally body k finally_block) = true
 is_try s = false
 
 -- a loop or a `__try`

@@ -130,9 +130,13 @@ fn mark_loop_or_try(stmt: &Stmt, marks: &mut [bool])
             mark_filter(filter, marks);
             mark_statements(handler, marks)
         }
-        Stmt::TryFinally { body, last, .. } => {
+        Stmt::TryFinally {
+            body,
+            finally_block,
+            ..
+        } => {
             mark_statements(body, marks);
-            mark_statements(last, marks)
+            mark_statements(finally_block, marks)
         }
         _ => unreachable!(),
     }

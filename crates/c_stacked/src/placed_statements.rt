@@ -224,11 +224,15 @@ fn place_try(places: &Layout, stmt: &mut Stmt)
         Stmt::TryFinally {
             mut body,
             number,
-            mut last,
+            mut finally_block,
         } => {
             place_statements(places, &mut body);
-            place_statements(places, &mut last);
-            Stmt::TryFinally { body, number, last }
+            place_statements(places, &mut finally_block);
+            Stmt::TryFinally {
+                body,
+                number,
+                finally_block,
+            }
         }
         _ => unreachable!(),
     };

@@ -6,23 +6,24 @@ use Rattle.c_checked.specs.declared.statement.Stmt.{Stmt as Checked}
 use Rattle.c_checked.specs.Statement as checked
 use Rattle.c_locals.specs.declared.environment.Environment.{Environment as Environment'}
 use Rattle.c_statements.proofs.Lemmas.{kept_append}
-use Rattle.c_statements.specs.Words.{SymbolTable, with_block, environment, least_of, kept, Walk, Resolves, numbering, Scope, Environment, Numbering, ResolvedStatements, resolve_statement, resolve_statements, statement, statements}
+use Rattle.c_statements.specs.Words.{SymbolTable, with_block, environment, least_of, kept, FunctionState, Resolves, numbering, Scope, Environment, Numbering, ResolvedStatements, resolve_statement, resolve_statements, statement, statements}
 use Rattle.c_syntax.specs.declared.statement.Stmt.{Stmt}
 
 abbrev pub resolved_from : Environment → List Stmt → Scope → Numbering → ResolvedStatements
 resolved_from a list b n = resolve_statements (statements (map statement list)) a b n
 
 -- what was made of a part of a list, with what is left, is what the whole is resolved to
-pub record Going (a : Environment) (left : List Stmt) (b : Scope) (start walk : Walk)
+pub record Going (a : Environment) (left : List Stmt) (b : Scope) (start state : FunctionState)
     (made : List Checked) (whole : ResolvedStatements) : Type 0 where
-  pub done : map checked.statement made ++ (resolved_from a left b (numbering walk)).done
+  pub done : map checked.statement made ++ (resolved_from a left b (numbering state)).done
       ≡ whole.done
-  pub counts : (resolved_from a left b (numbering walk)).counts ≡ whole.counts
-  pub block : (resolved_from a left b (numbering walk)).block ≡ whole.block
-  pub faults : kept (least_of walk.worst) (resolved_from a left b (numbering walk)).faults
-      ≡ kept (least_of start.worst) whole.faults
+  pub counts : (resolved_from a left b (numbering state)).counts ≡ whole.counts
+  pub block : (resolved_from a left b (numbering state)).block ≡ whole.block
+  pub faults : kept (least_of state.faults) (resolved_from a left b (numbering state)).faults
+      ≡ kept (least_of start.faults) whole.faults
 
-step : (a : Environment) (s : Stmt) (left : List Stmt) (t t' : SymbolTable) (start w w' : Walk)
+step : (a : Environment) (s : Stmt) (left : List Stmt) (t t' : SymbolTable)
+    (start w w' : FunctionState)
     (made more : List Checked) (whole : ResolvedStatements)
     → Resolves t t' w w' (map checked.statement more)
     (resolve_statement (statement s) a t.block (numbering w))
@@ -44,14 +45,14 @@ step a s left t t' start w w' made more whole m g =
       counts = ap (λ k. k.counts) same ∙ g.counts;
       block = ap (λ k. k.block) same ∙ g.block;
       faults =
-          ap (λ k. kept (least_of w'.worst) k.faults) same
+          ap (λ k. kept (least_of w'.faults) k.faults) same
           ∙ ap (λ k. kept k there.faults) m.faults
-          ∙ sym (kept_append (least_of w.worst) r.faults there.faults)
+          ∙ sym (kept_append (least_of w.faults) r.faults there.faults)
           ∙ g.faults;
     }
 
 pub goes : (e : Environment') (list : List Stmt) (i : ℕ) (s : Stmt) (first t t' : SymbolTable)
-    (start w w' : Walk) (made made' more : List Checked) (whole : ResolvedStatements)
+    (start w w' : FunctionState) (made made' more : List Checked) (whole : ResolvedStatements)
     → i < length list → s ≡ get_or list i s → made' ≡ made ++ more
     → Resolves t t' w w' (map checked.statement more)
     (resolve_statement (statement s) (environment e t.around) t.block (numbering w))
@@ -72,7 +73,8 @@ goes e list i s first t t' start w w' made made' more whole lt is more_made m0 s
           (subst (λ k. Going a k t.block start w made whole) (next_of list i s lt is) g)),
     )
 
-pub gone : (a : Environment) (list : List Stmt) (i : ℕ) (first t : SymbolTable) (start w : Walk)
+pub gone : (a : Environment) (list : List Stmt) (i : ℕ) (first t : SymbolTable)
+    (start w : FunctionState)
     (made : List Checked) (whole : ResolvedStatements)
     → length list ≤ i → t ≡ with_block first t.block
     → Going a (drop i list) t.block start w made whole

@@ -1,7 +1,7 @@
 -- A `for` and a `__try` by what was made of their parts, one after another.
 use Rattle.std.proofs.Common.{◌≡◌, ℕ, ◌+◌, List, [], ◌∷◌, ◌++◌, map, Option, refl, ap, subst, ◌∙◌}
 use Rattle.std.specs.Prelude.{option_map}
-use Rattle.c_statements.specs.Words.{Expr, Stmt, declared, SymbolTable, with_block, opened, closed, environment, least_of, kept, Walk, IsBeginning, numbering, resolved_at, in_loop, in_body, in_handler, in_last, Scope, Environment, Numbering, ResolvedStatements, Optional, inside, condition, any, optional, with_number, resolve_filter, resolve_for_initialiser, resolve_statement, resolve_statements, MakesOne, MakesPart, MakesBlock, Expression, Statement, Statements, ForInitialiser}
+use Rattle.c_statements.specs.Words.{Expr, Stmt, declared, SymbolTable, with_block, opened, closed, environment, least_of, kept, FunctionState, IsBeginning, numbering, resolved_at, in_loop, in_body, in_handler, in_finally, Scope, Environment, Numbering, ResolvedStatements, Optional, inside, condition, any, optional, with_number, resolve_filter, resolve_for_initialiser, resolve_statement, resolve_statements, MakesOne, MakesPart, MakesBlock, Expression, Statement, Statements, ForInitialiser}
 use Rattle.c_checked.specs.declared.statement.Filter.{Filter}
 use Rattle.c_checked.specs.Expression.{expression}
 use Rattle.c_checked.specs.Statement as checked
@@ -15,19 +15,20 @@ use Rattle.c_syntax.specs.Statement as trees
 
 -- ---- `__try` with a `__finally` block
 
-pub finally_is : (t t1 t2 : SymbolTable) (b : Scope) (w0 w1 w2 w3 : Walk) (vs ks : List Stmt)
+pub finally_is : (t t1 t2 : SymbolTable) (b : Scope) (w0 w1 w2 w3 : FunctionState)
+    (vs ks : List Stmt)
     (number : ℕ) (made : Stmt)
     (a : Environment) (ss : Statements) (at : ℕ) (ls : Statements)
     → MakesBlock t t1 w0 w1 vs (resolve_statements ss (in_body (inside a b)) [] (numbering w0))
     → number ≡ w1.number → numbering w2 ≡ with_number (numbering w1) (w1.number + 1)
-    → w2.worst ≡ w1.worst
-    → MakesBlock t t2 w2 w3 ks (resolve_statements ls (in_last (inside a b)) [] (numbering w2))
+    → w2.faults ≡ w1.faults
+    → MakesBlock t t2 w2 w3 ks (resolve_statements ls (in_finally (inside a b)) [] (numbering w2))
     → checked.statement made ≡ checked.TryFinally (checked.statements (map checked.statement vs))
     number (checked.statements (map checked.statement ks))
     → MakesOne b w0 w3 made (resolve_statement (trees.TryFinally ss at ls) a b (numbering w0))
 finally_is t t1 t2 b w0 w1 w2 w3 vs ks number made a ss at ls m is n kept_so k p =
     let r = resolve_statements ss (in_body (inside a b)) [] (numbering w0) in
-    let f : Numbering → ResolvedStatements = λ n. resolve_statements ls (in_last (inside a b)) []
+    let f : Numbering → ResolvedStatements = λ n. resolve_statements ls (in_finally (inside a b)) []
     n in
     let to : numbering w2 ≡ with_number r.counts (r.counts.number + 1) = n
     ∙ ap (λ (c : Numbering). with_number c (c.number + 1)) m.counts in
@@ -46,21 +47,22 @@ finally_is t t1 t2 b w0 w1 w2 w3 vs ks number made a ss at ls m is n kept_so k p
           (checked.statements x)) j.done);
       counts = j.counts;
       block = refl;
-      faults = kept_more (least_of w0.worst) (least_of w1.worst) (least_of w3.worst) r.faults
+      faults = kept_more (least_of w0.faults) (least_of w1.faults) (least_of w3.faults) r.faults
           q.faults m.faults (j.faults ∙ ap (λ l. kept (least_of l) q.faults) kept_so);
     }
 
 -- ---- `__try` with a filter
 
-pub except_is : (t t1 t2 : SymbolTable) (b : Scope) (w0 w1 w2 w3 w4 : Walk) (answer : Option Expr)
+pub except_is : (t t1 t2 : SymbolTable) (b : Scope) (w0 w1 w2 w3 w4 : FunctionState)
+    (answer : Option Expr)
     (filter : Filter)
     (vs ks : List Stmt) (made : Stmt) (a : Environment) (ss : Statements) (at : ℕ) (e : Expression)
     (hs : Statements)
-    → numbering w1 ≡ numbering w0 → ResolvesFilter w0.worst w1.worst answer (resolve_filter a b e)
+    → numbering w1 ≡ numbering w0 → ResolvesFilter w0.faults w1.faults answer (resolve_filter a b e)
     → MakesBlock t t1 w1 w2 vs (resolve_statements ss (in_body (inside a b)) [] (numbering w1))
     → checked.filter filter ≡ filter_with w2.number (option_map expression answer)
     → numbering w3 ≡ with_number (numbering w2)
-    (number_after w2.number (option_map expression answer)) → w3.worst ≡ w2.worst
+    (number_after w2.number (option_map expression answer)) → w3.faults ≡ w2.faults
     → MakesBlock t t2 w3 w4 ks (resolve_statements hs (in_handler (inside a b)) [] (numbering w3))
     → checked.statement made ≡ checked.TryExcept (checked.statements (map checked.statement vs))
     (checked.filter filter) (checked.statements (map checked.statement ks))
@@ -95,9 +97,10 @@ except_is t t1 t2 b w0 w1 w2 w3 w4 answer filter vs ks made a ss at e hs same v 
       counts = j.counts;
       block = refl;
       faults =
-          kept_more (least_of w0.worst) (least_of w1.worst) (least_of w4.worst) q.faults
+          kept_more (least_of w0.faults) (least_of w1.faults) (least_of w4.faults) q.faults
           (r.faults ++ h.faults) (v.faults number)
-          (kept_more (least_of w1.worst) (least_of w2.worst) (least_of w4.worst) r.faults h.faults
+          (kept_more (least_of w1.faults) (least_of w2.faults)
+          (least_of w4.faults) r.faults h.faults
           m.faults (j.faults ∙ ap (λ l. kept (least_of l) h.faults) kept_so));
     }
 
@@ -111,16 +114,16 @@ four first w1 w2 w3 w4 x y z u p q r s = kept_more first w3 w4 ((x ++ y) ++ z) u
 
 -- t1 and w0 at the begin of its block, t2 and w1 after what it does first, w2 after the condition,
 -- w3 after what follows each iteration, t3 and w4 after the body
-pub for_is : (e inner : Environment') (t t1 t2 t3 : SymbolTable) (w0 w1 w2 w3 w4 : Walk)
+pub for_is : (e inner : Environment') (t t1 t2 t3 : SymbolTable) (w0 w1 w2 w3 w4 : FunctionState)
     (beginning : Beginning) (value next : Option Expr) (s made : Stmt) (at : ℕ)
     (first : ForInitialiser) (c n : Option Expression) (body : Statement)
     → t1 ≡ opened t
     → ((around : List Scope) → environment inner around ≡ in_loop (environment e around))
     → IsBeginning t1 t2 w0 w1 beginning
     (resolve_for_initialiser (environment e t1.around) first (numbering w0))
-    → MayEvaluate w1.worst w2.worst value (optional
+    → MayEvaluate w1.faults w2.faults value (optional
     (λ x. condition at (resolved_at (environment e t2.around) t2.block x)) c)
-    → MayEvaluate w2.worst w3.worst next (optional
+    → MayEvaluate w2.faults w3.faults next (optional
     (λ x. any (resolved_at (environment e t2.around) t2.block x)) n)
     → numbering w3 ≡ numbering w1
     → MakesPart t2 t3 w3 w4 s
@@ -141,11 +144,11 @@ for_is e inner t t1 t2 t3 w0 w1 w2 w3 w4 beginning value next s made at first c 
     (resolve_for_initialiser (environment e x.around) first (numbering w0))) begins m0 in
     let vs : Optional = optional (λ x. condition at (resolved_at here block x)) c in
     let us : Optional = optional (λ x. any (resolved_at here block x)) n in
-    let v : MayEvaluate w1.worst w2.worst value vs = subst
-    (λ (x : SymbolTable). MayEvaluate w1.worst w2.worst value
+    let v : MayEvaluate w1.faults w2.faults value vs = subst
+    (λ (x : SymbolTable). MayEvaluate w1.faults w2.faults value
     (optional (λ y. condition at (resolved_at (environment e x.around) x.block y)) c)) m.names v0 in
-    let u : MayEvaluate w2.worst w3.worst next us = subst
-    (λ (x : SymbolTable). MayEvaluate w2.worst w3.worst next
+    let u : MayEvaluate w2.faults w3.faults next us = subst
+    (λ (x : SymbolTable). MayEvaluate w2.faults w3.faults next
     (optional (λ y. any (resolved_at (environment e x.around) x.block y)) n)) m.names u0 in
     let within : Numbering → ResolvedStatements = λ x. resolve_statement body
     (in_loop (inside here block)) [] x in
@@ -171,8 +174,9 @@ for_is e inner t t1 t2 t3 w0 w1 w2 w3 w4 beginning value next s made at first c 
           ∙ ap (λ x. checked.For i.declared i.first.value vs.value us.value x) k.done);
       counts = k.counts;
       block = refl;
-      faults = four (least_of w0.worst) (least_of w1.worst) (least_of w2.worst) (least_of w3.worst)
-          (least_of w4.worst) (i.resolved.faults ++ i.first.faults) vs.faults us.faults r.faults
+      faults = four (least_of w0.faults) (least_of w1.faults) (least_of w2.faults)
+          (least_of w3.faults)
+          (least_of w4.faults) (i.resolved.faults ++ i.first.faults) vs.faults us.faults r.faults
           m.faults v.faults u.faults k.faults;
     }
 

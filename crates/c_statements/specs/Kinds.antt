@@ -5,7 +5,7 @@ use Rattle.c_syntax.specs.Statement.{Statement, If, IfElse, While, DoWhile, TryE
 -- a `__try` (Microsoft C reference, "try-except statement", "try-finally statement")
 abbrev pub is_try : Statement → Bool
 is_try (TryExcept body at f handler) = true
-is_try (TryFinally body at last) = true
+is_try (TryFinally body at finally_block) = true
 is_try s = false
 
 -- `while` and `do` (C11, 6.8.5), and a `__try`

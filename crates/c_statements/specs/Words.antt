@@ -10,7 +10,7 @@ pub use Rattle.c_resolved.specs.Scopes.{Scope}
 pub use Rattle.c_resolved.specs.Statements.{Environment, Numbering, ResolvedStatements, resolve_statement, resolve_statements, Optional, inside, condition, any, optional, with_number, resolve_filter, resolve_for_initialiser, Value, only, jump, returned}
 pub use Rattle.c_expressions.specs.Kept.{least_of, kept}
 pub use Rattle.c_expressions.specs.SymbolTables.{SymbolTable, with_block, opened, closed}
-pub use Rattle.c_locals.specs.Views.{numbering, resolved_at, in_loop, in_body, in_handler, in_last, environment, reach}
+pub use Rattle.c_locals.specs.Views.{numbering, resolved_at, in_loop, in_body, in_handler, in_finally, environment, reach}
 pub use Rattle.c_locals.specs.WalkResults.{Resolves, IsBeginning}
-pub use Rattle.c_locals.specs.declared.environment.Walk.{Walk}
-pub use Rattle.c_statements.specs.Made.{MakesOne, MakesPart, MakesBlock, MakesGoverned}
+pub use Rattle.c_locals.specs.declared.environment.FunctionState.{FunctionState}
+pub use Rattle.c_statements.specs.Made.{MakesOne, MakesPart, MakesBlock, MakesConditionAndBody}

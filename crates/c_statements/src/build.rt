@@ -130,11 +130,15 @@ pub fn except_of(body: Vec<Stmt>, filter: Filter, handler: Vec<Stmt>) -> Stmt
 }
 
 /// A `__try` with a `__finally` block.
-pub fn finally_of(body: Vec<Stmt>, number: u32, last: Vec<Stmt>) -> Stmt
+pub fn finally_of(body: Vec<Stmt>, number: u32, finally_block: Vec<Stmt>) -> Stmt
     ensures { statement result ≡ checked.TryFinally (statements (map statement body.items)) number
-        (statements (map statement last.items)) }
+        (statements (map statement finally_block.items)) }
 {
-    Stmt::TryFinally { body, number, last }
+    Stmt::TryFinally {
+        body,
+        number,
+        finally_block,
+    }
 }
 
 /// The statement where there has to be one: the first, or none that does anything.

@@ -11,7 +11,7 @@ ghost use Rattle.c_syntax.specs.Statement as trees;
 use crate::build::{break_of, continue_of, evaluate_of, leave_of, return_of};
 use c_checked::statement::Stmt;
 use c_expressions::symbol_table::SymbolTable;
-use c_locals::environment::{Environment, Walk, jump};
+use c_locals::environment::{Environment, FunctionState, jump};
 use c_locals::evaluated::{any_or_none, returned};
 use c_resolved::fault::Fault;
 use c_syntax::expression::Expr;
@@ -22,14 +22,14 @@ pub fn evaluated<'t>(
     alloc: Global,
     env: &Environment<'t>,
     names: &SymbolTable<'t>,
-    walk: &mut Walk,
+    state: &mut FunctionState,
     e: &Option<Expr>,
 ) -> Result<Stmt, AllocError>
-    ensures { IfOk result (λ s. MakesOne names.now.block walk.old walk.new s
+    ensures { IfOk result (λ s. MakesOne names.now.block state.old state.new s
         (resolve_statement (trees.Evaluate (option_map expression e.now)) (environment env.now
-        names.now.around) names.now.block (numbering walk.old))) }
+        names.now.around) names.now.block (numbering state.old))) }
 {
-    let value = any_or_none(alloc, env, names, &mut walk.worst, e)?;
+    let value = any_or_none(alloc, env, names, &mut state.faults, e)?;
     Ok(evaluate_of(value))
 }
 
@@ -38,45 +38,45 @@ pub fn return_from<'t>(
     alloc: Global,
     env: &Environment<'t>,
     names: &SymbolTable<'t>,
-    walk: &mut Walk,
+    state: &mut FunctionState,
     at: u64,
     e: &Option<Expr>,
 ) -> Result<Stmt, AllocError>
-    ensures { IfOk result (λ s. MakesOne names.now.block walk.old walk.new s
+    ensures { IfOk result (λ s. MakesOne names.now.block state.old state.new s
         (resolve_statement (trees.Return at (option_map expression e.now)) (environment env.now
-        names.now.around) names.now.block (numbering walk.old))) }
+        names.now.around) names.now.block (numbering state.old))) }
 {
-    jump(&mut walk.worst, env.function, Fault::JumpOutOfFinally, at);
-    let value = returned(alloc, env, names, &mut walk.worst, at, e)?;
+    jump(&mut state.faults, env.function, Fault::JumpOutOfFinally, at);
+    let value = returned(alloc, env, names, &mut state.faults, at, e)?;
     Ok(return_of(value))
 }
 
 /// A `break` (C11, 6.8.6.3).
-pub fn break_from(env: &Environment<'_>, walk: &mut Walk, at: u64) -> Stmt
+pub fn break_from(env: &Environment<'_>, state: &mut FunctionState, at: u64) -> Stmt
     ensures { (around : List Scope) → (block : Scope) →
-        MakesOne block walk.old walk.new result (resolve_statement (trees.Break at)
-        (environment env.now around) block (numbering walk.old)) }
+        MakesOne block state.old state.new result (resolve_statement (trees.Break at)
+        (environment env.now around) block (numbering state.old)) }
 {
-    jump(&mut walk.worst, env.loops, Fault::JumpOutsideLoop, at);
+    jump(&mut state.faults, env.loops, Fault::JumpOutsideLoop, at);
     break_of()
 }
 
 /// A `continue` (C11, 6.8.6.2).
-pub fn continue_from(env: &Environment<'_>, walk: &mut Walk, at: u64) -> Stmt
+pub fn continue_from(env: &Environment<'_>, state: &mut FunctionState, at: u64) -> Stmt
     ensures { (around : List Scope) → (block : Scope) →
-        MakesOne block walk.old walk.new result (resolve_statement (trees.Continue at)
-        (environment env.now around) block (numbering walk.old)) }
+        MakesOne block state.old state.new result (resolve_statement (trees.Continue at)
+        (environment env.now around) block (numbering state.old)) }
 {
-    jump(&mut walk.worst, env.loops, Fault::JumpOutsideLoop, at);
+    jump(&mut state.faults, env.loops, Fault::JumpOutsideLoop, at);
     continue_of()
 }
 
 /// A `__leave` (Microsoft C reference, "try-finally statement").
-pub fn leave_from(env: &Environment<'_>, walk: &mut Walk, at: u64) -> Stmt
+pub fn leave_from(env: &Environment<'_>, state: &mut FunctionState, at: u64) -> Stmt
     ensures { (around : List Scope) → (block : Scope) →
-        MakesOne block walk.old walk.new result (resolve_statement (trees.Leave at)
-        (environment env.now around) block (numbering walk.old)) }
+        MakesOne block state.old state.new result (resolve_statement (trees.Leave at)
+        (environment env.now around) block (numbering state.old)) }
 {
-    jump(&mut walk.worst, env.body, Fault::LeaveOutsideTry, at);
+    jump(&mut state.faults, env.body, Fault::LeaveOutsideTry, at);
     leave_of()
 }

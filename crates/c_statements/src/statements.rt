@@ -9,7 +9,7 @@ ghost use Rattle.c_resolved.specs.Program.{around};
 ghost use Rattle.c_resolved.specs.Statements as definitions;
 ghost use Rattle.c_resolved.specs.Statements.{resolve_statement, resolve_statements};
 ghost use Rattle.c_statements.specs.Kinds.{has_parts, is_loop_or_try, is_try};
-ghost use Rattle.c_statements.specs.Made.{MakesPart, MakesBlock, MakesOne, MakesGoverned, resolved};
+ghost use Rattle.c_statements.specs.Made.{MakesPart, MakesBlock, MakesOne, MakesConditionAndBody, resolved};
 ghost use Rattle.c_statements.specs.Made.{resolved_inside};
 ghost use Rattle.c_syntax.specs.Expression.{expression};
 ghost use Rattle.c_syntax.specs.Statement as trees;
@@ -23,7 +23,9 @@ use c_checked::expression::Expr as CheckedExpr;
 use c_checked::statement::Stmt as Checked;
 use c_expressions::symbol_table::SymbolTable;
 use c_locals::declarations::{declare_all, for_initialiser};
-use c_locals::environment::{Environment, Reach, Walk, in_body, in_handler, in_last, in_loop};
+use c_locals::environment::{
+    Environment, FunctionState, Reach, in_body, in_finally, in_handler, in_loop,
+};
 use c_locals::evaluated::{any_or_none, condition, condition_or_none};
 use c_locals::filters::{filter_value, numbered};
 use c_syntax::expression::{CType, Expr};
@@ -36,14 +38,14 @@ fn part<'t>(
     alloc: Global,
     env: &Environment<'t>,
     names: &mut SymbolTable<'t>,
-    walk: &mut Walk,
+    state: &mut FunctionState,
     s: &Stmt,
 ) -> Result<Box<Checked>, AllocError>
-    ensures { IfOk result (λ m. MakesPart names.old names.new walk.old walk.new m.value
-        (resolved_inside s.now env.now names.old walk.old)) }
+    ensures { IfOk result (λ m. MakesPart names.old names.new state.old state.new m.value
+        (resolved_inside s.now env.now names.old state.old)) }
 {
     names.open(alloc)?;
-    let made = statement(alloc, env, names, walk, s)?;
+    let made = statement(alloc, env, names, state, s)?;
     names.close();
     Ok(Box::new(alloc, only(made))?)
 }
@@ -54,37 +56,37 @@ fn items<'t>(
     alloc: Global,
     env: &Environment<'t>,
     names: &mut SymbolTable<'t>,
-    walk: &mut Walk,
+    state: &mut FunctionState,
     list: &[Stmt],
 ) -> Result<Vec<Checked>, AllocError>
-    ensures { IfOk result (λ v. MakesBlock names.old names.new walk.old walk.new v.items
+    ensures { IfOk result (λ v. MakesBlock names.old names.new state.old state.new v.items
         (resolve_statements (statements (map statement list.now))
-        (environment env.now (names.old.block ∷ names.old.around)) [] (numbering walk.old))) }
+        (environment env.now (names.old.block ∷ names.old.around)) [] (numbering state.old))) }
 {
     names.open(alloc)?;
-    let made = statements(alloc, env, names, walk, list)?;
+    let made = statements(alloc, env, names, state, list)?;
     names.close();
     Ok(made)
 }
 
 /// A condition in a block, and the statement that it governs, which is further inside.
 #[cycle(nested)]
-fn governed<'t>(
+fn condition_and_body<'t>(
     alloc: Global,
     env: &Environment<'t>,
     inner: &Environment<'t>,
     names: &mut SymbolTable<'t>,
-    walk: &mut Walk,
+    state: &mut FunctionState,
     s: &Stmt,
     at: u64,
     e: &Expr,
 ) -> Result<(CheckedExpr, Box<Checked>), AllocError>
-    ensures { IfOk result (λ x. MakesGoverned names.old names.new walk.old walk.new x.0 x.1.value
-        (definitions.condition at (resolved_in env.now names.old e.now))
-        (resolved_inside s.now inner.now names.old walk.old)) }
+    ensures { IfOk result (λ x. MakesConditionAndBody names.old names.new state.old state.new
+        x.0 x.1.value (definitions.condition at (resolved_in env.now names.old e.now))
+        (resolved_inside s.now inner.now names.old state.old)) }
 {
-    let value = condition(alloc, env, names, &mut walk.worst, at, e)?;
-    match part(alloc, inner, names, walk, s) {
+    let value = condition(alloc, env, names, &mut state.faults, at, e)?;
+    match part(alloc, inner, names, state, s) {
         Ok(made) => Ok((value, made)),
         Err(failed) => {
             drop(value);
@@ -99,7 +101,7 @@ fn for_loop<'t>(
     alloc: Global,
     env: &Environment<'t>,
     names: &mut SymbolTable<'t>,
-    walk: &mut Walk,
+    state: &mut FunctionState,
     body: &Stmt,
     at: u64,
     first: &ForInitialiser,
@@ -107,25 +109,25 @@ fn for_loop<'t>(
     next: &Option<Expr>,
 ) -> Result<Checked, AllocError>
     ensures names { OnOk result (names.new ≡ names.old) }
-    ensures made { IfOk result (λ m. MakesOne names.old.block walk.old walk.new m
+    ensures made { IfOk result (λ m. MakesOne names.old.block state.old state.new m
         (resolve_statement (trees.For at (trees.first first.now)
         (option_map expression condition.now) (option_map expression next.now) (statement body.now))
-        (environment env.now names.old.around) names.old.block (numbering walk.old))) }
+        (environment env.now names.old.around) names.old.block (numbering state.old))) }
 {
     names.open(alloc)?;
-    let beginning = for_initialiser(alloc, env, first, names, walk)?;
-    match condition_or_none(alloc, env, names, &mut walk.worst, at, condition) {
+    let beginning = for_initialiser(alloc, env, first, names, state)?;
+    match condition_or_none(alloc, env, names, &mut state.faults, at, condition) {
         Err(failed) => {
             drop(beginning);
             Err(failed)
         }
-        Ok(value) => match any_or_none(alloc, env, names, &mut walk.worst, next) {
+        Ok(value) => match any_or_none(alloc, env, names, &mut state.faults, next) {
             Err(failed) => {
                 drop(beginning);
                 drop(value);
                 Err(failed)
             }
-            Ok(after) => match part(alloc, &in_loop(env), names, walk, body) {
+            Ok(after) => match part(alloc, &in_loop(env), names, state, body) {
                 Err(failed) => {
                     drop(beginning);
                     drop(value);
@@ -143,16 +145,16 @@ fn for_loop<'t>(
 
 /// A `__try` of a block.
 #[cycle(nested)]
-fn guarded<'t>(
+fn try_statement<'t>(
     alloc: Global,
     env: &Environment<'t>,
     names: &mut SymbolTable<'t>,
-    walk: &mut Walk,
+    state: &mut FunctionState,
     s: &Stmt,
 ) -> Result<Vec<Checked>, AllocError>
     requires { is_try (statement s.now) ≡ true }
-    ensures { IfOk result (λ v. Resolves names.old names.new walk.old walk.new
-        (map checked.statement v.items) (resolved s.now env.now names.old walk.old)) }
+    ensures { IfOk result (λ v. Resolves names.old names.new state.old state.new
+        (map checked.statement v.items) (resolved s.now env.now names.old state.old)) }
 {
     match s {
         Stmt::TryExcept {
@@ -161,15 +163,15 @@ fn guarded<'t>(
             handler,
             ..
         } => {
-            let asked = filter_value(alloc, env, names, &mut walk.worst, filter)?;
-            match items(alloc, &in_body(env), names, walk, body) {
+            let answer = filter_value(alloc, env, names, &mut state.faults, filter)?;
+            match items(alloc, &in_body(env), names, state, body) {
                 Err(failed) => {
-                    drop(asked);
+                    drop(answer);
                     Err(failed)
                 }
                 Ok(body) => {
-                    let filter = numbered(walk, asked)?;
-                    match items(alloc, &in_handler(env), names, walk, handler) {
+                    let filter = numbered(state, answer)?;
+                    match items(alloc, &in_handler(env), names, state, handler) {
                         Err(failed) => {
                             drop(filter);
                             Err(failed)
@@ -179,11 +181,15 @@ fn guarded<'t>(
                 }
             }
         }
-        Stmt::TryFinally { body, last, .. } => {
-            let body = items(alloc, &in_body(env), names, walk, body)?;
-            let number = walk.next_number()?;
-            let last = items(alloc, &in_last(env), names, walk, last)?;
-            one(alloc, finally_of(body, number, last))
+        Stmt::TryFinally {
+            body,
+            finally_block,
+            ..
+        } => {
+            let body = items(alloc, &in_body(env), names, state, body)?;
+            let number = state.next_number()?;
+            let finally_block = items(alloc, &in_finally(env), names, state, finally_block)?;
+            one(alloc, finally_of(body, number, finally_block))
         }
         _ => unreachable!(),
     }
@@ -195,12 +201,12 @@ fn loop_or_try<'t>(
     alloc: Global,
     env: &Environment<'t>,
     names: &mut SymbolTable<'t>,
-    walk: &mut Walk,
+    state: &mut FunctionState,
     s: &Stmt,
 ) -> Result<Vec<Checked>, AllocError>
     requires { is_loop_or_try (statement s.now) ≡ true }
-    ensures { IfOk result (λ v. Resolves names.old names.new walk.old walk.new
-        (map checked.statement v.items) (resolved s.now env.now names.old walk.old)) }
+    ensures { IfOk result (λ v. Resolves names.old names.new state.old state.new
+        (map checked.statement v.items) (resolved s.now env.now names.old state.old)) }
 {
     match s {
         Stmt::While {
@@ -209,7 +215,9 @@ fn loop_or_try<'t>(
             body,
         } => {
             let inner = in_loop(env);
-            let (value, body) = governed(alloc, env, &inner, names, walk, body, *at, condition)?;
+            let (value, body) = condition_and_body(
+                alloc, env, &inner, names, state, body, *at, condition,
+            )?;
             one(alloc, while_of(alloc, value, body))
         }
         Stmt::Do {
@@ -218,10 +226,12 @@ fn loop_or_try<'t>(
             condition,
         } => {
             let inner = in_loop(env);
-            let (value, body) = governed(alloc, env, &inner, names, walk, body, *at, condition)?;
+            let (value, body) = condition_and_body(
+                alloc, env, &inner, names, state, body, *at, condition,
+            )?;
             one(alloc, do_of(body, value))
         }
-        _ => guarded(alloc, env, names, walk, s),
+        _ => try_statement(alloc, env, names, state, s),
     }
 }
 
@@ -231,12 +241,12 @@ fn with_parts<'t>(
     alloc: Global,
     env: &Environment<'t>,
     names: &mut SymbolTable<'t>,
-    walk: &mut Walk,
+    state: &mut FunctionState,
     s: &Stmt,
 ) -> Result<Vec<Checked>, AllocError>
     requires { has_parts (statement s.now) ≡ true }
-    ensures { IfOk result (λ v. Resolves names.old names.new walk.old walk.new
-        (map checked.statement v.items) (resolved s.now env.now names.old walk.old)) }
+    ensures { IfOk result (λ v. Resolves names.old names.new state.old state.new
+        (map checked.statement v.items) (resolved s.now env.now names.old state.old)) }
 {
     match s {
         Stmt::If {
@@ -245,10 +255,12 @@ fn with_parts<'t>(
             then,
             otherwise,
         } => {
-            let (value, then) = governed(alloc, env, env, names, walk, then, *at, condition)?;
+            let (value, then) = condition_and_body(
+                alloc, env, env, names, state, then, *at, condition,
+            )?;
             match otherwise {
                 None => one(alloc, if_of(value, then)),
-                Some(otherwise) => match part(alloc, env, names, walk, otherwise) {
+                Some(otherwise) => match part(alloc, env, names, state, otherwise) {
                     Ok(otherwise) => one(alloc, if_else_of(value, then, otherwise)),
                     Err(failed) => {
                         drop(value);
@@ -257,7 +269,7 @@ fn with_parts<'t>(
                 },
             }
         }
-        _ => loop_or_try(alloc, env, names, walk, s),
+        _ => loop_or_try(alloc, env, names, state, s),
     }
 }
 
@@ -267,16 +279,16 @@ fn statement<'t>(
     alloc: Global,
     env: &Environment<'t>,
     names: &mut SymbolTable<'t>,
-    walk: &mut Walk,
+    state: &mut FunctionState,
     s: &Stmt,
 ) -> Result<Vec<Checked>, AllocError>
-    ensures { IfOk result (λ v. Resolves names.old names.new walk.old walk.new
-        (map checked.statement v.items) (resolved s.now env.now names.old walk.old)) }
+    ensures { IfOk result (λ v. Resolves names.old names.new state.old state.new
+        (map checked.statement v.items) (resolved s.now env.now names.old state.old)) }
 {
     match s {
-        Stmt::Declaration(d) => declare_all(alloc, env, d.base, &d.locals, names, walk),
-        Stmt::Block(list) => one(alloc, block_of(items(alloc, env, names, walk, list)?)),
-        Stmt::Expression(e) => one(alloc, evaluated(alloc, env, names, walk, e)?),
+        Stmt::Declaration(d) => declare_all(alloc, env, d.base, &d.locals, names, state),
+        Stmt::Block(list) => one(alloc, block_of(items(alloc, env, names, state, list)?)),
+        Stmt::Expression(e) => one(alloc, evaluated(alloc, env, names, state, e)?),
         Stmt::For {
             at,
             first,
@@ -284,14 +296,17 @@ fn statement<'t>(
             next,
             body,
         } => {
-            let made = for_loop(alloc, env, names, walk, body, *at, first, condition, next)?;
+            let made = for_loop(alloc, env, names, state, body, *at, first, condition, next)?;
             one(alloc, made)
         }
-        Stmt::Return { at, value } => one(alloc, return_from(alloc, env, names, walk, *at, value)?),
-        Stmt::Break { at } => one(alloc, break_from(env, walk, *at)),
-        Stmt::Continue { at } => one(alloc, continue_from(env, walk, *at)),
-        Stmt::Leave { at } => one(alloc, leave_from(env, walk, *at)),
-        _ => with_parts(alloc, env, names, walk, s),
+        Stmt::Return { at, value } => one(
+            alloc,
+            return_from(alloc, env, names, state, *at, value)?,
+        ),
+        Stmt::Break { at } => one(alloc, break_from(env, state, *at)),
+        Stmt::Continue { at } => one(alloc, continue_from(env, state, *at)),
+        Stmt::Leave { at } => one(alloc, leave_from(env, state, *at)),
+        _ => with_parts(alloc, env, names, state, s),
     }
 }
 
@@ -301,17 +316,17 @@ fn statements<'t>(
     alloc: Global,
     env: &Environment<'t>,
     names: &mut SymbolTable<'t>,
-    walk: &mut Walk,
+    state: &mut FunctionState,
     list: &[Stmt],
 ) -> Result<Vec<Checked>, AllocError>
-    ensures { IfOk result (λ v. Resolves names.old names.new walk.old walk.new
+    ensures { IfOk result (λ v. Resolves names.old names.new state.old state.new
         (map checked.statement v.items)
         (resolve_statements (statements (map statement list.now)) (environment env.now
-        names.old.around) names.old.block (numbering walk.old))) }
+        names.old.around) names.old.block (numbering state.old))) }
 {
     let mut made = Vec::new(alloc);
     for s in list {
-        let mut more = statement(alloc, env, names, walk, s)?;
+        let mut more = statement(alloc, env, names, state, s)?;
         made.append(&mut more)?;
     }
     Ok(made)
@@ -323,14 +338,14 @@ pub fn body<'t>(
     text: &'t [u8],
     returns: CType,
     names: &mut SymbolTable<'t>,
-    walk: &mut Walk,
+    state: &mut FunctionState,
     list: &[Stmt],
 ) -> Result<Vec<Checked>, AllocError>
-    ensures { IfOk result (λ v. Resolves names.old names.new walk.old walk.new
+    ensures { IfOk result (λ v. Resolves names.old names.new state.old state.new
         (map checked.statement v.items)
         (resolve_statements (statements (map statement list.now))
         (around text.now (names_around names.old.around) returns)
-        names.old.block (numbering walk.old))) }
+        names.old.block (numbering state.old))) }
 {
     let env = Environment {
         text,
@@ -341,5 +356,5 @@ pub fn body<'t>(
         code: false,
         abnormal: false,
     };
-    statements(alloc, &env, names, walk, list)
+    statements(alloc, &env, names, state, list)
 }

@@ -6,6 +6,8 @@
 -- first := the level below it | it operator (the level below it) conditional := logical-or |
 -- logical-or '?' comma ':' conditional assignment := conditional | unary punctuator assignment
 -- comma := assignment | comma ',' assignment
+--
+-- The main definition: `SpellsExpression`.
 use Rattle.std.specs.Prelude.{◌≤◌, ◌<◌, ℕ, List, codes}
 use Rattle.c_lex.specs.declared.keyword.Keyword.TheVariants as keywords
 use Rattle.c_lex.specs.declared.punctuator.Punctuator.TheVariants as punctuators
@@ -137,6 +139,13 @@ pub record AreArguments (First Others : Phrase) (ts rest : List Token) : Type 0 
 -- The tokens before the rest spell the expression; each operand is of the level that the production
 -- asks.
 abbrev mutual
+  -- the tokens up to a rest are this expression, a case for each production (C11, annex A.2.1);
+  -- each operand's rank is at most what the production asks. The forms that productions share have
+  -- named parts: `IsContinued` is an operand and the step after it, and `IsApplied` an operator and
+  -- the operand after it. `IsEnclosed` is a phrase after what opens it, up to the punctuator that
+  -- closes it, as the operators of a cast and of `?:`. `rank` is the level of the production at the
+  -- top, from `primary` for a name to `comma` (`c_syntax::level`), and `Derives` at a level has a
+  -- rank of at most that.
   pub SpellsExpression : List ℕ → Expression → Phrase
   SpellsExpression text (Constant at literal) = IsKind (literal_kind literal) at
   SpellsExpression text (Variable name) = IsIdentifier name

@@ -1,4 +1,6 @@
 -- Where the reading of a phrase fails: the first token with which no phrase of the kind continues.
+--
+-- The main definition: `Failed`.
 use Rattle.std.specs.Prelude.{◌≡◌, ℕ, suc, List, [], ◌∷◌, ◌++◌, length, codes, slice_range}
 use Rattle.c_lex.specs.declared.token.Token.{Token}
 use Rattle.c_syntax.specs.declared.expression.Identifier.{Identifier}

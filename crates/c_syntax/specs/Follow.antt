@@ -1,4 +1,6 @@
 -- How an expression continues, and where it ends.
+--
+-- The main definition: `follows`.
 use Rattle.std.specs.Prelude.{◌≡◌, ◌<◌, ℕ, IsTrue, List, [], ◌∷◌}
 use Rattle.c_lex.specs.declared.punctuator.Punctuator.{Punctuator}
 use Rattle.c_lex.specs.declared.punctuator.Punctuator.TheVariants as punctuators
@@ -71,6 +73,10 @@ kind_follows (kinds.Integer value type) = never
 kind_follows (kinds.CharacterConstant value) = never
 kind_follows (kinds.Punctuator s) = punctuator_follows s
 
+-- the level of the production in which the first token comes after an operand, `never` where it
+-- comes after none; an expression `Stops` at a level where this is above it. Such an expression has
+-- one tree and one end (`OneExpression`), and so has a statement that no `else` continues
+-- (`OneStatement`).
 abbrev pub follows : List Token → ℕ
 follows [] = never
 follows (t ∷ ts) = kind_follows t.kind

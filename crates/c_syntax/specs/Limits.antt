@@ -1,4 +1,10 @@
 -- What is counted of a program, and the limits of the counts.
+--
+-- `Limit`, `order`, `IsInForce`: the limits, nesting and the numbers of what can be counted
+-- (`Count`), in the order nesting, locals of a function, parameters, functions, bytes of globals,
+-- numbered filters and `finally` blocks (own). The first n of them are in force.
+--
+-- The main definitions: `Within`, `WithinFirst`.
 use Rattle.std.specs.Prelude.{◌≤◌, ℕ, zero, suc, ◌+◌, ◌*◌, ◌/◌, max, Bool, false, cond, nat_eq}
 use Rattle.std.specs.Prelude.{List, [], ◌∷◌, ◌++◌, length, Option, Some, None, codes, slice_range}
 use Rattle.std.specs.Str.{bytes_eq}
@@ -53,8 +59,8 @@ abbrev mutual
   expressions_over (Leave at) = 0
   expressions_over (TryExcept body at f handler) =
       max (expressions_over_all body) (max (height f) (expressions_over_all handler))
-  expressions_over (TryFinally body at last) =
-      max (expressions_over_all body) (expressions_over_all last)
+  expressions_over (TryFinally body at finally_block) =
+      max (expressions_over_all body) (expressions_over_all finally_block)
 
   pub expressions_over_all : Statements → ℕ
   expressions_over_all Empty = 0
@@ -89,8 +95,8 @@ abbrev mutual
   statements_over (Leave at) = 0
   statements_over (TryExcept body at f handler) =
       max 1 (max (statements_over_all body) (statements_over_all handler))
-  statements_over (TryFinally body at last) =
-      max (statements_over_all body) (statements_over_all last)
+  statements_over (TryFinally body at finally_block) =
+      max (statements_over_all body) (statements_over_all finally_block)
 
   pub statements_over_all : Statements → ℕ
   statements_over_all Empty = 0
@@ -111,7 +117,7 @@ abbrev mutual
   over_block_item (Continue at) n = 1 + n
   over_block_item (Leave at) n = 1 + n
   over_block_item (TryExcept body at f handler) n = 1 + n
-  over_block_item (TryFinally body at last) n = 1 + n
+  over_block_item (TryFinally body at finally_block) n = 1 + n
 
 -- ---- locals of a function
 
@@ -134,7 +140,7 @@ abbrev mutual
   locals (Continue at) = 0
   locals (Leave at) = 0
   locals (TryExcept body at f handler) = locals_of_all body + locals_of_all handler
-  locals (TryFinally body at last) = locals_of_all body + locals_of_all last
+  locals (TryFinally body at finally_block) = locals_of_all body + locals_of_all finally_block
 
   pub locals_of_all : Statements → ℕ
   locals_of_all Empty = 0
@@ -181,8 +187,8 @@ abbrev mutual
   numbered text (TryExcept body at f handler) =
       funclets_of_all text body ++ cond (accepts text f) [] (at ∷ [])
       ++ funclets_of_all text handler
-  numbered text (TryFinally body at last) =
-      funclets_of_all text body ++ at ∷ [] ++ funclets_of_all text last
+  numbered text (TryFinally body at finally_block) =
+      funclets_of_all text body ++ at ∷ [] ++ funclets_of_all text finally_block
 
   pub funclets_of_all : List ℕ → Statements → List ℕ
   funclets_of_all text Empty = []
@@ -267,8 +273,8 @@ abbrev mutual
   end_of_arrays (Leave at) from = from
   end_of_arrays (TryExcept body at f handler) from =
       end_of_all_arrays handler (end_of_all_arrays body from)
-  end_of_arrays (TryFinally body at last) from =
-      end_of_all_arrays last (end_of_all_arrays body from)
+  end_of_arrays (TryFinally body at finally_block) from =
+      end_of_all_arrays finally_block (end_of_all_arrays body from)
 
   pub end_of_all_arrays : Statements → ℕ → ℕ
   end_of_all_arrays Empty from = from
@@ -325,7 +331,7 @@ EachWithinFirst n (Globals base gs ∷ xs) = EachWithinFirst n xs
 EachWithinFirst n (Function returns name ps body ∷ xs) =
     FunctionWithinFirst n ps body × EachWithinFirst n xs
 
--- A program is within the first n limits.
+-- the bounds of the limits in force alone; `Within` is this with all of them
 pub record WithinFirst (n : ℕ) (text : List ℕ) (program : List ExternalDeclaration) : Type 0 where
   pub each : EachWithinFirst n program
   pub functions : IsInForce (Number counts.Functions) n → functions program ≤ MOST_FUNCTIONS
@@ -333,6 +339,8 @@ pub record WithinFirst (n : ℕ) (text : List ℕ) (program : List ExternalDecla
   pub numbered : IsInForce (Number counts.Funclets) n
       → length (funclets_in text program) ≤ MOST_FUNCLETS
 
--- A program is within all limits.
+-- the limits of nesting, parameters, locals, functions, numbered handlers and bytes of globals
+-- (own). `parse` answers a program exactly where one within them derives the tokens, unless memory
+-- runs out
 abbrev pub Within : List ℕ → List ExternalDeclaration → Type 0
 Within text program = WithinFirst every_limit text program

@@ -1,5 +1,7 @@
 -- How many nodes a program has: each expression, statement, declarator, parameter, constant of an
 -- initialiser and function is one.
+--
+-- The main definition: `nodes_of`.
 use Rattle.std.specs.Prelude.{ℕ, ◌+◌, List, [], ◌∷◌, length, Option, Some, None}
 use Rattle.c_syntax.specs.Expression.{Expression, Constant, Variable, Information, Call}
 use Rattle.c_syntax.specs.Expression.{Parentheses, Index, Postfix, Prefix, Unary, Cast, Binary}
@@ -67,8 +69,8 @@ abbrev mutual
   nodes_of_statement (Leave at) = 1
   nodes_of_statement (TryExcept body at f handler) =
       1 + (nodes_of_statements body + (nodes f + nodes_of_statements handler))
-  nodes_of_statement (TryFinally body at last) =
-      1 + (nodes_of_statements body + nodes_of_statements last)
+  nodes_of_statement (TryFinally body at finally_block) =
+      1 + (nodes_of_statements body + nodes_of_statements finally_block)
 
   pub nodes_of_statements : Statements → ℕ
   nodes_of_statements Empty = 0
@@ -90,6 +92,8 @@ nodes_of_external_declaration (Globals base gs) = nodes_of_globals gs
 nodes_of_external_declaration (Function returns name ps body) =
     1 + (length ps + nodes_of_statements body)
 
+-- how many expressions, statements, declarators, parameters, constants and functions a program has;
+-- at most as many as its tokens
 abbrev pub nodes_of : List ExternalDeclaration → ℕ
 nodes_of [] = 0
 nodes_of (x ∷ xs) = nodes_of_external_declaration x + nodes_of xs

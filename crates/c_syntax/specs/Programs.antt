@@ -1,4 +1,6 @@
 -- The grammar of programs, one case for each production (C11, 6.9 and annex A.2.2 and A.2.4).
+--
+-- The main definition: `ParsesAs`.
 use Rattle.std.specs.Prelude.{◌≡◌, ◌⊎◌, ℕ, Bool, true, false, List, [], ◌∷◌, Option, Some, None}
 use Rattle.c_lex.specs.declared.keyword.Keyword.TheVariants as keywords
 use Rattle.c_lex.specs.declared.punctuator.Punctuator.TheVariants as punctuators
@@ -112,7 +114,8 @@ IsProgram text [] ts = ts ≡ []
 IsProgram text (x ∷ xs) ts =
     (mid : List Token) × IsExternalDeclaration text x ts mid × IsProgram text xs mid
 
--- the text's tokens are the program
+-- there are tokens which are those of the text, and all of them are the program; `OneProgram` says
+-- that there is one at most
 abbrev pub ParsesAs : List ℕ → List ExternalDeclaration → Type 0
 ParsesAs text xs = (ts : List Token) × IsTokens text ts × IsProgram text xs ts
 

@@ -1,5 +1,8 @@
 -- The grammar of statements, one case for each production (C11, 6.8 and annex A.2.3; Microsoft C
 -- reference, "try-except statement", "try-finally statement").
+--
+-- `IsBlockItem`, `IsExternalDeclaration`, `IsProgram`: a case for each production (C11, annexes
+-- A.2.2 to A.2.4; Microsoft C reference, "try-except statement", "try-finally statement").
 use Rattle.std.specs.Prelude.{◌≡◌, ℕ, Bool, true, false, List, Option, Some, None, IsFalse}
 use Rattle.c_lex.specs.declared.keyword.Keyword.{Keyword}
 use Rattle.c_lex.specs.declared.keyword.Keyword.TheVariants as keywords
@@ -224,8 +227,9 @@ abbrev mutual
   IsBlockItem text (TryExcept body at f handler) =
       IsTryExcept at (IsBlock (AreBlockItems text body)) (IsCondition text f)
       (IsBlock (AreBlockItems text handler))
-  IsBlockItem text (TryFinally body at last) =
-      IsTryFinally at (IsBlock (AreBlockItems text body)) (IsBlock (AreBlockItems text last))
+  IsBlockItem text (TryFinally body at finally_block) =
+      IsTryFinally at (IsBlock (AreBlockItems text body))
+      (IsBlock (AreBlockItems text finally_block))
 
   -- the items of a block, and the brace that ends it
   pub AreBlockItems : List ℕ → Statements → Phrase

@@ -1,4 +1,8 @@
 -- An expression from left to right: its first operand, and the steps after it.
+--
+-- `Step`, `Run`: an expression from left to right, its first operand and one step after the other
+-- (an index, `++`, an operator with its right operand, `?:`). Each left part that was read is one
+-- that every expression there goes through.
 use Rattle.std.specs.Prelude.{◌≡◌, ◌≤◌, ◌<◌, ◌-◌, ℕ, List, [], ◌∷◌, Option}
 use Rattle.c_lex.specs.declared.punctuator.Punctuator.TheVariants as punctuators
 use Rattle.c_lex.specs.declared.token.Token.{Token}

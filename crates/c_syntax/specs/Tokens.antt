@@ -1,4 +1,7 @@
 -- The tokens of a production: of each its kind, and where a fault can be reported there its place.
+--
+-- `The tokens of a production`: the first token is of a kind and has a place, and the others are
+-- the rest. Each relation below holds of a tree, of tokens and of the tokens after it.
 use Rattle.std.specs.Prelude.{◌≡◌, ℕ, List, ◌∷◌, slice_range}
 use Rattle.c_lex.specs.declared.keyword.Keyword.{Keyword}
 use Rattle.c_lex.specs.declared.punctuator.Punctuator.{Punctuator}

@@ -1,4 +1,8 @@
 -- Specifiers of types (C11, 6.7.2), and types after stars.
+--
+-- `spellings`, `IsBase`, `IsType`: the ways to write a base type, `signed` or `unsigned` first
+-- (C11, 6.7.2), one of these, and one of these with stars. `char` is signed and `long` is `int`
+-- (Microsoft C reference, "Storage of basic types").
 use Rattle.std.specs.Prelude.{◌≡◌, ℕ, zero, suc, List, [], ◌∷◌, ◌⊎◌}
 use Rattle.c_lex.specs.declared.keyword.Keyword.{Keyword}
 use Rattle.c_lex.specs.declared.keyword.Keyword.TheVariants as keywords

@@ -72,9 +72,13 @@ pub fn except_of(body: Vec<Stmt>, at: u64, filter: Expr, handler: Vec<Stmt>) -> 
 }
 
 /// A `__try` with a `__finally` block; `at` is the place of `__finally`.
-pub fn finally_of(body: Vec<Stmt>, at: u64, last: Vec<Stmt>) -> Stmt
+pub fn finally_of(body: Vec<Stmt>, at: u64, finally_block: Vec<Stmt>) -> Stmt
     ensures { statement result ≡ trees.TryFinally (statements (map statement body.items)) at
-        (statements (map statement last.items)) }
+        (statements (map statement finally_block.items)) }
 {
-    Stmt::TryFinally { body, at, last }
+    Stmt::TryFinally {
+        body,
+        at,
+        finally_block,
+    }
 }

@@ -86,11 +86,11 @@ pub enum Stmt {
         filter: Expr,
         handler: Vec<Stmt>,
     },
-    /// `__try { body } __finally { last }`; `at` is the place of `__finally`, by which these blocks
-    /// are numbered.
+    /// `__try { body } __finally { finally_block }`; `at` is the place of `__finally`, by which
+    /// these blocks are numbered.
     TryFinally {
         body: Vec<Stmt>,
         at: u64,
-        last: Vec<Stmt>,
+        finally_block: Vec<Stmt>,
     },
 }

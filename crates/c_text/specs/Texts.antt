@@ -1,4 +1,7 @@
 -- Which texts are accepted, and what each refusal of a text says.
+--
+-- The main definitions: `IsProgramText`, `IsAccepted`, `IsCheckedAs`, `IsNoText`,
+-- `IsRefusedByGrammar`, `IsBroken`, `TextIsRefused`.
 use Rattle.std.specs.Prelude.{◌≡◌, ℕ, List, Some}
 use Rattle.c_checked.specs.Program.{Program}
 use Rattle.c_check.specs.declared.check.CheckErr.{CheckErr}
@@ -33,7 +36,7 @@ pub record IsAccepted (text : List ℕ) (xs : List ExternalDeclaration) : Type 0
   pub read : IsProgramText text xs
   pub rules : Accepted text xs
 
--- it is resolved to this checked program
+-- and `p` is what it is resolved to
 pub record IsCheckedAs (text : List ℕ) (xs : List ExternalDeclaration) (p : Program) : Type 0 where
   pub accepted : IsAccepted text xs
   pub resolved : p ≡ (resolve text xs).program
@@ -63,7 +66,7 @@ pub record IsBroken (text : List ℕ) (at : ℕ) (fault : Fault) : Type 0 where
   pub read : IsProgramText text whole
   pub least : reported text whole ≡ Some (record { at = at; fault = fault })
 
--- why a text isn't accepted; want of memory says nothing
+-- the refusal `e` says one of these; of one for memory it says nothing
 abbrev pub TextIsRefused : List ℕ → TextErr → Type 0
 TextIsRefused text (texts.Lex e) = IsNoText text e
 TextIsRefused text (texts.Parse e) = IsRefusedByGrammar text e

@@ -1,4 +1,6 @@
 -- The lines of the command set, and what each means.
+--
+-- The main definitions: `seh_app`, `IsLine`, `IsNoLine`.
 use Rattle.std.specs.Prelude.{◌≡◌, ℕ, ◌^◌, ◌<◌, Bool, true, false, List, [], pos, Option, Some, None, codes}
 use Rattle.std.specs.Fmt.{decimal}
 use Rattle.std.specs.Option.{option_map_or}
@@ -67,6 +69,7 @@ bare_app =
     })
     (new_app (codes "seh"))
 
+-- the commands and options as `clap` is given them
 abbrev pub seh_app : App
 seh_app =
     with_subcommand (with_subcommand (with_subcommand (with_subcommand (with_subcommand
@@ -108,11 +111,13 @@ IsNamedBy (Run options) x = (x.0 ≡ codes "run") × HasOptions options x.1
 IsNamedBy (Meaning options) x = (x.0 ≡ codes "meaning") × HasOptions options x.1
 IsNamedBy (Selftest n) x = (x.0 ≡ codes "selftest") × HasNumber n x.1
 
--- the words are a line of the command set, which means the command
+-- `clap` finds no fault in the words, and the subcommand that it finds names the command with its
+-- options. A number is the text that is written of it in decimal, below 2^63.
 abbrev pub IsLine : List Text → Command → Type 0
 IsLine words command =
     (fault_of seh_app words ≡ []) × ((x : Text × List Row) × (subcommand_of seh_app words ≡ Some x)
     × IsNamedBy command x)
 
+-- they mean no command
 abbrev pub IsNoLine : List Text → Type 0
 IsNoLine words = (command : Command) → IsLine words command → ⊥

@@ -1,4 +1,6 @@
 -- An index of a function table, and what a look-up finds by any index.
+--
+-- The main definitions: `IsIndexOf`, `IsRowFor`.
 use Rattle.std.specs.Prelude.{◌≤◌, ◌<◌, ℕ, ◌+◌, ◌/◌, ◌^◌, List, length, slice_index, slice_index_or}
 use Rattle.eh_tables.specs.declared.range.RuntimeFunction.{RuntimeFunction}
 use Rattle.eh_tables.specs.Tables.{no_range}

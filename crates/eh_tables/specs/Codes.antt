@@ -1,4 +1,6 @@
 -- Unwind codes, as cases on a list of slots. A slot has two bytes.
+--
+-- The main definition: `checked`.
 use Rattle.std.specs.Prelude.{ℕ, zero, suc, ◌+◌, ◌*◌, ◌/◌, ◌%◌, Bool, true, false, ◌==◌, nat_lt, if◌then◌else◌, List, [], ◌∷◌, Option, Some, None, Ok, Err}
 use Rattle.pe_image.specs.Field.{field}
 use Rattle.eh_tables.specs.declared.layout.TheConstants.{UWOP_PUSH_NONVOL, UWOP_ALLOC_LARGE, UWOP_ALLOC_SMALL, UWOP_SET_FPREG, UWOP_SAVE_NONVOL, UWOP_SAVE_NONVOL_FAR, UWOP_SAVE_XMM128, UWOP_SAVE_XMM128_FAR, UWOP_PUSH_MACHFRAME}
@@ -66,6 +68,8 @@ code_checked index slot last offset others None = Err (refusals.Op index slot)
 code_checked index slot last offset others (Some x) =
     in_order index slot (others x.1) (nat_lt last offset)
 
+-- a list of slots, case by case. Each code's offset is no greater than the one before, its
+-- operation is known, its info is one that it may have, and its operands are there.
 abbrev pub checked : ℕ → Bool → ℕ → ℕ → ℕ → List ℕ → Table Unit
 checked index framed slot last skip [] = Ok tt
 checked index framed slot last skip (a ∷ []) = Ok tt

@@ -1,4 +1,6 @@
 -- The entry whose range covers an address, by the ranges alone: no other entry is read.
+--
+-- The main definitions: `ranges_checked`, `RangesAscend`, `entry_covering`.
 use Rattle.std.specs.Prelude.{◌≡◌, ℕ, ◌+◌, Bool, true, false, List, [], ◌∷◌, slice_index_or, Option, Some, None, Ok}
 use Rattle.seh_num.specs.Answers.{◌>>=◌}
 use Rattle.eh_tables.specs.declared.range.RuntimeFunction.{RuntimeFunction}
@@ -34,6 +36,8 @@ abbrev pub entry_asked : Tables → Option ℕ → Table (Option Entry)
 entry_asked t None = Ok None
 entry_asked t (Some index) = entry_at t index >>= λ e. Ok (Some e)
 
+-- the entry whose range covers an address in such a table, or its first refusal: no other entry is
+-- read
 abbrev pub entry_covering : Tables → ℕ → Table (Option Entry)
 entry_covering t rva = entry_asked t (index_from 0 rva t.ranges)
 

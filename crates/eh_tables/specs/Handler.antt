@@ -1,5 +1,7 @@
 -- Which handler is the C handler: one whose code is a jump through the slot of
 -- `__C_specific_handler`.
+--
+-- The main definition: `is_c_handler`.
 use Rattle.std.specs.Prelude.{ℕ, ◌+◌, ◌/◌, ◌%◌, ◌^◌, ◌-◌, Bool, true, false, ◌&&◌, ◌==◌, nat_lt, if◌then◌else◌, List, drop, slice_index, option_and_then, Option, Some, None}
 use Rattle.std.specs.Option.{option_map_or}
 use Rattle.std.specs.Str.{bytes_eq}
@@ -50,6 +52,7 @@ jump_slot image rva =
 abbrev pub is_c_name : List ℕ → Bool
 is_c_name name = bytes_eq name C_SPECIFIC_HANDLER.now
 
+-- at the address is a jump through a slot that is bound (`bound_name`) to `__C_specific_handler`
 unfoldable pub is_c_handler : Image → ℕ → Bool
 is_c_handler image rva =
     option_map_or is_c_name (option_and_then (λ slot. bound_name slot (imports_of image))

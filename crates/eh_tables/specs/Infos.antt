@@ -1,5 +1,7 @@
 -- Unwind infos: what one says, and what it must be. Each definition answers what it reads, or the
 -- first refusal.
+--
+-- The main definition: `info`.
 use Rattle.std.specs.Prelude.{◌≡◌, ◌≤◌, ℕ, ◌+◌, ◌*◌, ◌/◌, ◌%◌, Bool, true, false, not, ◌&&◌, ◌==◌, nat_le, nat_lt, if◌then◌else◌, List, [], length, take, drop, Option, Some, None, Result, Ok, Err, slice_index}
 use denote.Ref.{Bor}
 use Rattle.pe_image.specs.Field.{field}

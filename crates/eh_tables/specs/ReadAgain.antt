@@ -1,4 +1,6 @@
 -- What is written is read again as the same values, wherever it is in an image.
+--
+-- The main definition: `IsStoredAt`.
 use Rattle.std.specs.Prelude.{◌≡◌, ℕ, ◌%◌, ◌^◌, ◌<◌, ◌≤◌, Bool, true, false, List, [], ◌∷◌, ◌++◌, length, map, Option, Some, None, Ok}
 use Rattle.std.specs.List.{AllByRecursion}
 use Rattle.pe_image.specs.Image.{Image, stored}

@@ -1,4 +1,6 @@
 -- Scope records by their addresses.
+--
+-- The main definitions: `record_at`, `AreAt`.
 use Rattle.std.specs.Prelude.{◌≡◌, ℕ, ◌+◌, ◌*◌, ◌<◌, true, List, length, slice_index_or}
 use Rattle.pe_image.specs.Image.{Image, section_at, stored_in}
 use Rattle.eh_tables.specs.declared.layout.TheConstants.{HANDLER_SIZE, SCOPE_COUNT_SIZE, SCOPE_RECORD_SIZE}

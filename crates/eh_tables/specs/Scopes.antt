@@ -1,4 +1,6 @@
 -- The records of the C handler's scope tables.
+--
+-- The main definition: `checked`.
 use Rattle.std.specs.Prelude.{ℕ, zero, suc, ◌+◌, ◌/◌, Bool, ◌&&◌, nat_lt, List, [], ◌∷◌, length, drop, Ok}
 use Rattle.pe_image.specs.Field.{field}
 use Rattle.eh_tables.specs.declared.layout.TheConstants.{SCOPE_RECORD_SIZE}
@@ -30,7 +32,8 @@ is_within size r =
     nat_lt r.begin r.end && nat_lt r.begin size && nat_lt r.end size && nat_lt r.handler_address
     size && nat_lt r.jump_target size
 
--- rows from a number on
+-- each record of a scope table has a range that isn't empty, and no address at or above the image's
+-- size
 abbrev pub checked : ℕ → ℕ → ℕ → List ScopeRecord → Table Unit
 checked index size n [] = Ok tt
 checked index size n (r ∷ rs) = do

@@ -1,4 +1,6 @@
 -- Scope records that were gone over.
+--
+-- The main definition: `WasSeen`.
 use Rattle.std.specs.Prelude.{◌≡◌, ℕ, ◌+◌, ◌*◌, ◌/◌, ◌%◌, ◌^◌, ◌≤◌, ◌<◌, Some}
 use Rattle.std.specs.Ordering.{nat_cmp}
 use Rattle.std.specs.BTreeMap.{BTreeMap, get}
@@ -17,7 +19,8 @@ pub record InRun (runs : BTreeMap ℕ ℕ) (place : ℕ) : Type 0 where
   pub begun : from ≤ place
   pub goes_on : place < to
 
--- the record at an address was gone over
+-- the record at an address was gone over (`SeenRecords`): its place, which for records one after
+-- another is one number after another, lies in a run
 pub record WasSeen (seen : SeenRecords) (rva : ℕ) : Type 0 where
   pub fits : rva < 2 ^ 64
   pub in_run : InRun seen.runs (place rva)

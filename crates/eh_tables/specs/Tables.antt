@@ -1,4 +1,12 @@
 -- Function tables, entry by entry. Each definition answers what it reads, or the first refusal.
+--
+-- The forms are those of the Microsoft x64 ABI, "Exception handling": `RUNTIME_FUNCTION`,
+-- `UNWIND_INFO`, `UNWIND_CODE`.
+--
+-- `entry`, `entry_at`: an entry with its info and its parents, or its first refusal, in the order
+-- of the checks.
+--
+-- The main definitions: `directory`, `parents`, `TablesAreWhole`, `holding`.
 use Rattle.std.specs.Prelude.{◌≡◌, ℕ, zero, suc, ◌+◌, ◌/◌, ◌%◌, Bool, true, false, ◌&&◌, ◌==◌, nat_le, nat_lt, List, [], ◌∷◌, length, drop, slice_index_or, Option, Some, None, Result, Ok, Err}
 use Rattle.std.specs.Result.{result_ok}
 use Rattle.arrayvec.specs.ArrayVec.{ArrayVec}
@@ -20,7 +28,7 @@ pub record Entry : Type 0 where
   pub info : Info
   pub parents : List Info
 
--- at most so many parents
+-- those that it is chained to, at most 31
 abbrev pub parents : ℕ → Image → ℕ → Option RuntimeFunction → Table (List Info)
 parents zero image index None = Ok []
 parents zero image index (Some r) = Err (refusals.ChainLong index)
@@ -65,6 +73,8 @@ stored_ranges image d = do
   _ ← unless (d.size % RUNTIME_FUNCTION_SIZE == 0) (refusals.Truncated d.rva)
   Ok (ranges_in bytes)
 
+-- the ranges of the function table: none where its size is 0; else it is 4-aligned, stored whole,
+-- and its size is a multiple of 12
 unfoldable pub directory : Image → Table (List RuntimeFunction)
 directory image = unless_none (stored_ranges image image.exceptions) (image.exceptions.size == 0)
 
@@ -111,7 +121,7 @@ or_none (Err e) = []
 abbrev pub entries_of : Tables → List Entry
 entries_of t = or_none (all_entries t)
 
--- no entry is refused
+-- no entry of a table is refused
 pub record TablesAreWhole (t : Tables) : Type 0 where
   pub whole : all_entries t ≡ Ok (entries_of t)
 
@@ -123,6 +133,7 @@ abbrev pub entry_or : Option Entry → Entry → Bool → Option Entry
 entry_or others e true = Some e
 entry_or others e false = others
 
+-- the entry whose range holds the address
 abbrev pub holding : ℕ → List Entry → Option Entry
 holding rva [] = None
 holding rva (e ∷ es) = entry_or (holding rva es) e (covers_address rva e.range)

@@ -1,4 +1,7 @@
 -- The one form in which unwind infos, scope tables and function tables are written.
+--
+-- `unwind_bytes`, `scope_bytes`, `table_bytes`: the bytes that are written of infos, scope tables
+-- and entries.
 use Rattle.std.specs.Prelude.{◌≡◌, ℕ, ◌+◌, ◌-◌, ◌*◌, ◌/◌, ◌%◌, ◌<◌, ◌≤◌, Bool, true, ◌&&◌, ◌==◌, nat_lt, nat_le, if◌then◌else◌, List, [], ◌∷◌, ◌++◌, length, replicate}
 use Rattle.std.specs.List.{flat_map, AllByRecursion}
 use Rattle.seh_num.specs.Widths.{if_set}

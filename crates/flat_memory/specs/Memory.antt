@@ -1,4 +1,11 @@
 -- Memory as a map from each address to what may be done there and to a byte.
+--
+-- `loaded`, `stored`, `after_store`: an access of 1, 2, 4 or 8 bytes, the lowest first (Intel
+-- manual, volume 1, "Bit and Byte Order"). It is refused by its first byte that may not be
+-- accessed: as the guard where that byte is in the stack's guard (own), else as a fault. A store
+-- changes the bytes of its range and no protection; a refused one changes nothing.
+--
+-- The main definitions: `Memory`, `executable`, `protected`.
 use Rattle.std.specs.Prelude.{ℕ, zero, suc, ◌+◌, ◌-◌, ◌*◌, ◌/◌, ◌%◌, ◌^◌, Bool, true, false, ◌&&◌, ◌==◌, nat_lt, nat_eq, if◌then◌else◌, List, [], ◌∷◌, ℤ, Option, Some, None, Result, Ok, Err}
 use Rattle.seh_num.specs.declared.width.Width.{Width}
 use Rattle.seh_num.specs.declared.width.Width.TheVariants.{W64}
@@ -11,6 +18,9 @@ use Rattle.flat_memory.specs.declared.access.RefusedAccess.{RefusedAccess}
 use Rattle.flat_memory.specs.declared.access.RefusedAccess.TheVariants.{Fault, Guard}
 use Rattle.flat_memory.specs.Protections.{is_readable, is_writable, rights_numbered}
 
+-- two functions on addresses, one to a protection and one to a byte. A protection says whether the
+-- byte may be read, read and written, or neither, and whether it may be executed; what may be
+-- written may be read. Sums of addresses go round at 2^64.
 pub record Memory : Type 0 where
   pub protection : ℕ → Protection
   pub byte : ℕ → ℕ
@@ -92,7 +102,7 @@ pointer_of m = number_at m.byte 8 DATA_STACK_START
 abbrev pub with_pointer : Memory → ℕ → Memory
 with_pointer m v = after_store m DATA_STACK_START W64 v
 
--- the executable bytes at an address, at most n
+-- the bytes from an address on that may be executed, as many as there are of a number
 unfoldable pub executable : Memory → ℕ → ℕ → List ℕ
 executable m zero at = []
 executable m (suc n) at =
@@ -113,5 +123,7 @@ with_rights m at (Some r) =
       byte = m.byte;
     }
 
+-- the rights of one page of the arena, set by a number: none (0), reading (1), reading and writing
+-- (2) (own)
 abbrev pub protected : Memory → ℕ → ℤ → Memory
 protected m at number = with_rights m at (rights_asked at number)

@@ -38,8 +38,8 @@ info_of f trailer = record {
   trailer = trailer;
 }
 
--- the info of code that is apart from the function of a frame, with that function's entry (Microsoft
--- x64 ABI, "Chained unwind info structures")
+-- the info of code that is apart from the function of a frame, with that function's entry
+-- (Microsoft x64 ABI, "Chained unwind info structures")
 abbrev pub chained_info : Bool → RuntimeFunction → UnwindInfo
 chained_info framed parent = record {
   prologue_size = 0;

@@ -1,4 +1,14 @@
 -- The layout of a frame.
+--
+-- `Facts`, `frame_of`: how many words a body passes, keeps, and has as temporaries and as locals,
+-- how many nonvolatile registers it writes, whether it may have a frame register, and what it
+-- weighs. Its frame has, from RSP up, the home space and the further arguments of its calls, these
+-- words in this order, and what is saved by `mov`. A word of padding comes next where its depth
+-- would not be, with the return address, a multiple of 16 bytes (Microsoft x64 ABI, "x64 stack
+-- usage"). What is pushed stands above, below the return address. `IsLaidOut`, `IsFrame` say what a
+-- frame is to be.
+--
+-- The main definitions: `IsFramedBySize`, `FitsFrame`.
 use Rattle.std.specs.Prelude.{◌≡◌, ℕ, ◌+◌, ◌-◌, ◌*◌, ◌%◌, ◌^◌, ◌<◌, ◌≤◌, min, max, Bool, true, false, ◌&&◌, nat_le}
 use Rattle.frame_layout.specs.declared.frame.Facts.{Facts}
 use Rattle.frame_layout.specs.declared.frame.FrameLayout.{FrameLayout}

@@ -1,4 +1,8 @@
 -- A frame as a plan of the rules for frames (Microsoft x64 ABI, "Prolog and epilog").
+--
+-- `plan_of`, `info_of`: the frame as a plan of frame_rules, and its unwind info: the codes of its
+-- pushes, its allocation, its frame register and its saves, by the offsets at which its prologue's
+-- instructions end.
 use Rattle.std.specs.Prelude.{◌≡◌, ◌^◌, ◌<◌, Bool, true, ℕ}
 use Rattle.eh_tables.specs.declared.code.UnwindOperation.{UnwindOperation}
 use Rattle.eh_tables.specs.declared.code.UnwindOperation.TheVariants.{Push, Allocate, SetFrame, Save}

@@ -1,14 +1,13 @@
 -- What the instructions past the prologue are to be: one after another they lead from mode to mode.
 use Rattle.std.specs.Prelude.{ℕ, ◌+◌, ◌%◌, ◌^◌, Bool, true, false, not, ◌==◌, ◌&&◌, ◌||◌, if◌then◌else◌, List, [], ◌∷◌, Option, Some, None}
 use Rattle.seh_num.specs.declared.width.Width.TheVariants.{W64}
-use Rattle.x64_instr.specs.declared.operand.RegisterOrMemory.{RegisterOrMemory}
 use Rattle.x64_instr.specs.declared.operand.RegisterOrMemory.TheVariants as places
 use Rattle.x64_instr.specs.declared.operand.MemRef.{MemRef}
 use Rattle.x64_instr.specs.declared.operand.Operand.TheVariants as operands
-use Rattle.x64_instr.specs.declared.instruction.Operation.TheVariants.{Compare}
 use Rattle.x64_instr.specs.declared.instruction.Instr.{Instr}
 use Rattle.x64_instr.specs.declared.instruction.Instr.TheVariants as instrs
 use Rattle.x64_instr.specs.Registers.{number}
+pub use Rattle.x64_instr.specs.Written.{written_place, written}
 use Rattle.eh_tables.specs.declared.code.UnwindOperation.{UnwindOperation}
 use Rattle.eh_tables.specs.declared.code.UnwindOperation.TheVariants.{Save}
 use Rattle.virtual_unwind.specs.Contexts.{is_nonvolatile}
@@ -19,36 +18,7 @@ use Rattle.frame_rules.specs.Codes.{allocation, pushes, is_saved}
 use Rattle.frame_rules.specs.Epilogue.{is_pop, gives_back}
 use Rattle.frame_rules.specs.Prologue.{is_stack}
 
--- ---- what an instruction writes
-
-abbrev pub written_place : RegisterOrMemory → List ℕ
-written_place (places.Register r) = number r ∷ []
-written_place (places.Memory a) = []
-
--- the registers that an instruction writes; what a call runs isn't counted, nor its return address
-abbrev pub written : Instr → List ℕ
-written (instrs.Move w to from) = written_place to
-written (instrs.Extend e w to n from) = number to ∷ []
-written (instrs.LoadAddress w to a) = number to ∷ []
-written (instrs.Arithmetic Compare w to from) = []
-written (instrs.Arithmetic o w to from) = written_place to
-written (instrs.Test w a b) = []
-written (instrs.Multiply w to from) = number to ∷ []
-written (instrs.MultiplyBy w to from n) = number to ∷ []
-written (instrs.Unary o w to) = written_place to
-written (instrs.Divide d w by) = 0 ∷ 2 ∷ []
-written (instrs.ExtendRax w) = 2 ∷ []
-written (instrs.Shift d w to by) = written_place to
-written (instrs.Set c to) = written_place to
-written (instrs.JumpIf c d) = []
-written (instrs.Jump to) = []
-written (instrs.Call to) = []
-written (instrs.Push r) = 4 ∷ []
-written (instrs.Pop r) = 4 ∷ number r ∷ []
-written instrs.Return = 4 ∷ []
-written instrs.NoOperation = []
-written instrs.Breakpoint = []
-written instrs.Undefined = []
+-- ---- calls, and what may be written
 
 abbrev pub is_a_call : Instr → Bool
 is_a_call (instrs.Call to) = true

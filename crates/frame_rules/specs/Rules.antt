@@ -1,4 +1,6 @@
 -- The rules for a function with an entry, and the states in which they promise its caller.
+--
+-- The main definitions: `IsRight`, `IsInFunction`.
 use Rattle.std.specs.Prelude.{◌≡◌, ◌≢◌, ◌⊎◌, ℕ, ◌+◌, ◌^◌, ◌<◌, true, List, [], ◌∷◌, ◌++◌, Some, Ok}
 use Rattle.x64_machine.specs.Effect.{State}
 use Rattle.x64_machine.specs.declared.context.Context.{Context}
@@ -23,6 +25,10 @@ pub record FramedFunction : Type 0 where
 abbrev pub ops : FramedFunction → List UnwindOperation
 ops f = operations f.info.codes
 
+-- the rules for a function with an entry. Its unwind codes are in their order and describe its
+-- prologue instruction by instruction. Its body writes neither RSP nor a nonvolatile register that
+-- isn't saved, and each epilogue gives back what was taken. `keeps_rules` is the same as a test on
+-- decoded instructions.
 pub record IsRight (f : FramedFunction) : Type 0 where
   pub offset : f.info.frame_offset < 2 ^ 16
   pub codes : f.info.codes ≡ codes_onto [] f.steps
@@ -83,6 +89,7 @@ pub record IsLeaving (f : FramedFunction) (e s : State) (distance : ℕ) : Type 
   pub runs_on : RunsThrough from run s
   pub continues : left ≢ []
 
+-- the states of such a function, in its prologue, its body or an epilogue
 abbrev pub IsInFunction : FramedFunction → State → State → ℕ → Type 0
 IsInFunction f e s distance =
     InPrologue f e s distance ⊎ (IsBody f e s distance ⊎ IsLeaving f e s distance)

@@ -1,4 +1,6 @@
 -- The text of the generated program of a number.
+--
+-- The main definition: `generated`.
 use Rattle.std.specs.Prelude.{ℕ, zero, suc, ◌+◌, ◌%◌, List, [], ◌++◌, codes}
 use Rattle.std.specs.Fmt.{decimal}
 use Rattle.generated_program.specs.declared.generating.TheConstants.{FUNCTIONS}
@@ -49,7 +51,9 @@ unfoldable pub for_each : (ℕ → List ℕ) → ℕ → List ℕ
 for_each text zero = []
 for_each text (suc k) = for_each text k ++ text k
 
--- a global, the functions, and `main`, which calls one after another
+-- the text of the program of a number, in one line: a global, 256 functions, and `main`, which
+-- calls one after another. Function k has the body of (n + k) modulo 4 (`body_numbered`) with the
+-- constant (n + k) modulo 97.
 abbrev pub generated : ℕ → List ℕ
 generated n =
     codes "int g; " ++ for_each (function n) FUNCTIONS

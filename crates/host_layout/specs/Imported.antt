@@ -1,4 +1,9 @@
 -- The services that images import: their names, and the order of their slots (own).
+--
+-- `name_of`, `number_of`: the name of such a service and its place among all of them, by the bytes
+-- of their names;
+--
+-- The main definition: `services`.
 use Rattle.std.specs.Prelude.{ℕ, List, [], ◌∷◌, slice_get, Option}
 use Rattle.host_layout.specs.declared.name.TheConstants as names
 use Rattle.host_layout.specs.declared.imported.ImportedService.{ImportedService}

@@ -1,4 +1,12 @@
 -- The host's services: their addresses, and the names by which images import them (own).
+--
+-- `address_of`, `service_at`: the address of each service in the host's page, and the service at an
+-- address. In their order they are `put`, `protect`, `RaiseException`, `__C_specific_handler`,
+-- `_local_unwind`, where filters return, where `__finally` blocks return,
+-- `AddVectoredExceptionHandler`, `RemoveVectoredExceptionHandler`, where vectored handlers return,
+-- and `walk`. Each is 16 bytes after the one before, from 0x7FF00010 on (own).
+--
+-- The main definition: `service_named`.
 use Rattle.std.specs.Prelude.{ℕ, Bool, ◌&&◌, ◌==◌, nat_le, nat_lt, if◌then◌else◌, List, Option, Some, None}
 use Rattle.std.specs.Str.{bytes_eq}
 use Rattle.host_layout.specs.declared.range.TheConstants.{HOST_PAGE_START, HOST_PAGE_END}
@@ -40,7 +48,7 @@ service_at a =
     else (if a == WALK_AT then Some Walk
     else None))))))))))
 
--- what an image can import, by its name
+-- the service that an image imports by a name: any but the three returns (own)
 abbrev pub service_named : List ℕ → Option Service
 service_named name =
     if bytes_eq name names.ADD_VECTORED_EXCEPTION_HANDLER.now then Some AddVectored

@@ -1,5 +1,16 @@
 -- The dispatcher: what is done between funclets and vectored handlers. All suspended work is in
 -- records in the machine's stack.
+--
+-- `raised`, `asks_on`, `searches_from`, `searches_on`, `accepted`, `unwinds_on`, `land`,
+-- `unwound_locally`: a record is placed below the saved stack pointer, and the vectored handlers
+-- are asked one after another. Each is called below the record as a filter is, with no frame. Past
+-- the last of them the record is for a search, and the search for a handler begins. A filter is
+-- called below the record, an acceptance rewrites it and begins the unwinding, and a `__finally`
+-- block is called in the same way. The landing gives the target's frame its stack pointer and
+-- nonvolatile registers, with the exception's code in RAX (Microsoft x64 ABI, "Language-specific
+-- handler", "Unwind procedure"; the values of the other registers are our own).
+--
+-- The main definitions: `filter_returned`, `finally_returned`, `vectored_returned`.
 use Rattle.std.specs.Prelude.{ℕ, zero, suc, ◌+◌, ◌%◌, ◌^◌, Bool, true, false, ◌==◌, nat_le, List, [], ◌∷◌, replicate, Option, Some, None, slice_get, slice_index, slice_set, ◌-◌}
 use Rattle.seh_num.specs.declared.width.Width.TheVariants.{W32, W64}
 use Rattle.seh_num.specs.declared.event.Code.{Code}

@@ -1,4 +1,8 @@
 -- The funclets of an image, and the events where RIP arrives at one.
+--
+-- `funclets`, `arrived`: the different handler addresses of the scope tables other than 1, in the
+-- order of their addresses; the event of the one at whose first byte RIP arrives. Its number is its
+-- rank from 1.
 use Rattle.std.specs.Prelude.{ℕ, ◌+◌, Bool, true, false, not, ◌==◌, nat_lt, List, [], ◌∷◌, ◌++◌}
 use Rattle.seh_num.specs.declared.event.Event.{Event}
 use Rattle.seh_num.specs.declared.event.Event.TheVariants as events

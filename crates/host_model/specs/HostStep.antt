@@ -1,5 +1,11 @@
 -- One turn of the host: an instruction, a service, or the dispatch between funclets and vectored
 -- handlers.
+--
+-- `printed`, `walking`: a printed walk from the caller of `walk`: an event for each control address
+-- that is in a row of the image's names, with the row's number, and what stops the walk.
+-- `functions_in` has the image's function table and these rows.
+--
+-- The main definitions: `turned`, `adding`, `removing`, `turn`.
 use Rattle.std.specs.Prelude.{ℕ, ◌+◌, ◌%◌, ◌^◌, Bool, true, false, not, ◌==◌, List, [], ◌∷◌, map, is_some, Option, Some, None, Result, Ok, Err}
 use Rattle.std.specs.List.{filter_map}
 use Rattle.seh_num.specs.declared.width.Width.TheVariants.{W32, W64}
@@ -144,7 +150,10 @@ served t s None = illegal s
 
 -- ---- a turn
 
--- a fault saves the state before the instruction, and can be continued
+-- what a turn does: an instruction; a service, which reads its return address first; or all the
+-- dispatch work between two funclets or vectored handlers. A fault saves the state before the
+-- instruction and is raised; an access of the guard ends the run at the stack limit; where no
+-- instruction can be run it is stopped as Illegal.
 abbrev pub turned : Functions → State → Answer State → Turn
 turned t s (Ok u) = Continues u []
 turned t s (Err (stops.Fault code access)) = raised t s code 0 access s.cpu

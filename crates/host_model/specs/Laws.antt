@@ -1,4 +1,6 @@
 -- What holds of every run.
+--
+-- The main definitions: `after_turns`, `shown_in_turns`.
 use Rattle.std.specs.Prelude.{◌≡◌, ℕ, zero, suc, ◌+◌, List, [], ◌++◌, ℤ, Option, Some}
 use Rattle.seh_num.specs.declared.event.Event.{Event}
 use Rattle.seh_num.specs.declared.end.RunEnd.{RunEnd}

@@ -1,6 +1,8 @@
 -- How an image is placed in memory, and the state that a run starts from (PE format, "Section
 -- Table", "Import Address Table"; the stack, the arena, the services and their places are the
 -- host's own).
+--
+-- The main definitions: `mapped`, `with_slots`, `start`, `load_refusal`.
 use Rattle.std.specs.Prelude.{ℕ, ◌+◌, ◌-◌, ◌%◌, Bool, true, false, ◌&&◌, ◌||◌, ◌==◌, nat_lt, nat_le, List, [], ◌∷◌, replicate, position, ℤ, Option, Some, None, option_map, Result, Ok, Err, slice_index}
 use Rattle.seh_num.specs.declared.width.Width.TheVariants.{W64}
 use Rattle.seh_num.specs.Widths.{wrapped}
@@ -77,7 +79,10 @@ abbrev pub with_address : (ℕ → ℕ) → ℕ → Option Service → ℕ → �
 with_address byte at None = byte
 with_address byte at (Some s) = with_number byte 8 at (address_of s)
 
--- each slot holds the address of what it imports; a later one lies over those before it
+-- bytes with the address of what is imported in each slot, eight bytes from the lowest on, a later
+-- slot over those before it (PE format, "Import Address Table"). `mapped` has them over the file's
+-- bytes. A slot that no later one overlaps reads as the address of its service; without imports the
+-- bytes are the file's.
 abbrev pub with_slots : ℕ → (ℕ → ℕ) → List Import → ℕ → ℕ
 with_slots base byte [] = byte
 with_slots base byte (i ∷ is) =
@@ -93,7 +98,11 @@ mode_at image a = mode_in (section_of image.base a image.sections) a
 abbrev pub stored_byte : Image → ℕ → ℕ
 stored_byte image a = byte_in image.base (section_of image.base a image.sections) a
 
--- the memory of a loaded image, its imports bound
+-- how an image is placed in memory. Each section is mapped from its address to the end of its last
+-- page, with the file's bytes and zeros after them. It is readable where it may be read, written or
+-- executed, and writable and executable by its own flags (PE format, "Section Flags"). The image's
+-- imports are bound, and the headers aren't mapped (own). The stack is there too, and all its bytes
+-- are 0 (own).
 unfoldable pub mapped : Image → Memory
 mapped image =
     record {
@@ -110,7 +119,8 @@ first_cpu entry arg = record {
   flags = record { carry = false; zero = false; sign = false; overflow = false };
 }
 
--- the state that a run starts from
+-- RIP is the entry point, RCX the argument, RSP 0x707FFFD8 with a return address of 0 there, all
+-- else 0 (own)
 unfoldable pub start : Image → ℤ → State
 start image arg = state (first_cpu (image.base + image.entry) arg) (mapped image)
 
@@ -186,7 +196,11 @@ later_refusal image =
     first_of (place_refusal image ∷ import_refusal image ∷ entry_refusal image
     ∷ names_refusal image ∷ [])
 
--- the first reason that an image isn't loaded, if there is one
+-- the first that holds of Table, Place, Import, Entry and Names, in this order (own). Table: the
+-- function table isn't read whole. Place: the base isn't a multiple of 65,536 or is below 4 GiB,
+-- the size is above 256 MiB, or the end is above 2^47. Import, with the index of the first import
+-- that names no service. Entry: the entry point's page isn't executable. Names, with the index of
+-- the first row of the table of names that isn't right.
 abbrev pub load_refusal : Image → Option LoadErr
 load_refusal image =
     first_of (table_refusal image ∷ place_refusal image ∷ import_refusal image ∷ entry_refusal image

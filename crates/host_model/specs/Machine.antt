@@ -1,4 +1,6 @@
 -- Whole runs of images.
+--
+-- The main definitions: `run`, `machine`.
 use Rattle.std.specs.Prelude.{ℕ, zero, suc, List, [], ◌++◌, ℤ, Some, None, Result, Ok, Err}
 use Rattle.seh_num.specs.declared.event.Event.{Event}
 use Rattle.seh_num.specs.declared.end.RunEnd.{RunEnd}
@@ -47,6 +49,7 @@ abbrev pub machine_of : Result Image ImageErr → ℤ → ℕ → Shown RunEnd
 machine_of (Ok image) arg m = run_from image arg m (functions_in image)
 machine_of (Err e) arg m = record { events = []; end = None }
 
--- what an image shows in at most m turns
+-- the events and the end, if there is one, after at most m turns. A state whose RIP is 0 has ended
+-- with the low 32 bits of RAX.
 unfoldable pub machine : List ℕ → ℤ → ℕ → Shown RunEnd
 machine bytes arg m = machine_of (reading bytes) arg m

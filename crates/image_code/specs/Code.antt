@@ -1,5 +1,7 @@
 -- The code of an image at addresses relative to its base, and what it has to do with the image as
 -- it is loaded.
+--
+-- The main definition: `code_of`.
 use Rattle.std.specs.Prelude.{ℕ, ◌≡◌, ◌+◌, ◌≤◌, ◌^◌, true, List, Option, Some, None, if◌then◌else◌}
 use Rattle.std.specs.Ordering.{nat_cmp}
 use Rattle.std.specs.BTreeMap.{BTreeMap, get}
@@ -8,7 +10,8 @@ use Rattle.pe_image.specs.Image.{Image}
 use Rattle.pe_image.specs.Reading.{IsImage}
 use Rattle.host_model.specs.Loading.{mapped, has_place}
 
--- the image as it is loaded, its imports bound, were its base 0
+-- the memory of the image as it is loaded, with its imports bound, were its base 0: its addresses
+-- are RVAs, and it needs no place
 abbrev pub code_of : Image → Memory
 code_of image = mapped (record image { base = 0 })
 

@@ -1,4 +1,6 @@
 -- The verdict on an image, by its code and its function table.
+--
+-- The main definitions: `IsImageVerdict`, `AreImageVerdicts`.
 use Rattle.std.specs.Prelude.{◌≡◌, ℕ, List, [], Ok, Err}
 use Rattle.pe_image.specs.Image.{Image}
 use Rattle.eh_tables.specs.declared.range.RuntimeFunction.{RuntimeFunction}
@@ -26,7 +28,8 @@ checked_code image probe =
       ranges = ranges_or_none (directory image);
     }
 
--- the function table is read whole, and this is the verdict on its entries
+-- the function table is read whole, and the verdict is that of `IsVerdict` on its entries over
+-- `code_of`, where `probe` are the bytes of the stack probe
 pub record IsImageVerdict (image : Image) (probe : List ℕ) (v : Verdict) : Type 0 where
   pub entries : List Entry
   pub read : tables image ≡ Ok entries

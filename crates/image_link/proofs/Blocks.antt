@@ -8,7 +8,7 @@ use Rattle.x64_instr.specs.declared.register.Reg.TheVariants.{Rax, Rcx, Rdx}
 use Rattle.template_code.specs.Handlers.{loaded, name_thunk, adding_stub, removing_stub}
 use Rattle.template_code.specs.Slots.{fetched}
 use Rattle.image_link.specs.declared.handlers.TheConstants.{MOST_BLOCK}
-use Rattle.image_link.specs.Words.{ImportedService, size, sizes, modrm, Blocks, block_size, blocks_at, step_of, blocks_size, is_among, adding_at, removing_at, adding_code, removing_code, block_code, block_bytes, blocks_bytes, code_if, stub_size_if, adding_of, removing_of, AreBlocksNear}
+use Rattle.image_link.specs.Words.{ImportedService, size, sizes, modrm, HandlerBlocks, block_size, blocks_at, step_of, blocks_size, is_among, adding_at, removing_at, adding_code, removing_code, block_code, block_bytes, blocks_bytes, code_if, stub_size_if, adding_of, removing_of, AreBlocksNear}
 use Rattle.x64_emit.specs.Linking.{AreStubsNear}
 use Rattle.template_code.proofs.Sizes.{jump_size}
 use Rattle.image_link.proofs.Lemmas.{sizes_append, sizes_spelled}
@@ -38,7 +38,7 @@ pub size_if : (there : Bool) (code : List Instr) → sizes code ≡ 13
 size_if true code e = e
 size_if false code e = refl
 
-module _ (imports : List ImportedService) (rdata : ℕ) (b : Blocks) where
+module _ (imports : List ImportedService) (rdata : ℕ) (b : HandlerBlocks) where
   block_sizes : (at function : ℕ)
       → sizes (block_code imports rdata b at function) ≡ step_of b
   block_sizes at function =
@@ -72,7 +72,7 @@ step_more true false n = omega arith
 step_more false true n = omega arith
 step_more false false n = omega arith
 
-pub step_none : (b : Blocks) → step_of b * 0 ≡ 0
+pub step_none : (b : HandlerBlocks) → step_of b * 0 ≡ 0
 step_none b = by b.adds b.removes
   where
     by : (adds removes : Bool) → block_size adds removes * 0 ≡ 0
@@ -82,7 +82,7 @@ step_none b = by b.adds b.removes
     by false false = refl
 
 -- how many bytes the blocks of functions take
-pub blocks_length : (imports : List ImportedService) (rdata : ℕ) (b : Blocks) (at : ℕ)
+pub blocks_length : (imports : List ImportedService) (rdata : ℕ) (b : HandlerBlocks) (at : ℕ)
     (fs : List ℕ) → length (blocks_bytes imports rdata b at fs) ≡ step_of b * length fs
 blocks_length imports rdata b at [] = sym (step_none b)
 blocks_length imports rdata b at (f ∷ fs) =
@@ -125,7 +125,8 @@ blocks_few imports at functions =
 after : (i : ℕ) → suc i ≡ i + 1
 after i = omega arith
 
-pub blocks_next : (imports : List ImportedService) (rdata : ℕ) (b : Blocks) (at : ℕ) (fs : List ℕ)
+pub blocks_next : (imports : List ImportedService) (rdata : ℕ) (b : HandlerBlocks) (at : ℕ)
+    (fs : List ℕ)
     (i d : ℕ) → i < length fs
     → blocks_bytes imports rdata b at (drop i fs)
     ≡ block_bytes imports rdata b at (get_or fs i d)
@@ -136,7 +137,7 @@ blocks_next imports rdata b at fs i d lt =
     ++ blocks_bytes imports rdata b (at + step_of b) (drop n fs)) (after i)
 
 -- the next block begins so much further
-pub step_next : (b : Blocks) (i : ℕ) → step_of b * (i + 1) ≡ step_of b * i + step_of b
+pub step_next : (b : HandlerBlocks) (i : ℕ) → step_of b * (i + 1) ≡ step_of b * i + step_of b
 step_next b i = by b.adds b.removes
   where
     by : (adds removes : Bool)
@@ -147,7 +148,7 @@ step_next b i = by b.adds b.removes
     by false false = omega arith
 
 -- and each of them before the end of all
-pub step_below : (b : Blocks) (i : ℕ) → i < b.count
+pub step_below : (b : HandlerBlocks) (i : ℕ) → i < b.count
     → step_of b * i + step_of b ≤ step_of b * b.count
 step_below b i lt = by b.adds b.removes
   where
@@ -161,10 +162,10 @@ step_below b i lt = by b.adds b.removes
 
 -- ---- stubs
 
-pub adding_near : (b : Blocks) → AreBlocksNear b → AreStubsNear (adding_of b)
+pub adding_near : (b : HandlerBlocks) → AreBlocksNear b → AreStubsNear (adding_of b)
 adding_near b near = omega arith
 
-pub removing_near : (b : Blocks) → AreBlocksNear b → AreStubsNear (removing_of b)
+pub removing_near : (b : HandlerBlocks) → AreBlocksNear b → AreStubsNear (removing_of b)
 removing_near b near = by b.adds near
   where
     by : (adds : Bool) → AreBlocksNear b

@@ -5,7 +5,7 @@ use Rattle.std.specs.Prelude.{◌&&◌, IfOk}
 use Rattle.std.specs.List.{AllByRecursion}
 use Rattle.std.proofs.lemmas.Bool.{eq-eqb}
 use Rattle.std.proofs.lemmas.List.{length-take-le}
-use Rattle.image_link.specs.Words.{ImportedService, LinearBody, LinearFunction, LinearFunclet, LinearProgram, CanBeImage, ImageContents, RoutineView, is_leaf, framed, leaf_if, functions_from, funclet, no_function, function_of_index, routines, IsRoutineNear, IsSiteNear, AreFew, HasRoom, HasNames, HasPlaces, table_bytes, SiteView, room, routine_size, bounds, first_routine_at, text_bytes, infos_room, all_infos, all_ranges, first, first_cold, first_block, blocks_at, names_of, total, cold_size, xdata_begin, IsPlacement, site, image_of, nothing, CodeRange, parts_at, part_rows, cold_rows, NameRow, names_size, name_table_size, calls_walk, named_if, named_functions, function_rows, names_room, services_of, linked, FitsProgram, tables_room, function_bodies, funclet_bodies, program_tables_room}
+use Rattle.image_link.specs.Words.{ImportedService, LinearBody, LinearFunction, LinearFunclet, LinearProgram, CanBeImage, ImageContents, RoutineView, is_leaf, framed, leaf_if, functions_from, funclet, no_function, function_of_index, routines, IsRoutineNear, IsSiteNear, AreFew, HasRoom, HasNames, HasPlaces, table_bytes, SiteView, room, routine_size, bounds, first_routine_at, text_bytes, infos_room, all_infos, all_ranges, first, first_cold, first_block, blocks_at, names_of, total, cold_size, xdata_begin, IsPlacement, site, image_of_routines, nothing, CodeRange, parts_at, part_rows, cold_rows, NameRow, names_size, name_table_size, calls_walk, named_if, named_functions, function_rows, names_room, services_of, linked, FitsProgram, tables_room, function_bodies, funclet_bodies, program_tables_room}
 use Rattle.image_link.specs.declared.placement.Placement.{Placement}
 use Rattle.image_link.specs.declared.routine.Entry.TheVariants as entries
 use Rattle.image_link.specs.Laws.{ImagesAreSmall}
@@ -125,7 +125,7 @@ tables_fit imports g rs functions services few near room fewer =
 pub is_program : (imports : List ImportedService) (g : List ℕ) (rs : List RoutineView)
     (functions main : ℕ) (named : List LinearFunction) → AreFew imports → length g ≤ MOST_GLOBALS
     → AllByRecursion IsRoutineNear rs → HasPlaces rs functions main → HasNames rs named
-    → (d : RoutineView) → CanBeImage (image_of imports g rs functions main named)
+    → (d : RoutineView) → CanBeImage (image_of_routines imports g rs functions main named)
 is_program imports g rs functions main named services few near places names d =
     let s = site imports g rs functions in
     let i = imports_small imports services in
@@ -200,7 +200,7 @@ module _ (imports : List ImportedService) (g b : List ℕ) (rs : List RoutineVie
         xdata = xdata;
         pdata = pdata;
         names = rows;
-      } ≡ image_of imports g rs functions main named
+      } ≡ image_of_routines imports g rs functions main named
   image_is main entry start text xdata pdata rows named n e k i q w =
       let d = is.data_size in
       let begin = is.text in
@@ -347,11 +347,12 @@ has_names p fits =
 -- the image of what a program is made of
 pub linked_is : (p : LinearProgram) (image : ImageContents) (imports : List ImportedService)
     (g : List ℕ) (rs : List RoutineView) (functions main : ℕ) (named : List LinearFunction)
-    → image ≡ image_of imports g rs functions main named → imports ≡ services_of p → g ≡ p.globals
+    → image ≡ image_of_routines imports g rs functions main named → imports ≡ services_of p
+    → g ≡ p.globals
     → rs ≡ routines p → functions ≡ length p.functions → main ≡ p.main
     → named ≡ named_functions p → image ≡ linked p
 linked_is p image imports g rs functions main named e i n r f m a =
-    e ∙ (λ k. image_of (i k) (n k) (r k) (f k) (m k) (a k))
+    e ∙ (λ k. image_of_routines (i k) (n k) (r k) (f k) (m k) (a k))
 
 -- the image of a program that fits takes at most 256 MiB
 pub images_are_small : ImagesAreSmall

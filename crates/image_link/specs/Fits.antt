@@ -1,5 +1,7 @@
 -- Programs that can be linked: the limits that keep every frame and the image within the largest
 -- ones (own).
+--
+-- The main definition: `FitsProgram`.
 use Rattle.std.specs.Prelude.{◌≡◌, false, ℕ, ◌+◌, ◌*◌, ◌/◌, ◌^◌, ◌<◌, ◌≤◌, List, [], ◌∷◌, length}
 use Rattle.std.specs.List.{AllByRecursion}
 use Rattle.seh_num.specs.declared.limit.TheConstants.{MOST_PARAMETERS, MOST_GLOBALS}
@@ -109,6 +111,11 @@ program_tables_room p =
 abbrev pub other_room : ℕ
 other_room = 2 ^ 21
 
+-- the limits of linking (own). A body passes and has as temporaries at most 1,000 words, a function
+-- with its locals 1,024 more for each 1 that it weighs above 1, and it weighs at most 65. A body
+-- has at most 2^24 regions, a call passes at most eight arguments, and the globals take at most
+-- 2^20 bytes. Each function has an instruction and a name without a 0, and the room of all code,
+-- tables and names is at most 2^28 - 2^21 bytes.
 pub record FitsProgram (p : LinearProgram) : Type 0 where
   pub globals : length p.globals ≤ MOST_GLOBALS
   pub main : p.main < length p.functions

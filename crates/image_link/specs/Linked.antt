@@ -1,5 +1,7 @@
 -- The image of a program: the services that it imports, its globals, its routines and their cold
 -- parts, their tables, and the names of its functions.
+--
+-- The main definition: `linked`.
 use Rattle.std.specs.Prelude.{◌≡◌, ℕ, ◌+◌, ◌-◌, List, ◌++◌, length, get_or, max, take, drop}
 use Rattle.host_layout.specs.declared.range.TheConstants.{DATA_AT}
 use Rattle.eh_tables.specs.Written.{table_bytes}
@@ -81,9 +83,9 @@ names_of imports globals rs named =
 
 -- ---- the image, which begins at the routine of this index, and has the names of these functions
 
-abbrev pub image_of : List ImportedService → List ℕ → List RoutineView → ℕ → ℕ
+abbrev pub image_of_routines : List ImportedService → List ℕ → List RoutineView → ℕ → ℕ
     → List LinearFunction → ImageContents
-image_of imports globals rs functions main named =
+image_of_routines imports globals rs functions main named =
     let s = site imports globals rs functions in record {
       imports = imports;
       data_size = data_size globals;
@@ -99,7 +101,10 @@ image_of imports globals rs functions main named =
       names = names_of imports globals rs named;
     }
 
+-- the image of a program of linear code. It has its globals, its text with `main` as the entry
+-- point, its infos and its function table, and the names of its functions where it calls `walk`.
+-- The bytes of the image are `written` of it (crate `pe_write`).
 abbrev pub linked : LinearProgram → ImageContents
 linked p =
-    image_of (services_of p) p.globals (routines p) (length p.functions) p.main
+    image_of_routines (services_of p) p.globals (routines p) (length p.functions) p.main
     (named_functions p)

@@ -10,7 +10,7 @@ use Rattle.template_code.specs.ColdParts.{AreParts}
 use Rattle.x64_emit.specs.Near.{AreNear, IsNear, IsSlotNear, AreParametersNear, ArePointersNear, IsInstructionNear}
 use Rattle.x64_emit.specs.Entries.{IsKeptNear}
 use Rattle.host_layout.specs.declared.imported.ImportedService.{ImportedService}
-use Rattle.image_link.specs.declared.handlers.Blocks.{Blocks}
+use Rattle.image_link.specs.declared.handlers.HandlerBlocks.{HandlerBlocks}
 use Rattle.x64_emit.specs.declared.handlers.TheConstants.{NAME_THUNK_SIZE, STUB_SIZE}
 use Rattle.image_link.specs.declared.place.TheConstants.{MOST_IMPORTS}
 use Rattle.image_link.specs.declared.routine.Entry.{Entry}
@@ -47,7 +47,7 @@ abbrev pub AreFew : List ImportedService → Type 0
 AreFew imports = length imports ≤ MOST_IMPORTS
 
 -- blocks, with the stubs that were in one behind the last of them
-abbrev pub AreBlocksNear : Blocks → Type 0
+abbrev pub AreBlocksNear : HandlerBlocks → Type 0
 AreBlocksNear b = IsNear (b.first + NAME_THUNK_SIZE + STUB_SIZE + step_of b * b.count)
 
 -- the addresses that routines refer to

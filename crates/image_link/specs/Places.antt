@@ -1,12 +1,14 @@
 -- Where routines are placed.
+--
+-- The main definition: `parts_at`.
 use Rattle.std.specs.Prelude.{ℕ, ◌+◌, List, [], ◌∷◌}
 use Rattle.x64_emit.specs.declared.body.CodeRange.{CodeRange}
 use Rattle.x64_emit.specs.Bodies.{part_ranges}
 use Rattle.image_link.specs.Routines.{RoutineView}
 use Rattle.image_link.specs.Text.{entry_size, routine_size, cold_size, own_addresses}
 
--- where its body and its cold parts begin, where its instructions do, where it ends without its cold
--- parts, and where these stand
+-- where its body and its cold parts begin, where its instructions do, where it ends without its
+-- cold parts, and where these stand
 pub record PlaceView : Type 0 where
   pub body : ℕ
   pub cold : ℕ

@@ -1,5 +1,7 @@
 -- What a program has in its text, one after another: its functions, and then its funclets by their
 -- numbers.
+--
+-- The main definitions: `routines`, `is_leaf`, `placed_locals`.
 use Rattle.std.specs.Prelude.{ℕ, suc, ◌+◌, ◌-◌, ◌*◌, ◌<◌, Bool, true, false, not, ◌&&◌, ◌==◌, nat_le, List, [], ◌∷◌, ◌++◌, length, get_or, map, replicate, Option, Some, None}
 use Rattle.linear_code.specs.declared.instruction.Instruction.{Instruction}
 use Rattle.linear_code.specs.declared.instruction.Instruction.TheVariants as instructions
@@ -47,6 +49,10 @@ abbrev pub all_spare : ℕ → List Instruction → Bool
 all_spare n [] = true
 all_spare n (i ∷ is) = is_spare n i && all_spare n is
 
+-- a function without calls and regions and with at most four slots, no operation of which reads a
+-- second operand, and no result of which goes to a parameter. It has no frame and no entry, and its
+-- parameters stay in the registers in which they arrive (Microsoft x64 ABI, "Parameter passing").
+-- Its other slots are in the home space. `main` always has a frame.
 abbrev pub is_leaf : LinearFunction → Bool
 is_leaf f =
     nat_le f.parameters f.body.locals && (nat_le (f.body.locals + f.body.temporaries) 4
@@ -70,7 +76,8 @@ function_facts f =
 abbrev pub function_frame : LinearFunction → FrameLayout
 function_frame f = frame_of (function_facts f)
 
--- the locals of registers, which are at most seven, and no local of the other registers
+-- the locals that stand in registers, one for each of the first of RBX, RSI, RDI and R12 to R15, of
+-- which the frame's plan pushes or stores as many (`function_facts`)
 abbrev pub placed_locals : List ℕ → List (Option ℕ)
 placed_locals locals = map Some locals ++ replicate (MOST_REGISTERS - length locals) None
 
@@ -225,5 +232,7 @@ funclet p f =
       body = f.body;
     }
 
+-- the functions and then the funclets by their numbers, each with its frame, the layout of its
+-- slots and its body
 abbrev pub routines : LinearProgram → List RoutineView
 routines p = functions_from p.main 0 p.functions ++ map (funclet p) p.funclets

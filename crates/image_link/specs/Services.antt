@@ -1,5 +1,7 @@
 -- The services that the image of a program imports. Those on vectored handlers and `walk` are
 -- imported only where a body of the program calls them.
+--
+-- The main definition: `services_of`.
 use Rattle.std.specs.Prelude.{◌≡◌, ℕ, ◌==◌, Bool, true, false, ◌||◌, nat_lt, List, [], ◌∷◌, ◌++◌, length}
 use Rattle.host_layout.specs.declared.imported.ImportedService.{ImportedService}
 use Rattle.host_layout.specs.declared.imported.ImportedService.TheVariants as imports
@@ -14,16 +16,16 @@ use Rattle.pe_write.specs.ImportTables.{place_of}
 -- ---- which services a program calls
 
 -- the service that a built-in function is
-abbrev pub service_of : BuiltIn → ImportedService
-service_of Put = imports.Put
-service_of Protect = imports.Protect
-service_of RaiseException = imports.RaiseException
-service_of Walk = imports.Walk
-service_of (AddVectored f) = imports.AddVectored
-service_of (RemoveVectored f) = imports.RemoveVectored
+abbrev pub imported_service_of : BuiltIn → ImportedService
+imported_service_of Put = imports.Put
+imported_service_of Protect = imports.Protect
+imported_service_of RaiseException = imports.RaiseException
+imported_service_of Walk = imports.Walk
+imported_service_of (AddVectored f) = imports.AddVectored
+imported_service_of (RemoveVectored f) = imports.RemoveVectored
 
 abbrev pub is_call : ImportedService → Instruction → Bool
-is_call s (instructions.CallBuiltIn k first) = number_of (service_of k) == number_of s
+is_call s (instructions.CallBuiltIn k first) = number_of (imported_service_of k) == number_of s
 is_call s i = false
 
 abbrev pub has_call : ImportedService → List Instruction → Bool
@@ -61,7 +63,9 @@ services_if adds removes walks =
     ++ (imports.CSpecificHandler ∷ imports.LocalUnwind ∷ imports.Protect ∷ imports.Put
     ∷ service_if walks imports.Walk)))
 
--- the services that a program imports
+-- the services that a program imports, in the order of their slots and thunks: five always, and
+-- `AddVectoredExceptionHandler`, `RemoveVectoredExceptionHandler` and `walk` each where a body
+-- calls it (`calls`, `calls_walk`)
 unfoldable pub services_of : LinearProgram → List ImportedService
 services_of p =
     services_if (calls imports.AddVectored p) (calls imports.RemoveVectored p)

@@ -1,6 +1,11 @@
 -- The tables of a program: an unwind info for each routine with a frame, its scope table where it
 -- has regions, and its entry in the function table; and after all these a chained info and an entry
 -- for each cold part.
+--
+-- `infos`, `ranges`: the unwind infos with their scope tables, and the entries of the function
+-- table.
+--
+-- The main definitions: `fragments`, `chained_bytes`, `scope_record`.
 use Rattle.std.specs.Prelude.{ℕ, ◌+◌, ◌*◌, Bool, true, false, not, ◌||◌, List, [], ◌∷◌, ◌++◌, length, map, Option, Some, None}
 use Rattle.eh_tables.specs.declared.layout.TheConstants.{EXCEPTION_EXECUTE_HANDLER}
 use Rattle.eh_tables.specs.declared.range.RuntimeFunction.{RuntimeFunction}
@@ -37,6 +42,9 @@ jump_target labels end (kinds.Finally funclet) = 0
 jump_target labels end (kinds.Filter funclet target) = address_or labels target end
 jump_target labels end (kinds.Always target) = address_or labels target end
 
+-- the record of a region. HandlerAddress is the funclet's address, or 1 where the filter always
+-- accepts, and JumpTarget that of the target, or 0 for a `__finally` block (Microsoft x64 ABI,
+-- "Language-specific handler"; Windows headers, `winnt.h`).
 abbrev pub scope_record : List ℕ → List ℕ → ℕ → Region → ScopeRecord
 scope_record funclets labels end r =
     record {
@@ -145,6 +153,7 @@ fragments_if (Some f) parent parts = map (fragment f parent) parts
 abbrev pub fragments_of : (info at cold : ℕ) → RoutineView → List Fragment
 fragments_of info at cold r = fragments_if r.frame (range_at info at r) (parts_at cold r)
 
+-- for each cold part its range, its function's entry and its frame;
 abbrev pub fragments : SiteView → (info at cold : ℕ) → List RoutineView → List Fragment
 fragments s info at cold [] = []
 fragments s info at cold (r ∷ rs) =
@@ -152,6 +161,7 @@ fragments s info at cold (r ∷ rs) =
     ++ fragments s (info + length (info_bytes s at cold r)) (at + routine_size r)
     (cold + cold_size r) rs
 
+-- its unwind info, chained to its function's
 abbrev pub chained_bytes : Fragment → List ℕ
 chained_bytes f = unwind_bytes (chained_info f.framed f.parent)
 

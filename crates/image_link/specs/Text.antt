@@ -1,5 +1,8 @@
--- The text of a program: the thunks of its services, `__chkstk`, its routines, their cold parts, and
--- the blocks of its functions for vectored handlers, where it has any.
+-- The text of a program: the thunks of its services, `__chkstk`, its routines, their cold parts,
+-- and the blocks of its functions for vectored handlers, where it has any.
+--
+-- The main definitions: `routine_code`, `text_bytes`, `front_size`, `bounds`, `cold_size`,
+-- `apart_code`.
 use Rattle.std.specs.Prelude.{ℕ, ◌+◌, ◌*◌, List, [], ◌∷◌, ◌++◌, length, map, take, Option, Some, None}
 use Rattle.seh_num.specs.declared.width.Width.TheVariants.{W32}
 use Rattle.x64_instr.specs.declared.register.Reg.TheVariants.{Rax, Rcx}
@@ -28,7 +31,7 @@ use Rattle.x64_emit.specs.Rooms.{code_room}
 use Rattle.x64_emit.specs.Bodies.{label_list}
 use Rattle.x64_emit.specs.Entries.{keep_base}
 use Rattle.x64_emit.specs.Linking.{Addresses, links_of}
-use Rattle.image_link.specs.declared.handlers.Blocks.{Blocks}
+use Rattle.image_link.specs.declared.handlers.HandlerBlocks.{HandlerBlocks}
 use Rattle.image_link.specs.declared.place.TheConstants.{ROUTINE_ROOM}
 use Rattle.image_link.specs.declared.routine.Entry.{Entry}
 use Rattle.image_link.specs.declared.routine.Entry.TheVariants as entries
@@ -94,7 +97,7 @@ abbrev pub thunk_at : List ImportedService → ℕ → ImportedService → ℕ
 thunk_at imports text s = text + THUNK_SIZE * place_of imports s
 
 -- with the stubs of blocks
-abbrev pub thunks_at : List ImportedService → ℕ → Blocks → Thunks
+abbrev pub thunks_at : List ImportedService → ℕ → HandlerBlocks → Thunks
 thunks_at imports text blocks =
     record {
       put = thunk_at imports text Put;
@@ -146,7 +149,7 @@ pub record SiteView : Type 0 where
   pub rdata : ℕ
   pub functions : List ℕ
   pub funclets : List ℕ
-  pub blocks : Blocks
+  pub blocks : HandlerBlocks
 
 abbrev pub addresses : SiteView → (at cold : ℕ) → RoutineView → Addresses
 addresses s at cold r =
@@ -163,6 +166,8 @@ abbrev pub code_at : ℕ → Links → ℕ → RoutineView → List Instr
 code_at check links at r =
     entry_code at check r ++ code_from links r.layout (at + entry_size r) (hot_code r.body)
 
+-- the code of a routine at an address: its prologue, what it does with its arguments or keeps of
+-- RCX and RDX, and its body
 abbrev pub routine_code : SiteView → (at cold : ℕ) → RoutineView → List Instr
 routine_code s at cold r =
     code_at (check_stack_at s.imports s.text) (links_of (addresses s at cold r)) at r
@@ -172,7 +177,8 @@ routine_bytes s at cold r = spelled (routine_code s at cold r)
 
 -- the cold parts of a routine
 abbrev pub apart_code : SiteView → (at cold : ℕ) → RoutineView → List Instr
-apart_code s at cold r = code_from (links_of (addresses s at cold r)) r.layout cold (cold_code r.body)
+apart_code s at cold r =
+    code_from (links_of (addresses s at cold r)) r.layout cold (cold_code r.body)
 
 unfoldable pub apart_bytes : SiteView → (at cold : ℕ) → RoutineView → List ℕ
 apart_bytes s at cold r = spelled (apart_code s at cold r)

@@ -1,5 +1,7 @@
 -- What the image of a program has where the program calls `walk`: the names of its functions with
 -- the ranges of their code.
+--
+-- The main definitions: `function_rows`, `cold_rows`.
 use Rattle.std.specs.Prelude.{ℕ, ◌+◌, ◌<◌, Bool, true, false, List, [], ◌∷◌, ◌++◌, length, get_or}
 use Rattle.std.specs.List.{AllByRecursion}
 use Rattle.linear_code.specs.Program.{LinearFunction, LinearProgram}

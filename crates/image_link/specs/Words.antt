@@ -31,9 +31,9 @@ pub use Rattle.x64_emit.specs.Linking.{links_of, Addresses}
 pub use Rattle.x64_emit.specs.Near.{AreNear, IsNear, IsInstructionNear, IsBaseNear, IsSlotNear}
 pub use Rattle.x64_emit.specs.Rooms.{code_room}
 pub use Rattle.image_link.specs.Fits.{FitsFunction, FitsFunclet, FitsProgram, tables_room, function_bodies, funclet_bodies, program_tables_room, FitsSlot, FitsInstruction, FitsBody, FitsKind, text_room}
-pub use Rattle.image_link.specs.Linked.{first, first_cold, first_block, names_of, text_size, xdata_begin, IsPlacement, site, image_of, linked}
-pub use Rattle.image_link.specs.Services.{service_of, is_call, has_call, functions_call, funclets_call, calls, calls_walk, service_if, services_if, IsImported, IsImportedIf, is_among}
-pub use Rattle.image_link.specs.declared.handlers.Blocks.{Blocks}
+pub use Rattle.image_link.specs.Linked.{first, first_cold, first_block, names_of, text_size, xdata_begin, IsPlacement, site, image_of_routines, linked}
+pub use Rattle.image_link.specs.Services.{imported_service_of, is_call, has_call, functions_call, funclets_call, calls, calls_walk, service_if, services_if, IsImported, IsImportedIf, is_among}
+pub use Rattle.image_link.specs.declared.handlers.HandlerBlocks.{HandlerBlocks}
 pub use Rattle.image_link.specs.Handlers.{block_size, blocks_at, step_of, blocks_size, adding_at, removing_at, adding_of, removing_of, adding_code, removing_code, block_code, blocks_bytes, code_if, stub_size_if, name_at}
 unfoldable pub use Rattle.image_link.specs.Handlers.{block_bytes}
 pub use Rattle.image_link.specs.Walks.{named_if, named_functions, IsName, IsNamed, function_rows, part_rows, all_part_rows, cold_rows, names_room}

@@ -23,7 +23,7 @@ pub const MOST_BLOCK: u32 = NAME_THUNK_SIZE + 2 * STUB_SIZE;
 
 /// The blocks of functions, one after another in the order of the functions.
 #[derive(Clone, Copy)]
-pub struct Blocks {
+pub struct HandlerBlocks {
     /// Where the first one begins, relative to the image base.
     pub first: u32,
     /// How many there are: one for each function, or none.
@@ -43,14 +43,14 @@ fn is_among(imports: &[ImportedService], service: ImportedService) -> bool
 }
 
 /// The blocks of so many functions in a program that imports these services, from an address on.
-pub fn blocks_at(imports: &[ImportedService], at: u32, functions: u32) -> Blocks
+pub fn blocks_at(imports: &[ImportedService], at: u32, functions: u32) -> HandlerBlocks
     requires { AreFew imports.now }
     ensures { result ≡ spec.blocks_at imports.now at functions }
 {
     let adds = is_among(imports, ImportedService::AddVectored);
     let removes = is_among(imports, ImportedService::RemoveVectored);
     let count = if adds || removes { functions } else { 0 };
-    Blocks {
+    HandlerBlocks {
         first: at,
         count,
         adds,
@@ -67,7 +67,7 @@ fn stub_size_if(there: bool) -> u32
 }
 
 /// How many bytes a block takes.
-fn step_of(blocks: Blocks) -> u32
+fn step_of(blocks: HandlerBlocks) -> u32
     ensures value { result ≡ spec.step_of blocks }
     ensures small { result ≤ MOST_BLOCK }
 {
@@ -86,7 +86,7 @@ pub fn blocks_size(imports: &[ImportedService], functions: u32) -> u32
 }
 
 /// Where the stubs are through which functions become handlers.
-pub fn adding_of(blocks: Blocks) -> Stubs
+pub fn adding_of(blocks: HandlerBlocks) -> Stubs
     requires { AreBlocksNear blocks }
     ensures { result ≡ spec.adding_of blocks }
 {
@@ -98,7 +98,7 @@ pub fn adding_of(blocks: Blocks) -> Stubs
 }
 
 /// Where those are through which they are handlers no more.
-pub fn removing_of(blocks: Blocks) -> Stubs
+pub fn removing_of(blocks: HandlerBlocks) -> Stubs
     requires { AreBlocksNear blocks }
     ensures { result ≡ spec.removing_of blocks }
 {
@@ -115,7 +115,7 @@ fn put_adding(
     code: &mut Vec<u8>,
     imports: &[ImportedService],
     rdata: u32,
-    blocks: Blocks,
+    blocks: HandlerBlocks,
     at: u32,
 ) -> Result<(), AllocError>
     requires imports { AreFew imports.now }
@@ -141,7 +141,7 @@ fn put_removing(
     code: &mut Vec<u8>,
     imports: &[ImportedService],
     rdata: u32,
-    blocks: Blocks,
+    blocks: HandlerBlocks,
     at: u32,
 ) -> Result<(), AllocError>
     requires imports { AreFew imports.now }
@@ -163,7 +163,7 @@ fn put_block(
     code: &mut Vec<u8>,
     imports: &[ImportedService],
     rdata: u32,
-    blocks: Blocks,
+    blocks: HandlerBlocks,
     at: u32,
     function: u32,
 ) -> Result<(), AllocError>
@@ -185,7 +185,7 @@ pub fn put_blocks(
     code: &mut Vec<u8>,
     imports: &[ImportedService],
     rdata: u32,
-    blocks: Blocks,
+    blocks: HandlerBlocks,
     functions: &[u32],
 ) -> Result<(), AllocError>
     requires imports { AreFew imports.now }

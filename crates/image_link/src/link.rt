@@ -12,7 +12,7 @@ ghost use Rattle.image_link.specs.Near.{AreFew, IsRoutineNear, HasNames, HasPlac
 ghost use Rattle.image_link.specs.Places.{places_from};
 ghost use Rattle.image_link.specs.Text as texts;
 
-use crate::handlers::{Blocks, blocks_at};
+use crate::handlers::{HandlerBlocks, blocks_at};
 use crate::place::{Places, front_size, places_of};
 use crate::placement::{offset_of, placement_of, text_begin};
 use crate::routine::{Routine, routines};
@@ -34,7 +34,7 @@ fn site_of<'a>(
     rdata: u32,
     bounds: &'a [u32],
     functions: usize,
-    blocks: Blocks,
+    blocks: HandlerBlocks,
 ) -> Site<'a>
     requires { functions ≤ length bounds.now }
     ensures { result ≡ record {
@@ -128,7 +128,7 @@ fn linked<'a>(
         (spec.first_cold imports.now globals.now routines.now) routines.now }
     requires end { places.now.end ≡ spec.first_block imports.now globals.now routines.now }
     ensures { IfOk result
-        (λ image. image ≡ spec.image_of imports.now globals.now routines.now functions main
+        (λ image. image ≡ spec.image_of_routines imports.now globals.now routines.now functions main
         (map linear_function named.now)) }
 {
     let placement = placement_of(imports, globals, routines, functions, places.end);
@@ -161,7 +161,7 @@ fn linked<'a>(
 
 /// The image of routines, of which the first so many are functions, and which begins at the one of
 /// the index `main`. It has the names of the functions `named`.
-fn image_of<'a>(
+fn image_of_routines<'a>(
     alloc: Global,
     imports: &[ImportedService],
     globals: &[u8],
@@ -176,7 +176,7 @@ fn image_of<'a>(
     requires places { HasPlaces routines.now functions main }
     requires names { HasNames routines.now (map linear_function named.now) }
     ensures { IfOk result
-        (λ image. image ≡ spec.image_of imports.now globals.now routines.now functions main
+        (λ image. image ≡ spec.image_of_routines imports.now globals.now routines.now functions main
         (map linear_function named.now)) }
 {
     let first = text_begin(globals) + front_size(imports);
@@ -201,7 +201,7 @@ pub fn compile_program(alloc: Global, program: &IrProgram) -> Result<Vec<u8>, Al
     let functions = program.functions.len();
     let walks = calls(ImportedService::Walk, program);
     let imports = services_of(alloc, program)?;
-    let image = image_of(
+    let image = image_of_routines(
         alloc,
         &imports,
         &program.globals,

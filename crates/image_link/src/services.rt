@@ -11,8 +11,8 @@ use linear_code::program::{IrFunclet, IrFunction, IrProgram};
 use std::alloc::{AllocError, Global};
 
 /// The service that a built-in function is.
-fn service_of(function: BuiltIn) -> ImportedService
-    ensures { result ≡ spec.service_of function }
+fn imported_service_of(function: BuiltIn) -> ImportedService
+    ensures { result ≡ spec.imported_service_of function }
 {
     match function {
         BuiltIn::Put => ImportedService::Put,
@@ -29,7 +29,7 @@ fn is_call(service: ImportedService, instruction: &Instruction) -> bool
 {
     match *instruction {
         Instruction::CallBuiltIn { function, .. } => {
-            service_of(function).number() == service.number()
+            imported_service_of(function).number() == service.number()
         }
         _ => false,
     }

@@ -13,7 +13,7 @@ ghost use Rattle.image_link.specs.Places.{place_at, places_from};
 ghost use Rattle.image_link.specs.Text as spec;
 
 use crate::entry::put_entry;
-use crate::handlers::{Blocks, adding_of, put_blocks, removing_of};
+use crate::handlers::{HandlerBlocks, adding_of, put_blocks, removing_of};
 use crate::place::{Place, front_size};
 use crate::routine::Routine;
 use host_layout::imported::ImportedService;
@@ -39,7 +39,7 @@ pub struct Site<'a> {
     /// Where the funclets begin.
     pub funclets: &'a [u32],
     /// The blocks of functions for vectored handlers.
-    pub blocks: Blocks,
+    pub blocks: HandlerBlocks,
 }
 
 impl<'a> Model for Site<'a> {
@@ -67,7 +67,7 @@ pub fn thunk_at(imports: &[ImportedService], text: u32, service: ImportedService
     text + THUNK_SIZE * place_of(imports, service)
 }
 
-fn thunks_at(imports: &[ImportedService], text: u32, blocks: Blocks) -> Thunks
+fn thunks_at(imports: &[ImportedService], text: u32, blocks: HandlerBlocks) -> Thunks
     requires imports { AreFew imports.now }
     requires text { text ≤ MOST_IMAGE }
     requires blocks { AreBlocksNear blocks }
@@ -141,7 +141,7 @@ fn put_front(
 fn links_of<'a>(
     imports: &[ImportedService],
     text: u32,
-    blocks: Blocks,
+    blocks: HandlerBlocks,
     functions: &'a [u32],
     funclets: &'a [u32],
     labels: &'a [u32],

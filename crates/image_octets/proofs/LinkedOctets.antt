@@ -12,7 +12,7 @@ use Rattle.frame_layout.proofs.Counts.{all_both}
 use Rattle.frame_layout.proofs.Steps.{HasRegisters}
 use Rattle.frame_layout.proofs.Frames.{registers_few}
 use Rattle.template_code.specs.Bytes.{spelled}
-use Rattle.image_link.specs.declared.handlers.Blocks.{Blocks}
+use Rattle.image_link.specs.declared.handlers.HandlerBlocks.{HandlerBlocks}
 use Rattle.image_link.specs.Handlers.{step_of, block_code, block_bytes, blocks_bytes}
 use Rattle.image_link.specs.Fits.{FitsFunction}
 use Rattle.image_link.specs.Routines.{RoutineView, is_leaf, function_facts, leaf_if, functions_from, funclet_facts, funclet, routines}
@@ -61,13 +61,14 @@ all_apart_octets s at cold (r ∷ rs) =
     (all_apart_bytes s (at + routine_size r) (cold + cold_size r) rs)
     (apart_octets s at cold r) (all_apart_octets s (at + routine_size r) (cold + cold_size r) rs)
 
-block_octets : (imports : List ImportedService) (rdata : ℕ) (b : Blocks) (at function : ℕ)
+block_octets : (imports : List ImportedService) (rdata : ℕ) (b : HandlerBlocks) (at function : ℕ)
     → AreOctets (block_bytes imports rdata b at function)
 unfolding block_bytes
 block_octets imports rdata b at function =
     spelled_octets (block_code imports rdata b at function)
 
-blocks_octets : (imports : List ImportedService) (rdata : ℕ) (b : Blocks) (at : ℕ) (fs : List ℕ)
+blocks_octets : (imports : List ImportedService) (rdata : ℕ) (b : HandlerBlocks) (at : ℕ)
+    (fs : List ℕ)
     → AreOctets (blocks_bytes imports rdata b at fs)
 blocks_octets imports rdata b at [] = tt
 blocks_octets imports rdata b at (f ∷ fs) =

@@ -1,4 +1,6 @@
 -- What a state of the machine shows of linear code.
+--
+-- The main definition: `RepresentsWhereSet`.
 use Rattle.std.specs.Prelude.{List}
 use Rattle.x64_machine.specs.Effect.{State}
 use Rattle.virtual_unwind.specs.CallerOf.{Functions}

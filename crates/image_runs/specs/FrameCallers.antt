@@ -1,4 +1,6 @@
 -- The frames of a checked program's image, at every instruction of its code.
+--
+-- The main definition: `FindsCallers`.
 use Rattle.std.specs.Prelude.{◌≡◌, ℕ, ◌+◌, ◌<◌, true, slice_get, Some, None}
 use Rattle.x64_machine.specs.Effect.{State}
 use Rattle.frame_rules.specs.Codes.{depth}

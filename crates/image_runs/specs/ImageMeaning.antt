@@ -1,4 +1,6 @@
 -- An image that does what a program means.
+--
+-- The main definitions: `Realises`, `ShowsNothingMore`, `IsImageOf`.
 use Rattle.std.specs.Prelude.{◌≡◌, ℕ, zero, suc, ◌+◌, ◌*◌, ◌^◌, ◌<◌, ◌≤◌, true, List, length, pos, slice_get, option_map, Option, None}
 use Rattle.std.specs.List.{AllByRecursion}
 use Rattle.host_layout.specs.declared.limit.TheConstants.{MOST_IMAGE}
@@ -56,7 +58,8 @@ ShowsNothingMore bytes program =
     n ≡ true
     → ShowsNoMore (meaning program (pos arg) n) (machine bytes (pos arg) m)
 
--- the bytes of the image that a program is linked to
+-- the bytes are those of the image that the program's linear code is linked to, and are read again
+-- as it
 pub record IsImageOf (bytes : List ℕ) (program : Program) : Type 0 where
   pub octets : AllByRecursion (λ b. b < 256) bytes
   pub written : bytes ≡ written (parts_of (linked (lowered program)))

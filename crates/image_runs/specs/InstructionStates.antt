@@ -1,4 +1,6 @@
 -- A state within an instruction of linear code.
+--
+-- The main definition: `IsWithinInstruction`.
 use Rattle.std.specs.Prelude.{◌≡◌, ◌^◌, ◌<◌, ◌≤◌, true, List, ◌∷◌, Some}
 use Rattle.x64_instr.specs.declared.register.Reg.TheVariants.{Rsp}
 use Rattle.x64_instr.specs.declared.instruction.Instr.{Instr}

@@ -1,5 +1,7 @@
 -- The frames that are live in a configuration of linear code: those of the body that runs and of
 -- each that waits, innermost first.
+--
+-- The main definitions: `AreFrames`, `WalkGives`.
 use Rattle.std.specs.Prelude.{◌≡◌, ℕ, ◌+◌, ◌≤◌, Bool, true, false, List, [], ◌∷◌, length, drop, Option, Some}
 use Rattle.flat_memory.specs.Memory.{Memory}
 use Rattle.x64_machine.specs.declared.context.Context.{Context}
@@ -66,8 +68,10 @@ module _ (t : Functions) (fs : List Funclet) (program : LinearProgram) (p : Imag
     pub here : c.rip ≡ address
     pub is : fetched m (rsp c) ≡ Some r
 
-  -- from a context on: past a frame at its caller, past a search where its exception was raised,
-  -- past an unwinding where that has come to
+  -- the frames of a configuration's bodies, innermost first. RIP is in the body's code, its slots
+  -- hold what linear code has in them, and it returns past its caller's call, to the host's return
+  -- address of its record, or to 0. Past a search the list continues at the record's saved state,
+  -- past an unwinding at the record's frame.
   abbrev pub AreFrames : Memory → Context → List Item → List Activation → List LiveFrame → Type 0
   AreFrames m c [] acts [] = (c.rip ≡ 0) × (acts ≡ [])
   AreFrames m c (Waits b ∷ below) acts (f ∷ frames) =

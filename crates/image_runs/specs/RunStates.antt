@@ -1,4 +1,6 @@
 -- A run of the machine that passes, for each step of linear code, a state in which something holds.
+--
+-- The main definition: `Passes`.
 use Rattle.std.specs.Prelude.{◌≡◌, ℕ, zero, suc, ◌+◌, ◌≤◌, List, ◌++◌}
 use Rattle.seh_num.specs.declared.event.Event.{Event}
 use Rattle.x64_machine.specs.Effect.{State}
@@ -33,7 +35,8 @@ module _ (t : Functions) (fs : List Funclet) (program : LinearProgram) (turns_pe
     pub continues : (n : ℕ) → exec program (suc n) c ≡ exec program n configuration
     pub rest : Rest state configuration
 
-  -- in this state, and after each of so many steps
+  -- something holds in a state for each of n steps that linear code makes, one after another in the
+  -- run
   abbrev pub Passes : (State → Configuration → Type 0) → ℕ → State → Configuration → Type 0
   Passes Holds zero s c = Holds s c
   Passes Holds (suc n) s c = Holds s c × HasNextStep (Passes Holds n) s c

@@ -1,4 +1,6 @@
 -- Walks over the stacks of a compiled image's run.
+--
+-- The main definitions: `PassesTheFrames`, `IsOfProgram`.
 use Rattle.std.specs.Prelude.{◌≡◌, ℕ, ◌+◌, ◌≤◌, List, [], slice_get, ℤ, Some}
 use Rattle.seh_num.specs.declared.end.RunEnd.{RunEnd}
 use Rattle.seh_num.specs.declared.end.RunEnd.TheVariants as ends

@@ -1,4 +1,6 @@
 -- At every turn of an image's run the walk gives the shadow.
+--
+-- The main definition: `WalksTheShadow`.
 use Rattle.std.specs.Prelude.{◌≡◌, ℕ, ◌+◌, ◌*◌, ◌^◌, ◌<◌, ◌≤◌, true, List, [], slice_get, ℤ, pos, Some, None}
 use Rattle.pe_image.specs.Image.{Image}
 use Rattle.pe_image.specs.Reading.{IsImage}

@@ -1,5 +1,7 @@
 -- Sound programs whose linear code has an image, and what the steps of the machine ask of that
 -- image.
+--
+-- The main definitions: `IsLinkable`, `IsSoundImage`.
 use Rattle.std.specs.Prelude.{◌≡◌, List, Some}
 use Rattle.c_checked.specs.Program.{Program}
 use Rattle.c_checked.specs.Sound.{IsSound}
@@ -20,13 +22,17 @@ use Rattle.match_turns.specs.FuncletEntry.{FlagsFit, SeparatorsFollow}
 use Rattle.match_turns.specs.FilterInformation.{FiltersReadInformation}
 use Rattle.match_turns.specs.LocalUnwindPlaces.{StayInside, AreFollowed}
 
--- sound, nested within the limits, and within those of linking
+-- a checked program that is sound, nested within the limits, and whose linear code is within those
+-- of linking
 pub record IsLinkable (program : Program) : Type 0 where
   pub sound : IsSound program
   pub shallow : AreShallow program.functions
   pub fits : FitsProgram (lowered program)
 
--- what never changes while a program's image runs
+-- all that never changes while its image runs and that its steps ask. It is IsProgramImage and
+-- IsWellMade, no funclet begins where a function does, flags are locals, and separators follow what
+-- runs `__finally` blocks. Local unwinds stay in their bodies, and only filters read their
+-- exception.
 pub record IsSoundImage (t : Functions) (fs : List Funclet) (program : LinearProgram)
     (p : ImagePlan)
     (q : Sites) : Type 0 where

@@ -1,4 +1,6 @@
 -- A step of linear code that turns of the machine match, and one that may ask a vectored handler.
+--
+-- The main definition: `MatchesOrAsks`.
 use Rattle.std.specs.Prelude.{◌≡◌, ◌⊎◌, ℕ, List, length}
 use Rattle.x64_machine.specs.Effect.{State}
 use Rattle.virtual_unwind.specs.CallerOf.{Functions}
@@ -28,6 +30,8 @@ pub record IsAskedAt (program : LinearProgram) (i : Instruction) (c : Configurat
   pub callee : IsCallee program f 2
   pub left : length store.activations ≡ activations_left i c
 
+-- turns of the machine match the step, or it asks a vectored handler. That one takes two arguments,
+-- and begins above all activations that the instruction leaves (`IsAskedAt`).
 abbrev pub MatchesOrAsks : Functions → List Funclet → LinearProgram → ImagePlan → Sites → State
     → Configuration → Instruction → Type 0
 MatchesOrAsks t fs program p q s c i =

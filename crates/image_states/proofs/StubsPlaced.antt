@@ -54,7 +54,7 @@ use Rattle.image_tables.proofs.Table.{text_is, rdata_is, blocks_inside}
 use Rattle.x64_templates.specs.Runs.{HasCode}
 use Rattle.x64_templates.specs.Placed.{IsCodeAt}
 use Rattle.match_stack.specs.AskLaws.{HandlersAreSmall}
-use Rattle.match_bodies.specs.ProgramImages.{service_of, stub_code, HasService, StubNames, HasBuiltIn, HasName, HasProgram, IsInImage, AddsHandlers}
+use Rattle.match_bodies.specs.ProgramImages.{host_service_of, stub_code, HasService, StubNames, HasBuiltIn, HasName, HasProgram, IsInImage, AddsHandlers}
 use Rattle.image_states.specs.Words.{modrm, LinearBody, LinearProgram, BodyName, body_of, instruction_in, functions_of, funclets_of, plan_of, sites_of, HasWholeImage}
 use Rattle.image_states.specs.Plans.{names_of}
 use Rattle.image_states.proofs.CalledServices.{called_is_imported}
@@ -373,15 +373,15 @@ module _ (program : LinearProgram) (c : HasWholeImage program) where
   -- ---- all that is called as a built-in function
 
   bare : (f : BuiltIn) (v : ImportedService) → StubNames' f → IsImported program v
-      → service_named (name_of v) ≡ Some (service_of f)
+      → service_named (name_of v) ≡ Some (host_service_of f)
       → (sites_of program).thunk f
       ≡ image_base + thunk_at (services_of program) s.text v
       → stub_code (plan_of program) f ((sites_of program).thunk f) ≡ []
       → HasBuiltIn' f
   bare f v names imported name here none =
       let at = image_base + thunk_at (services_of program) s.text v in
-      let h = serves program c v (service_of f) imported name in
-      let q = plain v (service_of f) at imported name h in
+      let h = serves program c v (host_service_of f) imported name in
+      let q = plain v (host_service_of f) at imported name h in
       let low = h.inside.low in
       let high = h.inside.high in
       let size = ap sizes none in
@@ -392,7 +392,7 @@ module _ (program : LinearProgram) (c : HasWholeImage program) where
             (subst (λ (n : ℕ). HasCode m n []) (sym here) q.0);
         names = names;
         service = subst (λ (n : ℕ). HasService (functions_of program) (funclets_of program) program
-            (plan_of program) (sites_of program) m n (service_of f)) to q.1;
+            (plan_of program) (sites_of program) m n (host_service_of f)) to q.1;
         inside = record {
           low = omega arith;
           high = omega arith;
@@ -403,7 +403,7 @@ module _ (program : LinearProgram) (c : HasWholeImage program) where
   stubbed : (f : BuiltIn) (r : Reg) (g : ℕ) → ((next to : ℕ) → size (address_in r next to) ≡ 7)
       → stub_code (plan_of program) f ((sites_of program).thunk f)
       ≡ address_in r ((sites_of program).thunk f + 7) ((plan_of program).handler g) ∷ []
-      → IsStub r (service_of f) ((sites_of program).thunk f) ((plan_of program).handler g)
+      → IsStub r (host_service_of f) ((sites_of program).thunk f) ((plan_of program).handler g)
       → StubNames' f → HasBuiltIn' f
   stubbed f r g seven same h names =
       let at = (sites_of program).thunk f in
@@ -414,7 +414,7 @@ module _ (program : LinearProgram) (c : HasWholeImage program) where
         stub = subst (HasCode m at) (sym same) h.code;
         names = names;
         service = subst (λ (n : ℕ). HasService (functions_of program) (funclets_of program) program
-            (plan_of program) (sites_of program) m n (service_of f)) to h.serves;
+            (plan_of program) (sites_of program) m n (host_service_of f)) to h.serves;
         inside = subst (λ (n : ℕ). IsInImage (functions_of program) (funclets_of program) program
             (plan_of program) (sites_of program) at n) to h.inside;
       }

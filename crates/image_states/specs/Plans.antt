@@ -34,7 +34,7 @@ use Rattle.x64_emit.specs.Linking.{address_or, stub_of, thunk_of}
 use Rattle.x64_emit.specs.declared.links.Thunks.{Thunks}
 use Rattle.image_link.specs.declared.routine.Entry.TheVariants as entries
 use Rattle.x64_emit.specs.declared.links.Stubs.{Stubs}
-use Rattle.image_link.specs.declared.handlers.Blocks.{Blocks}
+use Rattle.image_link.specs.declared.handlers.HandlerBlocks.{HandlerBlocks}
 use Rattle.image_link.specs.Handlers.{step_of}
 use Rattle.image_link.specs.Routines.{nothing}
 use Rattle.image_link.specs.Text.{thunks_at}
@@ -216,7 +216,7 @@ resumes program resumption b values saved =
 -- ---- the plan
 
 -- where the name thunks of functions are
-abbrev pub names_of : Blocks → Stubs
+abbrev pub names_of : HandlerBlocks → Stubs
 names_of b = record { first = b.first; step = step_of b; count = b.count }
 
 -- where the parts of a program's image are

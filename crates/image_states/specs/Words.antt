@@ -65,7 +65,7 @@ pub use Rattle.match_stack.specs.ImagePlan.{InCode, by_parent, parent_body, IsFu
 pub use Rattle.match_stack.specs.Stack.{FrameIsAt}
 pub use Rattle.match_bodies.specs.Callers.{FindsReturn, FindsOwed, Owed, owed_after, owed_by, owed_of, HasCaller}
 pub use Rattle.match_bodies.specs.CodeSites.{begin_of, making_size, code_of, cold_code_of, links_of, entry_code, frame_code, parent_base, keep_base, keep_argument, function_arguments, funclet_arguments}
-pub use Rattle.match_bodies.specs.ProgramImages.{HasProgram, IsInImage, service_of, HasService, FindsCallers, FindsCallersOutside, frame_of, frame_at_label, HasEnds, HasOneFrame, IsResumed, FramesAreWaiting, IsPlanned, LeavesAreWaiting, FuncletsBegin, HasAddresses, view_of, ReturnsThere, WorksAgain, SaysResumptions}
+pub use Rattle.match_bodies.specs.ProgramImages.{HasProgram, IsInImage, host_service_of, HasService, FindsCallers, FindsCallersOutside, frame_of, frame_at_label, HasEnds, HasOneFrame, IsResumed, FramesAreWaiting, IsPlanned, LeavesAreWaiting, FuncletsBegin, HasAddresses, view_of, ReturnsThere, WorksAgain, SaysResumptions}
 pub use Rattle.frame_layout.specs.declared.frame.FrameLayout.{FrameLayout}
 pub use Rattle.x64_emit.specs.Linking.{address_or, thunk_of}
 pub use Rattle.x64_emit.specs.Near.{IsInstructionNear, IsNear}

@@ -6,7 +6,7 @@ use Rattle.host_layout.specs.declared.imported.ImportedService.{ImportedService}
 use Rattle.host_layout.specs.declared.imported.ImportedService.TheVariants.{AddVectored, RemoveVectored}
 use Rattle.pe_write.specs.ImportTables.{slot_of}
 use Rattle.template_code.specs.Handlers.{name_thunk, adding_stub, removing_stub}
-use Rattle.image_tables.specs.Words.{Memory, Instr, IsExecutableAt, LinearProgram, FitsProgram, spelled, sizes, front_code, SiteView, routines, routines_bytes, all_apart_bytes, linked, Blocks, step_of, block_code, block_bytes, blocks_bytes, site_of, first_cursor, blocks_of, block_begin, image_base, HasText, address_or, services_of}
+use Rattle.image_tables.specs.Words.{Memory, Instr, IsExecutableAt, LinearProgram, FitsProgram, spelled, sizes, front_code, SiteView, routines, routines_bytes, all_apart_bytes, linked, HandlerBlocks, step_of, block_code, block_bytes, blocks_bytes, site_of, first_cursor, blocks_of, block_begin, image_base, HasText, address_or, services_of}
 use Rattle.image_link.specs.Handlers.{adding_at, removing_at, adding_code, removing_code, code_if, stub_size_if}
 use Rattle.image_link.proofs.Bounds.{all_apart_length}
 use Rattle.image_link.proofs.Blocks.{block_length, step_none, step_more, thunk_size, adding_size, size_if}
@@ -16,7 +16,7 @@ use Rattle.image_tables.proofs.CodeInMemory.{routines_length, piece_is_at, code_
 -- ---- a block among others
 
 -- the bytes before it and after it
-pub record BlockThere (imports : List ImportedService) (rdata : ℕ) (b : Blocks) (at : ℕ)
+pub record BlockThere (imports : List ImportedService) (rdata : ℕ) (b : HandlerBlocks) (at : ℕ)
     (fs : List ℕ) (i d : ℕ) : Type 0 where
   pub before : List ℕ
   pub after : List ℕ
@@ -24,7 +24,7 @@ pub record BlockThere (imports : List ImportedService) (rdata : ℕ) (b : Blocks
       ≡ before ++ (block_bytes imports rdata b (at + step_of b * i) (get_or fs i d) ++ after)
   pub long : length before ≡ step_of b * i
 
-module _ (imports : List ImportedService) (rdata : ℕ) (b : Blocks) where
+module _ (imports : List ImportedService) (rdata : ℕ) (b : HandlerBlocks) where
   block_among : (at : ℕ) (fs : List ℕ) (i d : ℕ) → i < length fs
       → BlockThere imports rdata b at fs i d
   block_among at [] i d lt = absurd (omega arith)

@@ -4,7 +4,7 @@ use Rattle.image_tables.specs.Words.{BuiltIn, LinearProgram, FitsProgram, routin
 use Rattle.host_layout.specs.declared.imported.ImportedService.TheVariants as imports
 use Rattle.c_operations.specs.declared.built_in.BuiltIn.TheVariants.{Put, Protect, RaiseException, Walk, AddVectored, RemoveVectored}
 use Rattle.image_tables.proofs.Lemmas.{routine_small, site_near, has_places, routines_near, services_few}
-use Rattle.image_link.specs.declared.handlers.Blocks.{Blocks}
+use Rattle.image_link.specs.declared.handlers.HandlerBlocks.{HandlerBlocks}
 use Rattle.image_link.specs.Handlers.{adding_of, removing_of}
 use Rattle.image_link.specs.Near.{AreBlocksNear}
 use Rattle.image_link.proofs.Front as front
@@ -14,7 +14,7 @@ use Rattle.image_tables.proofs.RowBounds.{below_at, label_below}
 use Rattle.image_tables.proofs.CodeInMemory.{IsThere, cold_small}
 use Rattle.image_tables.proofs.Templates.{AreLinksNear}
 
-thunk_near : (p : LinearProgram) (text : ℕ) (b : Blocks) (f : BuiltIn) → text ≤ MOST_IMAGE
+thunk_near : (p : LinearProgram) (text : ℕ) (b : HandlerBlocks) (f : BuiltIn) → text ≤ MOST_IMAGE
     → AreBlocksNear b → IsNear (thunk_of (thunks_at (services_of p) text b) f)
 thunk_near p text b Put lt near =
     front.thunk_near (services_of p) text imports.Put (services_few p) lt

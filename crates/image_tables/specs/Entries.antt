@@ -1,5 +1,7 @@
 -- The function table of a program's image, as it is read: an entry for each routine with a frame,
 -- and then one for each cold part of these.
+--
+-- The main definition: `entries`.
 use Rattle.std.specs.Prelude.{ℕ, Bool, true, false, if◌then◌else◌, List, [], ◌∷◌, ◌++◌, map, Option, Some, None}
 use Rattle.eh_tables.specs.declared.range.RuntimeFunction.{RuntimeFunction}
 use Rattle.eh_tables.specs.declared.scope.ScopeRecord.{ScopeRecord}
@@ -69,6 +71,7 @@ abbrev pub chained_of : SiteView → List Placed → List Entry
 chained_of s [] = []
 chained_of s (x ∷ xs) = chained_if s x x.routine.frame ++ chained_of s xs
 
+-- the entry of each that has a frame, with one scope record for each region of its body
 abbrev pub entries : LinearProgram → List Entry
 entries p = entries_of (site_of p) (placed p) ++ chained_of (site_of p) (placed p)
 

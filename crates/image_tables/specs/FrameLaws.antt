@@ -23,7 +23,7 @@ use Rattle.linear_code.specs.Program.{LinearProgram}
 use Rattle.frame_layout.specs.declared.frame.FrameLayout.{FrameLayout}
 use Rattle.x64_emit.specs.declared.entry.TheConstants.{CHECK_STACK_SIZE}
 use Rattle.x64_emit.specs.declared.handlers.TheConstants.{NAME_THUNK_SIZE, STUB_SIZE}
-use Rattle.image_link.specs.declared.handlers.Blocks.{Blocks}
+use Rattle.image_link.specs.declared.handlers.HandlerBlocks.{HandlerBlocks}
 use Rattle.image_link.specs.Handlers.{adding_at, removing_at}
 use Rattle.image_link.specs.Fits.{FitsProgram}
 use Rattle.image_link.specs.Linked.{text_begin, linked}
@@ -208,7 +208,8 @@ NameThunksAreFound =
     → FindsCaller p e s
 
 -- and that of a stub, where the blocks have it
-abbrev pub StubsAreFound : (has : Blocks → Bool) → (code : LinearProgram → ℕ → List FetchedInstr)
+abbrev pub StubsAreFound : (has : HandlerBlocks → Bool)
+    → (code : LinearProgram → ℕ → List FetchedInstr)
     → (begin : LinearProgram → ℕ → ℕ) → Type 0
 StubsAreFound has code begin =
     (p : LinearProgram) (f : ℕ) (e s : State) → FitsProgram p → HasRegions p

@@ -1,4 +1,6 @@
 -- What the linear code of every checked program is like, and so the function table of its image.
+--
+-- The main definitions: `BeginsPastPrologue`, `IsShaped`.
 use Rattle.std.specs.Prelude.{◌≡◌, ◌+◌, ◌<◌, length}
 use Rattle.std.specs.List.{AllByRecursion, count_by}
 use Rattle.eh_tables.specs.declared.scope.ScopeRecord.{ScopeRecord}

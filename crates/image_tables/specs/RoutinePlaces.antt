@@ -1,6 +1,8 @@
 -- The routines of a program where they are: its functions, and then its funclets, by their
 -- numbers; behind all of them their cold parts; and then the blocks of functions for vectored
 -- handlers, where there are any.
+--
+-- The main definition: `placed`.
 use Rattle.std.specs.Prelude.{ℕ, ◌+◌, ◌*◌, List, [], ◌∷◌, length}
 use Rattle.host_layout.specs.declared.imported.ImportedService.{ImportedService}
 use Rattle.linear_code.specs.declared.instruction.Instruction.{Instruction}
@@ -9,7 +11,7 @@ use Rattle.linear_code.specs.Program.{LinearProgram}
 use Rattle.template_code.specs.declared.layout.Layout.{Layout}
 use Rattle.template_code.specs.Template.{body_size}
 use Rattle.template_code.specs.ColdParts.{part_code}
-use Rattle.image_link.specs.declared.handlers.Blocks.{Blocks}
+use Rattle.image_link.specs.declared.handlers.HandlerBlocks.{HandlerBlocks}
 use Rattle.image_link.specs.Handlers.{name_at}
 use Rattle.image_link.specs.Routines.{RoutineView, routines}
 use Rattle.image_link.specs.Text.{SiteView, routine_size, cold_size, entry_size, thunk_at, check_stack_at}
@@ -106,7 +108,7 @@ abbrev pub cold_begin : LinearProgram → ℕ
 cold_begin p = first_cold (services_of p) p.globals (routines p)
 
 -- after the cold parts: the blocks of functions for vectored handlers, and that of a function
-abbrev pub blocks_of : LinearProgram → Blocks
+abbrev pub blocks_of : LinearProgram → HandlerBlocks
 blocks_of p = (site_of p).blocks
 
 abbrev pub block_begin : LinearProgram → ℕ → ℕ
@@ -131,5 +133,6 @@ first_cursor p = record {
   chained = chained_begin p;
 }
 
+-- the routines of a linked program, functions and then funclets, with where each begins
 abbrev pub placed : LinearProgram → List Placed
 placed p = placed_from (site_of p) (first_cursor p) (routines p)

@@ -1,4 +1,6 @@
 -- What the function table of every program is like.
+--
+-- The main definition: `HasShape`.
 use Rattle.std.specs.Prelude.{◌≡◌, ℕ, false, ◌+◌, ◌*◌, ◌<◌, ◌≤◌, length, map, slice_get, Some}
 use Rattle.std.specs.List.{count_by}
 use Rattle.eh_tables.specs.Tables.{Entry, holding}
@@ -22,6 +24,9 @@ pub record BeginsEntry (p : LinearProgram) (rva : ℕ) : Type 0 where
   pub held : holding rva (entries p) ≡ Some entry
   pub begins : entry.range.begin ≡ rva
 
+-- entries are in order, with a row for each region and no other. As many rows are without
+-- JumpTarget as there are `__finally` regions, and as many have HandlerAddress 1 as there are
+-- filters that always accept. Each funclet begins an entry.
 pub record HasShape (p : LinearProgram) : Type 0 where
   pub order : AreInOrder 0 (entries p)
   -- a row for each region, in their order

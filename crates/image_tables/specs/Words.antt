@@ -74,7 +74,7 @@ pub use Rattle.image_link.specs.declared.fragments.TheConstants.{CHAINED_SIZE}
 pub use Rattle.image_link.specs.Fits.{FitsProgram, function_bodies, funclet_bodies}
 pub use Rattle.image_link.specs.Linked.{text_begin, linked, first}
 pub use Rattle.image_link.specs.Services.{services_of, is_among}
-pub use Rattle.image_link.specs.declared.handlers.Blocks.{Blocks}
+pub use Rattle.image_link.specs.declared.handlers.HandlerBlocks.{HandlerBlocks}
 pub use Rattle.image_link.specs.Handlers.{step_of, block_code, blocks_bytes}
 unfoldable pub use Rattle.image_link.specs.Handlers.{block_bytes}
 pub use Rattle.image_link.specs.Near.{IsEntryNear, IsFrameNear, IsRoutineNear}

@@ -1,4 +1,10 @@
 -- Linear code of programs, wherever it lies in memory.
+--
+-- `Region`: the instructions of a `__try` body, from a begin up to an end, with what handles it.
+-- That is a `__finally` block, a filter with its target, or a target that always takes over
+-- (Microsoft x64 ABI, "Language-specific handler").
+--
+-- The main definition: `LinearProgram`.
 use Rattle.std.specs.Prelude.{ℕ, ◌+◌, List, map, Option}
 use Rattle.linear_code.specs.declared.instruction.Instruction.{Instruction}
 use Rattle.linear_code.specs.declared.program.Region.{Region}
@@ -43,6 +49,8 @@ pub record LinearFunclet : Type 0 where
   pub parent : Option ℕ
   pub body : LinearBody
 
+-- bodies of functions, filters and `__finally` blocks, each with its instructions, its regions, and
+-- how many locals and temporaries it uses. A label is the number of an instruction in its body.
 pub record LinearProgram : Type 0 where
   pub globals : List ℕ
   pub main : ℕ

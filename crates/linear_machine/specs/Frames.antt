@@ -1,4 +1,6 @@
 -- What a run of linear code consists of: the body that runs, and what waits below it.
+--
+-- The main definitions: `Configuration`, `functions_in`.
 use Rattle.std.specs.Prelude.{ℕ, ◌+◌, Bool, true, false, nat_eq, nat_le, nat_lt, if◌then◌else◌, List, [], ◌∷◌, ◌++◌, length, drop, take, slice_get, slice_index, slice_set, Option, Some, None}
 use Rattle.seh_num.specs.declared.event.Event.{Event}
 use Rattle.flat_memory.specs.Memory.{Memory}
@@ -111,7 +113,8 @@ pub record Store : Type 0 where
   pub activations : List (List ℕ)
   pub vectored : List ℕ
 
--- the body that runs; what waits, innermost first; the store; the events so far
+-- the body that runs, what waits below it on one list, innermost first (bodies, suspended searches,
+-- suspended unwindings), the locals of the live activations with the memory, and the events so far
 pub record Configuration : Type 0 where
   pub frame : Frame
   pub below : List Item

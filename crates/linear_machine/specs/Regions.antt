@@ -1,5 +1,7 @@
 -- The regions around an instruction, and the handlers that a search comes to (Microsoft x64 ABI,
 -- "Language-specific handler").
+--
+-- The main definitions: `handlers`, `stops`.
 use Rattle.std.specs.Prelude.{ℕ, Bool, ◌&&◌, ◌||◌, false, nat_eq, nat_le, nat_lt, List, [], ◌∷◌, ◌++◌, length, filter, Option, Some, None}
 use Rattle.linear_code.specs.declared.program.Region.{Region}
 use Rattle.linear_code.specs.declared.program.RegionKind.{RegionKind}

@@ -1,4 +1,6 @@
 -- Runs of linear code.
+--
+-- The main definition: `exec`.
 use Rattle.std.specs.Prelude.{ℕ, zero, suc, List, [], ◌∷◌, nat_eq, if◌then◌else◌, slice_get, ℤ, Option, Some, None}
 use Rattle.seh_num.specs.declared.width.Width.TheVariants.{W64}
 use Rattle.seh_num.specs.Widths.{wrapped}
@@ -19,7 +21,8 @@ instruction_in (Some b) label = slice_get b.code label
 abbrev pub instruction_at : LinearProgram → Configuration → Option Instruction
 instruction_at program c = instruction_in (body_of program c.frame.body) c.frame.next
 
--- what is seen of at most n turns, an instruction each
+-- what is seen from a configuration within n turns, an instruction each: the events so far, an end,
+-- or a place from which no rule leads on
 unfoldable pub exec : LinearProgram → ℕ → Next
 exec program zero c = Running c.events
 exec program (suc n) c =

@@ -1,5 +1,11 @@
 -- The code of expressions. The value comes to the temporary of a number, and no temporary before it
 -- is changed.
+--
+-- `expression_code`, `statement_code`, `statement_regions`, `statement_funclets`: the instructions,
+-- regions and funclets of a part that is placed at an instruction, by recursion on the tree.
+-- `lowered program` is the linear code of the whole.
+--
+-- The main definition: `stacked_code`.
 use Rattle.std.specs.Prelude.{ℕ, suc, ◌+◌, List, [], ◌∷◌, ◌++◌, Option, None, Some}
 use Rattle.seh_num.specs.declared.width.Width.{Width}
 use Rattle.seh_num.specs.declared.width.Width.TheVariants.{W8, W16, W32, W64}

@@ -1,4 +1,6 @@
 -- What is claimed of whole programs and their linear code.
+--
+-- The main definition: `Follows`.
 use Rattle.std.specs.Prelude.{◌≡◌, ◌≤◌, ℕ, ◌+◌, ◌*◌, ℤ, List, Some}
 use Rattle.seh_num.specs.declared.event.Event.{Event}
 use Rattle.c_checked.specs.Program.{Program}
@@ -10,7 +12,9 @@ use Rattle.linear_machine.specs.Frames.{Stuck}
 use Rattle.linear_machine.specs.Run.{seen, linear_meaning}
 use Rattle.lowering_follows.specs.StatementPlaces.{IsLinked}
 
--- from so many turns on the linear code has shown the events of n steps, and has ended as they end
+-- from 16 n + 6 turns on the linear code has shown the events of n steps, and has ended as they
+-- end. `NoMore` with so many steps per turn: m turns show no event and no end that (m + 1) times as
+-- many steps don't show, and no run is stuck
 abbrev pub Follows : Program → LinearProgram → Type 0
 Follows program linear =
     (arg : ℤ) (n turns : ℕ) → 16 * n + 6 ≤ turns

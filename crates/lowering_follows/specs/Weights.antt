@@ -1,5 +1,10 @@
 -- How many steps of the meaning an expression or a statement may begin without a turn of its linear
 -- code.
+--
+-- `expression_weight`, `statement_weight`: how many steps of the meaning a part begins at most,
+-- each of which may count before a turn is made. Of each function take the sum of what its body
+-- begins so and of what its activation counts above 1. `steps_per_turn_of program` is twice the
+-- greatest such sum, and 4 more.
 use Rattle.std.specs.Prelude.{ℕ, ◌+◌, List, [], ◌∷◌, Option, None, Some}
 use Rattle.c_checked.specs.Expression as nodes
 use Rattle.c_checked.specs.Expression.{Expression, On, Node, Lvalue, Local, Global, Stacked, Indirection, Element, Arguments, Done, Next}

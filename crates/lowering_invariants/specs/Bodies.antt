@@ -1,4 +1,7 @@
 -- What the regions and the calls of a body name.
+--
+-- `IsWhole`, `HaveRoom`, `AllReturnsStayInRegions`: what bodies name is there and theirs; their
+-- slots are enough; a call and the instruction after it are inside the same regions.
 use Rattle.std.specs.Prelude.{◌≡◌, ℕ, ◌+◌, ◌<◌, ◌≤◌, List, ◌++◌, replicate, slice_get, Option, Some, None}
 use Rattle.std.specs.List.{AllByRecursion}
 use Rattle.c_operations.specs.declared.built_in.BuiltIn.TheVariants.{AddVectored, RemoveVectored}

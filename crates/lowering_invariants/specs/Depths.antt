@@ -1,4 +1,6 @@
 -- How many temporaries a body holds at each of its instructions.
+--
+-- The main definition: `HasDepths`.
 use Rattle.std.specs.Prelude.{◌≡◌, ℕ, ◌+◌, ◌-◌, List, [], ◌∷◌, length, get_or, Option, Some, None}
 use Rattle.linear_code.specs.declared.slot.Slot.{Slot}
 use Rattle.linear_code.specs.declared.slot.Slot.TheVariants.{Local, Temporary}

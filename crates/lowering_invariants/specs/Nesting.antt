@@ -1,5 +1,10 @@
 -- How deep expressions are nested in a checked program, and how many parameters of an exception it
 -- names.
+--
+-- `expression_nesting`, `most_of`, `IsShallow`: how many expressions are around the innermost one,
+-- the largest such number in statements, and a function within the limits. These are 64 of
+-- expressions, 65 blocks of `__except` and `__finally` inside one another and one declared array,
+-- and no parameter of an exception after the fifteenth (Windows headers, `winnt.h`).
 use Rattle.std.specs.Prelude.{ℕ, suc, ◌+◌, ◌≤◌, max, List, [], ◌∷◌, Option, Some, None}
 use Rattle.seh_num.specs.declared.size.TheConstants.{EXCEPTION_MAXIMUM_PARAMETERS}
 use Rattle.c_operations.specs.declared.field.Field.{Field}

@@ -1,4 +1,6 @@
 -- Locals that stand in registers, and code that leaves them alone.
+--
+-- The main definition: `SparesRegisters`.
 use Rattle.std.specs.Prelude.{◌≡◌, ℕ, ◌<◌, ◌≤◌, List, false, nat_eq, length, slice_get, Some}
 use Rattle.std.specs.List.{AllByRecursion, list_any}
 use Rattle.std.specs.List.Sorted.{IsStrictlyIncreasing}

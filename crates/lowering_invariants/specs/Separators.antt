@@ -3,6 +3,8 @@
 -- A return address is never the place of an epilogue, nor where a region begins or ends: the
 -- template of a call keeps the result after it (crate template_code, `call_code`), and after those
 -- that run `__finally` blocks, which end with their calls, is an instruction that does nothing.
+--
+-- The main definition: `HasSeparators`.
 use Rattle.std.specs.Prelude.{◌≡◌, ℕ, ◌+◌, ◌<◌, Bool, true, false, length, slice_get, Some}
 use Rattle.std.specs.List.{AllByRecursion}
 use Rattle.c_operations.specs.declared.operation.Operation.{Operation}
@@ -81,6 +83,13 @@ pub record LeadsForth (b : LinearBody) (label to : ℕ) : Type 0 where
   pub own : is_target instruction ≡ true
   pub inside : AllByRecursion (HoldsStrictly label to) b.regions
 
+-- of a body, what keeps calls, regions and places to land apart. A region holds a call exactly
+-- where it holds the instruction after it. After what runs `__finally` blocks a separator comes. No
+-- region is empty, and after each comes an instruction. A function begins with a separator, before
+-- its regions. Each `__except` block begins with its landing, where no region begins, and none ends
+-- but that of its own `__try` (`LandsInside`). A local unwind leads forth, to a separator or to the
+-- end of its function (`is_target`), where no region begins or ends. Each region that holds its
+-- target holds the local unwind too (`HoldsStrictly`, `LeadsForth`).
 pub record HasSeparators (name : BodyName) (b : LinearBody) : Type 0 where
   -- a call returns to its body, and no region begins or ends before the instruction there
   pub returns : (label : ℕ) (i : Instruction) → slice_get b.code label ≡ Some i → is_call i ≡ true

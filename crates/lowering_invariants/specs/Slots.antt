@@ -1,4 +1,6 @@
 -- Linear code whose slots and arguments are within bounds.
+--
+-- The main definition: `IsSmall`.
 use Rattle.std.specs.Prelude.{ℕ, ◌+◌, ◌*◌, ◌<◌, ◌≤◌, length, Option, Some, None}
 use Rattle.std.specs.List.{AllByRecursion}
 use Rattle.seh_num.specs.declared.limit.TheConstants.{MOST_PARAMETERS, MOST_GLOBALS}
@@ -65,7 +67,8 @@ pub record IsSmallFunction (f : LinearFunction) : Type 0 where
   pub locals : f.body.locals ≤ 540 + 1024 * f.surplus
   pub body : IsSmallBody f.body
 
--- within the limits of frames
+-- each body of linear code uses at most 460 words beside the locals, a function with them at most
+-- 1,000, and 1,024 more for each 1 that it weighs above 1. What its instructions name is there.
 pub record IsSmall (p : LinearProgram) : Type 0 where
   pub globals : length p.globals ≤ MOST_GLOBALS
   pub main : p.main < length p.functions

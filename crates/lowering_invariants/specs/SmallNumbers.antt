@@ -1,4 +1,6 @@
 -- Every number that is kept is one of 64 bits.
+--
+-- The main definition: `HasSmallNumbers`.
 use Rattle.std.specs.Prelude.{ℕ, ◌+◌, ◌^◌, ◌<◌, ◌≤◌, Bool, List, [], ◌∷◌, Option, Some, None}
 use Rattle.std.specs.List.{AllByRecursion}
 use Rattle.host_layout.specs.declared.range.TheConstants.{DATA_STACK_START}

@@ -1,4 +1,6 @@
 -- What a turn of linear code leads to, whatever is done from there on.
+--
+-- The main definition: `IsReached`.
 use Rattle.std.specs.Prelude.{◌≡◌, ℕ, zero, suc, ℤ, slice_get, Some}
 use Rattle.linear_code.specs.declared.instruction.Instruction.{Instruction}
 use Rattle.linear_code.specs.Program.{LinearProgram, LinearFunction}

@@ -1,4 +1,6 @@
 -- What waits below a body that runs, and where.
+--
+-- The main definition: `IsStacked`.
 use Rattle.std.specs.Prelude.{◌≡◌, ◌⊎◌, ℕ, List, [], ◌∷◌, length, Option, Some, None}
 use Rattle.std.specs.List.{AllByRecursion}
 use Rattle.c_operations.specs.declared.built_in.BuiltIn.TheVariants.{RaiseException, AddVectored}
@@ -161,7 +163,12 @@ module _ (program : LinearProgram) where
   abbrev pub CanBeAsked : List ℕ → Type 0
   CanBeAsked fs = AllByRecursion IsAskable fs
 
-  -- what runs, what waits below it, and the vectored handlers
+  -- each body that waits is at a call, a fault or a local unwind. Below a function is what called
+  -- it, or the search that asks it as a vectored handler, and below a filter the search that asks
+  -- it. Below a `__finally` block is the unwinding that runs it or the body that called it.
+  -- Handlers and targets are of regions of bodies that wait. Each vectored handler is a function
+  -- that takes a code and flags, and that a body puts among them (`CanBeAsked`). It begins with one
+  -- separator more than it counts in the depth (`IsVectoredCallee`).
   pub record IsStacked (c : Configuration) : Type 0 where
     pub above : IsAbove c.frame.exception c.frame.activation c.frame.body c.below
     pub below : AreWaiting c.below

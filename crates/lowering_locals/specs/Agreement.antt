@@ -1,5 +1,7 @@
 -- The configuration that linear code is in, and the one that a machine shows that doesn't zero the
 -- locals of a function that begins.
+--
+-- The main definitions: `marks`, `AgreeOnSet`.
 use Rattle.std.specs.Prelude.{◌≡◌, ℕ, ◌+◌, ◌-◌, nat_lt, false, List, length, slice_get, ℤ, Some}
 use Rattle.seh_num.specs.declared.event.Event.{Event}
 use Rattle.std.specs.List.{AllByRecursion}
@@ -20,6 +22,9 @@ use Rattle.lowering_locals.specs.UnsetLaws.{called_with, started_with}
 module _ (program : LinearProgram) where
   -- linear code comes to the one, and the other is alike; its locals are numbers of 64 bits
   pub record AgreeOnSet (c d : Configuration) : Type 0 where
+    -- which locals of each activation have been set: arguments of a function that begins, by a call
+    -- or as a vectored handler, what an instruction writes, the flag of a `__finally` block that
+    -- begins
     pub marks : Marks
     pub marked : IsMarked program c marks
     pub alike : AreAlike marks c d

@@ -1,4 +1,6 @@
 -- Configurations that differ in locals alone that haven't been set.
+--
+-- The main definition: `AreAlike`.
 use Rattle.std.specs.Prelude.{◌≡◌, ℕ, ◌+◌, Bool, true, false, List, [], ◌∷◌, ◌++◌, length, None}
 use Rattle.seh_num.specs.declared.event.Event.{Event}
 use Rattle.linear_code.specs.Program.{LinearProgram, LinearFunction}

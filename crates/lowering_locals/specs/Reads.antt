@@ -1,4 +1,6 @@
 -- Programs that read no local before it has been set.
+--
+-- The main definition: `ReadsNoUnset`.
 use Rattle.std.specs.Prelude.{◌≡◌, ℕ, zero, suc, Bool, true, false, [], ◌∷◌, length, slice_get, ℤ, Some}
 use Rattle.linear_code.specs.declared.slot.Slot.{Slot}
 use Rattle.linear_code.specs.declared.slot.Slot.TheVariants.{Local, Temporary}

@@ -1,4 +1,6 @@
 -- At each instruction of each body, locals that have been set whenever a run comes there.
+--
+-- The main definition: `IsSetMap`.
 use Rattle.std.specs.Prelude.{◌≡◌, ℕ, ◌+◌, ◌<◌, Bool, true, false, slice_get, Option, Some, None}
 use Rattle.std.specs.List.{AllByRecursion}
 use Rattle.linear_code.specs.declared.slot.Slot.{Slot}
@@ -99,8 +101,10 @@ module _ (program : LinearProgram) (sets : BodyName → ℕ → SeenNames) where
     pub regions : (label : ℕ) → AllByRecursion (λ (r : Region). holds label r ≡ true
         → Guards name label r.kind) b.regions
 
-  -- where a function begins, its parameters have been set; the flag of a block is one of its
-  -- function's locals
+  -- what `sets` names at a place in a body has been set whenever a run comes there. That is so
+  -- since no instruction, region or funclet leads to a place with more names than it had and sets.
+  -- What is read at a place is named there. Where a function begins, its parameters have been set;
+  -- the flag of a block is one of its function's locals.
   pub record IsSetMap : Type 0 where
     pub begins : (f : ℕ) (function : LinearFunction) → slice_get program.functions f ≡ Some function
         → IsPart (sets (FunctionBody f) 0) (first_seen function.parameters None)

@@ -24,7 +24,8 @@ unmarked_are frame body (suc n) x = ap (unshared_if (is_outside frame body x) x)
     (unmarked_are frame body n (x + 1))
 
 pub registers_are : (f : Function) (count : ℕ) (marks new : List Bool) (chosen : List ℕ)
-    → count ≡ own_locals f → marks ≡ replicate count false → new ≡ with_all_shared f.body (with_kept f.data_frame marks)
+    → count ≡ own_locals f → marks ≡ replicate count false
+    → new ≡ with_all_shared f.body (with_kept f.data_frame marks)
     → chosen ≡ take 7 (unmarked new 0) → chosen ≡ register_locals f
 registers_are f count marks new chosen own m n c =
     c ∙ ap (λ bs. take 7 (unmarked bs 0))

@@ -92,8 +92,8 @@ abbrev mutual
   with_statement Leave marks = marks
   with_statement (TryExcept body filter block) marks =
       with_statements block (with_filter filter (with_statements body marks))
-  with_statement (TryFinally body k last) marks =
-      with_statements last (with_statements body marks)
+  with_statement (TryFinally body k finally_block) marks =
+      with_statements finally_block (with_statements body marks)
 
   pub with_statements : Statements → List Bool → List Bool
   with_statements Empty marks = marks
@@ -127,8 +127,8 @@ abbrev mutual
   with_shared Leave marks = marks
   with_shared (TryExcept body filter block) marks =
       with_all_shared block (with_filter filter (with_all_shared body marks))
-  with_shared (TryFinally body k last) marks =
-      with_statements last (with_all_shared body marks)
+  with_shared (TryFinally body k finally_block) marks =
+      with_statements finally_block (with_all_shared body marks)
 
   pub with_all_shared : Statements → List Bool → List Bool
   with_all_shared Empty marks = marks

@@ -1,4 +1,8 @@
 -- A part of a checked program names a local.
+--
+-- `statements_name`, `statements_share`: statements name a local; a filter or a `__finally` block
+-- in them names it. A declaration names what it declares, and the base of what stands on the data
+-- stack.
 use Rattle.std.specs.Prelude.{ℕ, Bool, false, ◌||◌, nat_eq, List, [], ◌∷◌, Option, Some, None}
 use Rattle.c_checked.specs.declared.statement.StackedVariable.{StackedVariable}
 use Rattle.c_checked.specs.Expression as nodes
@@ -86,7 +90,8 @@ abbrev mutual
   statement_names x Leave = false
   statement_names x (TryExcept body filter block) =
       statements_name x body || (filter_names x filter || statements_name x block)
-  statement_names x (TryFinally body k last) = statements_name x body || statements_name x last
+  statement_names x (TryFinally body k finally_block) =
+      statements_name x body || statements_name x finally_block
 
   pub statements_name : ℕ → Statements → Bool
   statements_name x Empty = false

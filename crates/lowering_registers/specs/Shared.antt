@@ -1,5 +1,7 @@
 -- Which locals of a function stand in registers: the first seven that no filter and no `__finally`
 -- block of it names, without those of variables on the data stack and of its base.
+--
+-- The main definition: `register_locals`.
 use Rattle.std.specs.Prelude.{ℕ, zero, suc, ◌+◌, Bool, true, false, ◌||◌, nat_eq, List, [], ◌∷◌, length, take, Option, Some, None}
 use Rattle.c_checked.specs.Statement.{Declared, Statement, Declare, Block, Evaluate, If, IfElse, For, DoWhile, Return, Break, Continue, Leave, TryExcept, TryFinally, Statements, Empty, Then}
 use Rattle.c_checked.specs.declared.function.StackedParameter.{StackedParameter}
@@ -32,8 +34,8 @@ abbrev mutual
   statement_shares x Leave = false
   statement_shares x (TryExcept body filter block) =
       statements_share x body || (filter_names x filter || statements_share x block)
-  statement_shares x (TryFinally body k last) =
-      statements_share x body || statements_name x last
+  statement_shares x (TryFinally body k finally_block) =
+      statements_share x body || statements_name x finally_block
 
   pub statements_share : ℕ → Statements → Bool
   statements_share x Empty = false
@@ -63,7 +65,9 @@ unshared frame body x (suc n) =
 abbrev pub own_locals : Function → ℕ
 own_locals f = length f.parameters + length f.locals
 
--- RBX, RSI, RDI and R12 to R15 are those that a function keeps for its caller and that no template
--- needs (Microsoft x64 ABI, "x64 calling convention", callee-saved registers)
+-- the first seven of a function's parameters and locals, in the order of their declarations, that
+-- aren't shared, whose variables don't stand on the data stack, and that aren't its base
+-- (`is_kept`) (own). They may stand in registers (Microsoft x64 ABI, "Callee-saved registers").
+-- Laws: they are at most seven, in rising order, and the first such ones.
 abbrev pub register_locals : Function → List ℕ
 register_locals f = take 7 (unshared f.data_frame f.body 0 (own_locals f))

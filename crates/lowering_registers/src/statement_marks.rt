@@ -137,9 +137,13 @@ fn mark_loop_or_try(marks: &mut Vec<bool>, stmt: &Stmt)
             mark_filter(marks, filter);
             mark_statements(marks, handler)
         }
-        Stmt::TryFinally { body, last, .. } => {
+        Stmt::TryFinally {
+            body,
+            finally_block,
+            ..
+        } => {
             mark_statements(marks, body);
-            mark_statements(marks, last)
+            mark_statements(marks, finally_block)
         }
         _ => unreachable!(),
     }
@@ -229,9 +233,13 @@ fn mark_shared_of_try(marks: &mut Vec<bool>, stmt: &Stmt)
             mark_filter(marks, filter);
             mark_all_shared(marks, handler)
         }
-        Stmt::TryFinally { body, last, .. } => {
+        Stmt::TryFinally {
+            body,
+            finally_block,
+            ..
+        } => {
             mark_all_shared(marks, body);
-            mark_statements(marks, last)
+            mark_statements(marks, finally_block)
         }
         _ => unreachable!(),
     }

@@ -31,7 +31,7 @@ has_several n = is_branch_or_assignment n
 -- a `__try` (Microsoft C reference, "try-except statement", "try-finally statement")
 abbrev pub is_try : Statement → Bool
 is_try (TryExcept body filter block) = true
-is_try (TryFinally body k last) = true
+is_try (TryFinally body k finally_block) = true
 is_try s = false
 
 -- a loop (C11, 6.8.5) or a `__try`

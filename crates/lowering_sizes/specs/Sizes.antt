@@ -1,4 +1,7 @@
 -- How many instructions a part of a program is lowered to.
+--
+-- `expression_size`, `statement_size`: how many instructions a part is lowered to; no size depends
+-- on what is around the part.
 use Rattle.std.specs.Prelude.{ℕ, ◌+◌, max, List, [], ◌∷◌, Option, None, Some}
 use Rattle.c_operations.specs.declared.operation.Pure.{Pure}
 use Rattle.c_operations.specs.declared.operation.Pure.TheVariants.{First}
@@ -140,7 +143,7 @@ abbrev mutual
   statement_size Continue = 2
   statement_size Leave = 1
   statement_size (TryExcept body filter block) = statements_size body + (3 + statements_size block)
-  statement_size (TryFinally body k last) = statements_size body + 3
+  statement_size (TryFinally body k finally_block) = statements_size body + 3
 
   pub statements_size : Statements → ℕ
   statements_size Empty = 0
@@ -176,7 +179,8 @@ abbrev mutual
   statement_notes Leave = 0
   statement_notes (TryExcept body filter block) =
       max (statements_notes body) (1 + statements_notes block)
-  statement_notes (TryFinally body k last) = max (statements_notes body) (1 + statements_notes last)
+  statement_notes (TryFinally body k finally_block) =
+      max (statements_notes body) (1 + statements_notes finally_block)
 
   pub statements_notes : Statements → ℕ
   statements_notes Empty = 0

@@ -149,8 +149,12 @@ fn statement_notes(stmt: &Stmt) -> Result<u64, AllocError>
             let inner = sum(1, statements_notes(handler)?)?;
             Ok(larger(statements_notes(body)?, inner))
         }
-        Stmt::TryFinally { body, last, .. } => {
-            let inner = sum(1, statements_notes(last)?)?;
+        Stmt::TryFinally {
+            body,
+            finally_block,
+            ..
+        } => {
+            let inner = sum(1, statements_notes(finally_block)?)?;
             Ok(larger(statements_notes(body)?, inner))
         }
     }

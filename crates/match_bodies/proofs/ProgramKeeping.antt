@@ -1,6 +1,6 @@
 -- The program stays in a memory in which no byte of the image has changed.
 use Rattle.std.proofs.Common.{◌≡◌, ℕ, ◌+◌, ◌<◌, ◌≤◌, true, Some, List, [], ◌∷◌, length, sym, ap, subst, ◌∙◌, arith}
-use Rattle.match_bodies.specs.Words.{Service, address_of, Protection, is_readable, is_writable, Memory, Functions, Funclet, Instr, is_hidden, LinearProgram, LinearBody, BodyName, body_of, spelled, sizes, thunk, check_stack, code_from, body_size, HasCode, HasThunk, ImagePlan, Sites, links_of, begin_of, entry_code, code_of, cold_code_of, service_of, HasService, HasBuiltIn, HasName, stub_code, name_thunk, BuiltIn, HasProgram, IsProgramImage, IMAGE_BASE, IMAGE_RANGE_END, IsInImage}
+use Rattle.match_bodies.specs.Words.{Service, address_of, Protection, is_readable, is_writable, Memory, Functions, Funclet, Instr, is_hidden, LinearProgram, LinearBody, BodyName, body_of, spelled, sizes, thunk, check_stack, code_from, body_size, HasCode, HasThunk, ImagePlan, Sites, links_of, begin_of, entry_code, code_of, cold_code_of, host_service_of, HasService, HasBuiltIn, HasName, stub_code, name_thunk, BuiltIn, HasProgram, IsProgramImage, IMAGE_BASE, IMAGE_RANGE_END, IsInImage}
 use Rattle.host_layout.specs.declared.service.Service.TheVariants as services
 use Rattle.match_bodies.proofs.Lemmas.{sizes_spelled, sizes_append, body_sizes, same_number}
 use Rattle.template_code.specs.ColdParts.{hot_code, cold_code}
@@ -99,7 +99,8 @@ module _ (t : Functions) (fs : List Funclet) (program : LinearProgram) (p : Imag
           (there m m' (q.thunk f) (q.thunk f + sizes (stub_code p f (q.thunk f))) keeps h.inside)
           h.stub;
       names = h.names;
-      service = service_there m m' (q.thunk f + sizes (stub_code p f (q.thunk f))) (service_of f)
+      service = service_there m m' (q.thunk f + sizes (stub_code p f (q.thunk f)))
+          (host_service_of f)
           keeps h.service;
       inside = h.inside;
     }

@@ -5,7 +5,7 @@ use Rattle.std.specs.Prelude.{slice_get}
 use Rattle.std.proofs.lemmas.Bool.{ne_eqb}
 use Rattle.std.proofs.lemmas.Option.{slice_get_cases}
 use Rattle.template_code.specs.ColdParts.{hot_code}
-use Rattle.match_bodies.specs.Words.{W64, Event, Service, address_of, Protection, is_readable, is_writable, Memory, executable, may_write, Rsp, Instr, leading, chosen, State, BuiltIn, Functions, distance, Funclet, arrivals, LinearProgram, LinearFunclet, FuncletBody, LinearBody, BodyName, body_of, spelled, thunk, check_stack, code_from, Steps, Reaches, RunsInside, ReachesInside, Enters, HasCode, HasThunk, ImagePlan, AllKeep, Comes, Sites, begin_of, making_size, frame_code, arguments_code, entry_code, links_of, code_of, cold_code_of, service_of, stub_code, sizes, name_thunk, HasService, HasBuiltIn, HasProgram, IsProgramImage, funclet_body, takes_frame, Runs, IsLive}
+use Rattle.match_bodies.specs.Words.{W64, Event, Service, address_of, Protection, is_readable, is_writable, Memory, executable, may_write, Rsp, Instr, leading, chosen, State, BuiltIn, Functions, distance, Funclet, arrivals, LinearProgram, LinearFunclet, FuncletBody, LinearBody, BodyName, body_of, spelled, thunk, check_stack, code_from, Steps, Reaches, RunsInside, ReachesInside, Enters, HasCode, HasThunk, ImagePlan, AllKeep, Comes, Sites, begin_of, making_size, frame_code, arguments_code, entry_code, links_of, code_of, cold_code_of, host_service_of, stub_code, sizes, name_thunk, HasService, HasBuiltIn, HasProgram, IsProgramImage, funclet_body, takes_frame, Runs, IsLive}
 use Rattle.host_layout.specs.declared.service.Service.TheVariants as services
 use Rattle.x64_instr.specs.declared.operand.RegisterOrMemory.TheVariants as places
 use Rattle.x64_instr.specs.declared.operand.Operand.TheVariants as operands
@@ -72,7 +72,8 @@ module _ (t : Functions) (fs : List Funclet) (program : LinearProgram) (p : Imag
     built_in_kept m m' f k h = record {
       stub = code_kept m m' (q.thunk f) (stub_code p f (q.thunk f)) k h.stub;
       names = h.names;
-      service = service_kept m m' (q.thunk f + sizes (stub_code p f (q.thunk f))) (service_of f) k
+      service = service_kept m m' (q.thunk f + sizes (stub_code p f (q.thunk f)))
+          (host_service_of f) k
           h.service;
       inside = h.inside;
     }

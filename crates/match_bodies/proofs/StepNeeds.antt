@@ -4,7 +4,7 @@ use Rattle.linear_machine.specs.Frames.{VectoredAt, FilterOf}
 use Rattle.std.proofs.Common.{◌≡◌, ℕ, zero, suc, ◌+◌, ◌≤◌, Bool, true, false, Option, Some, None, List, [], ◌∷◌, ◌++◌, length, refl, sym, ap, subst, ◌∙◌, arith, length-append}
 use Rattle.std.specs.Prelude.{◌<◌, replicate, slice_get}
 use Rattle.std.proofs.lemmas.Option.{slice_get_within}
-use Rattle.match_bodies.specs.Words.{State, Instruction, LinearProgram, LinearBody, BodyName, FunctionBody, FuncletBody, body_of, Frame, Item, Waits, Searches, Unwinds, Configuration, instruction_at, Activation, activations_below, IsFuncletPlan, OwnerHasFrame, IsWellMade, IsKnown, Setting, RepresentsAt, LinearFunction, instruction_in, IsAt, IsCalledBy, AreWaiting, IsReady, AreAskable}
+use Rattle.match_bodies.specs.Words.{State, Instruction, LinearProgram, LinearBody, BodyName, FunctionBody, FuncletBody, body_of, Frame, Item, Waits, Searches, Unwinds, Configuration, instruction_at, Activation, activations_below, IsFuncletPlan, OwnerHasFrame, IsWellMade, IsKnown, Setting, RepresentsAt, LinearFunction, instruction_in, IsAt, IsCalledBy, AreWaiting, IsReady, AreListable}
 use Rattle.linear_code.specs.declared.instruction.Instruction.TheVariants as instructions
 use Rattle.linear_machine.specs.Frames as linear
 use Rattle.linear_code.specs.Program.{weight, depth_weight}
@@ -268,7 +268,7 @@ handler_weighs program f h =
 
 -- the vectored handlers of a configuration may be asked
 pub askable_here : (program : LinearProgram) (fs : List ℕ) → IsWhole program
-    → CanBeAsked program fs → AreAskable program fs
+    → CanBeAsked program fs → AreListable program fs
 askable_here program [] whole h = tt
 askable_here program (f ∷ fs) whole h = (
   record {

@@ -1,4 +1,6 @@
 -- The body that runs, where an instruction of linear code begins.
+--
+-- The main definitions: `InBody`, `RepresentsAt`, `turns_left`.
 use Rattle.std.specs.Prelude.{◌≡◌, ℕ, ◌+◌, ◌*◌, ◌≤◌, Bool, true, false, List, [], ◌∷◌, length, drop, Some, Ok}
 use Rattle.host_layout.specs.declared.range.TheConstants.{STACK_END}
 use Rattle.x64_instr.specs.declared.register.Reg.TheVariants.{Rax, Rsp}

@@ -1,4 +1,6 @@
 -- Where a walk finds the caller of code that runs.
+--
+-- The main definitions: `Owed`, `FindsOwed`, `FindsReturn`, `owed_opening`, `owed_pops`.
 use Rattle.std.specs.Prelude.{◌≡◌, ℕ, ◌+◌, ◌^◌, ◌<◌, ◌≤◌, Bool, true, false, List, [], ◌∷◌, length, slice_set}
 use Rattle.flat_memory.specs.Memory.{Memory}
 use Rattle.x64_machine.specs.declared.context.Context.{Context}
@@ -73,7 +75,7 @@ FindsOwed t m rip o =
     (c : Context) (size back : ℕ) (others : List ℕ) → c.rip ≡ rip → IsOwed m c o size back others
     → HasCaller t m c (caller_left c size back others)
 
--- by the return address at RSP
+-- no codes are left to undo, and the return address is at RSP
 abbrev pub FindsReturn : Functions → Memory → ℕ → Type 0
 FindsReturn t m rip = FindsOwed t m rip nothing_owed
 

@@ -1,4 +1,7 @@
 -- What is known of a program of linear code, and of a configuration that it comes to.
+--
+-- `IsKnown`, `KnownNext`: what is known of a configuration (crate
+-- `lowering_invariants` has each part), and that it is known of the next one too.
 use Rattle.std.specs.Prelude.{◌≡◌, ℕ, ◌<◌, ◌≤◌, true, false, List, slice_get, Some}
 use Rattle.std.specs.List.{AllByRecursion}
 use Rattle.linear_code.specs.declared.instruction.Instruction.{Instruction}
@@ -29,14 +32,14 @@ module _ (program : LinearProgram) where
 
   -- a function that may be listed as a vectored handler takes a code and flags, begins with more
   -- separators than its frame weighs, and the program adds it
-  pub record IsAskable (f : ℕ) : Type 0 where
+  pub record IsListable (f : ℕ) : Type 0 where
     pub callee : IsCallee program f 2
     pub fits : callee.function.parameters ≤ callee.function.body.locals
     pub weighs : weight callee.function < separators_in (body_of program (FunctionBody f)) 0
     pub adds : CallsBuiltIn program (AddVectored f)
 
-  abbrev pub AreAskable : List ℕ → Type 0
-  AreAskable fs = AllByRecursion IsAskable fs
+  abbrev pub AreListable : List ℕ → Type 0
+  AreListable fs = AllByRecursion IsListable fs
 
   -- of the program
   pub record IsWellMade (p : ImagePlan) : Type 0 where

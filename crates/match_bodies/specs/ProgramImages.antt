@@ -1,4 +1,6 @@
 -- What an image has of a linear program: its code in memory, and what is known of its addresses.
+--
+-- The main definitions: `IsProgramImage`, `IsMachineMemory`.
 use Rattle.std.specs.Prelude.{◌≡◌, ◌≢◌, ℕ, ◌+◌, ◌^◌, ◌<◌, ◌≤◌, Bool, true, false, List, [], ◌∷◌, ◌++◌, length, slice_get, get_or, Some, Ok}
 use Rattle.std.specs.List.{AllByRecursion}
 use Rattle.host_layout.specs.declared.range.TheConstants.{IMAGE_BASE, IMAGE_RANGE_END, STACK_START, STACK_END}
@@ -67,13 +69,13 @@ use Rattle.match_bodies.specs.BodyViews.{IsReached}
 use Rattle.match_bodies.specs.Callers.{FindsReturn, FindsOwed, frame_info, owed_after, owed_of, owed_opening, owed_pops}
 
 -- the service of a built-in function
-abbrev pub service_of : BuiltIn → Service
-service_of Put = services.Put
-service_of Protect = services.Protect
-service_of RaiseException = services.RaiseException
-service_of Walk = services.Walk
-service_of (AddVectored f) = services.AddVectored
-service_of (RemoveVectored f) = services.RemoveVectored
+abbrev pub host_service_of : BuiltIn → Service
+host_service_of Put = services.Put
+host_service_of Protect = services.Protect
+host_service_of RaiseException = services.RaiseException
+host_service_of Walk = services.Walk
+host_service_of (AddVectored f) = services.AddVectored
+host_service_of (RemoveVectored f) = services.RemoveVectored
 
 -- a call goes through a thunk alone, but for those that name a function: their stub puts the
 -- function's name thunk into a register first, 7 bytes before the thunk
@@ -189,7 +191,7 @@ module _ (t : Functions) (fs : List Funclet) (program : LinearProgram) (p : Imag
   pub record HasBuiltIn (m : Memory) (f : BuiltIn) : Type 0 where
     pub stub : HasCode m (q.thunk f) (stub_code p f (q.thunk f))
     pub names : StubNames f
-    pub service : HasService m (q.thunk f + sizes (stub_code p f (q.thunk f))) (service_of f)
+    pub service : HasService m (q.thunk f + sizes (stub_code p f (q.thunk f))) (host_service_of f)
     pub inside : IsInImage (q.thunk f) (q.thunk f + sizes (stub_code p f (q.thunk f)))
 
   -- a function's name thunk, through which the host calls it as a vectored handler; a program that
@@ -388,6 +390,19 @@ module _ (t : Functions) (fs : List Funclet) (program : LinearProgram) (p : Imag
 
   -- ---- all of it
 
+  -- what an image has of a program of linear code. It has the code of each body at its addresses
+  -- (`HasAddresses`), with what begins it. The code of its cold parts is apart from the rest, so
+  -- that where an instruction falls through the next one's code follows its own (`HasEnds`). The
+  -- entries of a body all tell of its one frame (`HasOneFrame`). The image has thunks of the
+  -- services, after a stub where a vectored handler is put in or taken out (`stub_code`,
+  -- `HasBuiltIn`), and `__chkstk`. A stub names a function of the program, whose name thunk is near
+  -- the stub (`NamesFunction`). It has the name thunks of functions where handlers are put in
+  -- (`HasName`, `AddsHandlers`). It has layouts of frames, with slots where layouts say. A
+  -- function's locals are where its layout says, in registers that its prologue saves or in its
+  -- frame, and of these each funclet names those in the frame alone (`NamesReached`). For each body
+  -- with a frame there are the prologue of its plan, an entry that tells of it, and the scope
+  -- records of its regions; leaf functions have no entry. RIP at a funclet's first byte, and
+  -- nowhere else, shows the event of its number.
   pub record IsProgramImage : Type 0 where
     pub gives : Gives t fs program p
     pub laid_out : AreLaidOut program p

@@ -1,4 +1,6 @@
 -- What is claimed of the steps of linear code that need neither a call nor the dispatcher.
+--
+-- The main definition: `IsWithinBody`.
 use Rattle.std.specs.Prelude.{◌≡◌, ℕ, zero, List, Some}
 use Rattle.flat_memory.specs.Memory.{Memory}
 use Rattle.x64_machine.specs.Effect.{State}
@@ -37,7 +39,7 @@ module _ (program : LinearProgram) where
     pub memory : Memory
     pub gives : performed (is_reserved program.globals) o a b c.store.memory ≡ Gives value memory
 
-  -- a step within one body
+  -- a step within one body: an operation without a fault, a jump, a test, a separator, a landing
   abbrev pub IsWithinBody : Configuration → Instruction → Type 0
   IsWithinBody c (instructions.Compute to o first second) = Completes c o first second
   IsWithinBody c (instructions.Jump label) = Unit {0}

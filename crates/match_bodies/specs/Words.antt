@@ -85,10 +85,10 @@ pub use Rattle.match_bodies.specs.Bodies.{slots_end, last_temporary, HasFrame, I
 pub use Rattle.match_bodies.specs.BodyViews.{counts_of, seen_by_templates, arrived_in, frame_at, state_of, HasSlotsOf, KeepsRegisters, IsReached}
 pub use Rattle.match_bodies.specs.Callers.{frame_info, HasCaller, FindsReturn, FindsOwed, Owed, IsOwed, nothing_owed, owed_by, owed_of, caller_above, caller_left, caller_owed}
 pub use Rattle.match_bodies.specs.CodeSites.{Sites, links_of, arguments_code, begin_of, making_size, frame_code, entry_code, code_of, cold_code_of}
-pub use Rattle.match_bodies.specs.ConfigurationFacts.{IsWellMade, IsKnown, IsAskable, AreAskable}
+pub use Rattle.match_bodies.specs.ConfigurationFacts.{IsWellMade, IsKnown, IsListable, AreListable}
 pub use Rattle.match_bodies.specs.Layouts.{IsFunctionLayout, IsLayoutIf, IsLaidOut, AreLaidOut, IsLeafLayout, IsFuncletLayout, IsFuncletPlan}
 pub use Rattle.match_bodies.specs.LocalRegisters.{now_of, IsInRegister, RegistersHold}
-pub use Rattle.match_bodies.specs.ProgramImages.{HasBuiltIn, HasName, AddsHandlers, stub_code, HasProgram, IsProgramImage, frame_of, frame_at_label, service_of, HasService, IsMachineMemory, IsInImage, IsFramed}
+pub use Rattle.match_bodies.specs.ProgramImages.{HasBuiltIn, HasName, AddsHandlers, stub_code, HasProgram, IsProgramImage, frame_of, frame_at_label, host_service_of, HasService, IsMachineMemory, IsInImage, IsFramed}
 pub use Rattle.match_bodies.specs.Setting.{setting_of, Setting, RepresentsAt, IsResumed}
 pub use Rattle.match_bodies.specs.SlotStores.{with_values, KeepsStackBut, OwnerHasFrame, with_values_if, IsInFrame, FrameWords, IsLeft, LeavesRegisters, ActivationIsAt, ActivationsAreAt, ActivationsAreStored}
 pub use Rattle.template_code.specs.declared.layout.Place.{Place}

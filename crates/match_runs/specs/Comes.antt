@@ -1,4 +1,6 @@
 -- Turns of the machine one after another.
+--
+-- The main definition: `Comes`.
 use Rattle.std.specs.Prelude.{◌≡◌, ℕ, zero, suc, ◌==◌, ◌≤◌, false, List, [], ◌++◌}
 use Rattle.seh_num.specs.declared.event.Event.{Event}
 use Rattle.x64_machine.specs.Effect.{State}

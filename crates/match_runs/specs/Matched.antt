@@ -1,4 +1,7 @@
 -- Steps of linear code that are matched by turns of the machine.
+--
+-- The main definitions: `separators_at`, `turns_ahead`, `Moves`, `Exits`, `Dies`, `Fails`,
+-- `Begins`, `IsTakenIf`, `StepsAreMatched`, `Simulates`.
 use Rattle.std.specs.Prelude.{◌≡◌, ◌⊎◌, ℕ, zero, suc, ◌+◌, ◌-◌, ◌*◌, ◌<◌, ◌≤◌, Bool, true, false, if◌then◌else◌, List, [], ◌∷◌, ◌++◌, drop, ℤ, Option, Some, None}
 use Rattle.seh_num.specs.declared.width.Width.TheVariants.{W32}
 use Rattle.seh_num.specs.declared.event.Code.{Code}

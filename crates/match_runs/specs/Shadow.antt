@@ -1,6 +1,8 @@
 -- The shadow of a run: of each routine that has not returned, innermost first, what its caller goes
 -- on with. It is kept by what each turn does, with no look at unwind codes: of the tables it takes
 -- the funclets alone, which scope records name, to know where one starts.
+--
+-- The main definitions: `WalkGives`, `caller_at`, `shadow_after`, `KeepsShadow`.
 use Rattle.std.specs.Prelude.{◌≡◌, ℕ, zero, suc, ◌+◌, ◌≤◌, Bool, true, false, ◌&&◌, nat_lt, ◌==◌, List, [], ◌∷◌, map, drop, option_map, Option, Some, None, Ok, Err, slice_set}
 use Rattle.seh_num.specs.declared.event.Event.{Event}
 use Rattle.seh_num.specs.declared.event.Event.TheVariants as events
@@ -93,7 +95,11 @@ by_step s u es cs (Ok v) =
 by_step s u es cs (Err (stops.Host a)) = started s u es (served (service_at a) cs)
 by_step s u es cs (Err e) = started s u es cs
 
--- after a turn from a state to another, which shows the event of the funclet that begins there
+-- what a turn makes of a list of these. A call adds one; RaiseException and `_local_unwind` drop
+-- that of their own call. A routine that the dispatcher starts adds one: a filter, a `__finally`
+-- block once those below its frame are dropped, and a vectored handler. No event shows that one:
+-- RSP falls, and the dispatcher's return address for vectored handlers is there (`calls_vectored`).
+-- After every turn those that were entered below RSP are dropped.
 unfoldable pub shadow_after : Functions → List Funclet → State → State → List Context → List Context
 shadow_after t fs s u cs =
     drop_below (register u.cpu Rsp) (by_step s u (arrivals u.cpu (distance t.base u.cpu.rip) 1 fs)

@@ -1,4 +1,6 @@
 -- The states of a run, each with the run's shadow there.
+--
+-- The main definitions: `shadowed`, `WalkGivesShadow`.
 use Rattle.std.specs.Prelude.{◌≡◌, ℕ, zero, suc, ◌==◌, Bool, true, false, List, [], ◌∷◌, Option, Some, None}
 use Rattle.x64_machine.specs.declared.context.Context.{Context}
 use Rattle.x64_machine.specs.Effect.{State}
@@ -28,7 +30,7 @@ abbrev pub unless_over : Option Shadowed → Bool → Option Shadowed
 unless_over next true = None
 unless_over next false = next
 
--- after m turns more
+-- the state after m turns, with the list that began as `caller_at` of the first state
 unfoldable pub shadowed : ℕ → Functions → List Funclet → State → List Context → Option Shadowed
 shadowed zero t fs s cs = Some (record { state = s; shadow = cs })
 shadowed (suc m) t fs s cs =

@@ -1,4 +1,6 @@
 -- The frames that a walk gives.
+--
+-- The main definitions: `LiveFrame`, `walked`.
 use Rattle.std.specs.Prelude.{ℕ, zero, suc, List, [], ◌∷◌, Option, Some, None}
 use Rattle.flat_memory.specs.Memory.{Memory}
 use Rattle.x64_machine.specs.declared.context.Context.{Context}

@@ -1,4 +1,6 @@
 -- What asking the vectored handlers comes to, against linear code.
+--
+-- The main definitions: `IsAsking`, `HandlerBegins`, `SearchFollows`, `AskTurns`.
 use Rattle.std.specs.Prelude.{◌≡◌, ◌⊎◌, ℕ, ◌+◌, ◌^◌, ◌<◌, ◌≤◌, List, [], ◌∷◌, slice_get, Some, None, Ok}
 use Rattle.x64_instr.specs.declared.register.Reg.TheVariants.{Rcx, Rsp}
 use Rattle.x64_machine.specs.Contexts.{context_of}

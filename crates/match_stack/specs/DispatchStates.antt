@@ -1,4 +1,6 @@
 -- States between two turns of the dispatcher.
+--
+-- The main definitions: `IsWellFormed`, `host_list`, `Arrives`.
 use Rattle.std.specs.Prelude.{◌≡◌, ℕ, ◌+◌, ◌^◌, ◌<◌, List, length, map, Ok}
 use Rattle.x64_instr.specs.declared.register.Reg.TheVariants.{Rcx, Rdx, Rsp}
 use Rattle.x64_machine.specs.Effect.{State, register}

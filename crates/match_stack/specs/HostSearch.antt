@@ -1,4 +1,6 @@
 -- What a search of the host comes to, against the handlers that linear code still comes to.
+--
+-- The main definition: `SearchedAs`.
 use Rattle.std.specs.Prelude.{◌≡◌, ℕ, ◌+◌, ◌^◌, ◌<◌, ◌≤◌, List, [], ◌∷◌, length, Option, Some, None}
 use Rattle.seh_num.specs.declared.event.Event.TheVariants as events
 use Rattle.flat_memory.specs.Memory.{Memory}
@@ -67,7 +69,8 @@ module _ (t : Functions) (fs : List Funclet) (program : LinearProgram) (p : Imag
   FindsHandler m acts c is items s None h rest = Accepts c is items s h
   FindsHandler m acts c is items s (Some k) h rest = Asks m acts c is items s k h rest
 
-  -- the first of the handlers that are left; with none left, nobody
+  -- a search comes to the filter or the acceptance of the first handler that is left, with its
+  -- frame. After a filter the other handlers are asked; with no handler left it comes to nobody.
   abbrev pub SearchedAs : Memory → List Activation → Context → List StackItem → List Item
       → SearchResult → List Handler → Type 0
   SearchedAs m acts c is items s [] = s ≡ searches.Nobody

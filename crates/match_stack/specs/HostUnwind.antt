@@ -1,5 +1,7 @@
 -- What an unwinding of the host comes to, against that of linear code: the same `__finally` block,
 -- or the same landing.
+--
+-- The main definition: `UnwoundAs`.
 use Rattle.std.specs.Prelude.{◌≡◌, ◌⊎◌, ℕ, ◌+◌, ◌≤◌, true, List, [], ◌∷◌, length, Some}
 use Rattle.seh_num.specs.declared.event.Event.{Event}
 use Rattle.flat_memory.specs.Memory.{Memory}
@@ -99,6 +101,7 @@ module _ (t : Functions) (fs : List Funclet) (program : LinearProgram) (p : Imag
     pub above : course.low ≤ rsp to
     pub wide : IsWide to.kept
 
-  -- an unwinding runs a block or lands
+  -- an unwinding runs a `__finally` block of a body that waits, with the regions that are left and
+  -- its target ahead, or lands in the target's body
   abbrev pub UnwoundAs : Memory → Course → UnwindResult → (Next → Seen) → Type 0
   UnwoundAs m course u seen = RunsBlock m course u seen ⊎ Lands m course u seen

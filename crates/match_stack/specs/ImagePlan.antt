@@ -1,4 +1,6 @@
 -- Where an image has the code of a linear program, and what its function table says of it.
+--
+-- The main definitions: `ImagePlan`, `Gives`.
 use Rattle.std.specs.Prelude.{◌≡◌, ◌⊎◌, ℕ, ◌+◌, ◌%◌, ◌^◌, ◌<◌, ◌≤◌, Bool, true, false, ◌||◌, ◌==◌, List, [], ◌∷◌, length, slice_get, Option, Some, None}
 use Rattle.std.specs.List.{AllByRecursion}
 use Rattle.seh_num.specs.declared.event.Event.TheVariants as events
@@ -21,7 +23,9 @@ use Rattle.linear_machine.specs.Frames.{BodyName, FunctionBody, FuncletBody, bod
 use Rattle.linear_machine.specs.Regions as regions
 use Rattle.linear_machine.specs.Regions.{leads_to}
 
--- where the parts of an image are
+-- where an image has the code of each instruction of a linear program, where that code ends and
+-- which entry of the function table it is in. It says where the funclets begin too, the layout of
+-- each body's slots, and which of its locals are in registers.
 pub record ImagePlan : Type 0 where
   pub address : BodyName → ℕ → ℕ  -- where the code of an instruction begins
   pub after : BodyName → ℕ → ℕ  -- where it ends
@@ -167,7 +171,8 @@ module _ (t : Functions) (fs : List Funclet) (program : LinearProgram) (p : Imag
   IsGiven name b false = HasEntries name b
   IsGiven name b true = b.regions ≡ []
 
-  -- each other body has its entries
+  -- the scope records of each entry are the regions of its body, row by row; that of a cold part
+  -- has none, and no region holds its instructions (`HasRows`)
   abbrev pub Gives : Type 0
   Gives =
       (name : BodyName) (b : LinearBody) → body_of program name ≡ Some b

@@ -1,4 +1,6 @@
 -- The plain list of what waits in linear code, as it is in the machine's stack, item by item.
+--
+-- The main definitions: `Linked`, `ReturnsTo`.
 use Rattle.std.specs.Prelude.{◌≡◌, ◌⊎◌, ℕ, ◌+◌, ◌-◌, ◌*◌, ◌%◌, ◌^◌, ◌<◌, ◌≤◌, Bool, true, false, not, ◌==◌, List, [], ◌∷◌, ◌++◌, length, drop, filter, slice_get, Option, Some, None, Ok}
 use Rattle.std.specs.List.{AllByRecursion}
 use Rattle.host_layout.specs.declared.range.TheConstants.{STACK_END, FIRST_STACK}
@@ -419,6 +421,14 @@ module _ (t : Functions) (fs : List Funclet) (program : LinearProgram) (p : Imag
 
   -- ---- the whole list
 
+  -- the items of the stack are those of linear code's list, one by one. A waiting body has a frame
+  -- with RIP in the code of its instruction, and with its temporaries. It has the locals of its
+  -- activation in their places or, of a funclet, the base of its activation's frame. A place
+  -- (`IsInPlace`) is a register of the context that the list has there, or a word of the frame. A
+  -- suspended search has a record with its exception, from whose walk and row exactly the handlers
+  -- that are left are asked (`Onward`), and whose frame is that of the asked handler (`Aimed`). A
+  -- suspended unwinding has a record whose row is where the regions that are left begin, and whose
+  -- target frame and target are those of its target.
   abbrev pub Linked : Memory → Context → List StackItem → List Item → List Activation → Type 0
   Linked m c [] [] acts = (acts ≡ []) × (rsp c ≤ STACK_END)
   Linked m c (Framed f ∷ is) (Waits b ∷ below) acts =

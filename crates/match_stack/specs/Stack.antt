@@ -1,5 +1,7 @@
 -- The stack from a stack pointer up: frames of bodies, and records of suspended searches and
 -- unwindings, innermost first.
+--
+-- The main definitions: `IsStack`, `Owned`, `answer_return`.
 use Rattle.std.specs.Prelude.{◌≡◌, ℕ, ◌+◌, ◌-◌, ◌^◌, ◌<◌, ◌≤◌, Bool, true, false, ◌⊎◌, ◌==◌, nat_lt, List, [], ◌∷◌, length, Some, None, Ok, slice_set}
 use Rattle.flat_memory.specs.Memory.{Memory}
 use Rattle.x64_machine.specs.declared.context.Context.{Context}
@@ -163,7 +165,7 @@ is_asking kinds.ExceptionUnwind = false
 is_asking kinds.LocalUnwind = false
 is_asking kinds.Vectored = true
 
--- where what it has asked returns to
+-- where what a record asks returns to, by the record's kind
 abbrev pub answer_return : Kind → ℕ
 answer_return kinds.Search = filter_return
 answer_return kinds.ExceptionUnwind = filter_return
@@ -177,7 +179,15 @@ ItemIsAt t m c (Searching r) =
     RecordIsAt m c r (answer_return r.kind) is_asking (context_of r.saved)
 ItemIsAt t m c (Unwinding r) = RecordIsAt m c r finally_return is_unwinding r.walk
 
--- the list is there from a context on, up to the first frame, which returns to 0
+-- from a context up, memory has these items one after another, innermost first. Each is a frame
+-- whose body is past its prologue, and which `IsAsTold`, or a leaf function, by its return address.
+-- Or it is, at one of the host's return addresses, the record of a suspended search or unwinding. A
+-- search waits for a filter or for a vectored handler. Of a frame that is as told memory has, above
+-- its slots, the registers of its caller that its unwind codes save, and the return address. The
+-- codes (`told`) are those of its entry, or where that is chained (`IsChain`) those of its
+-- function. A frame register, where it has one, leads to RSP, and the other nonvolatile registers
+-- are its caller's. After a frame the list continues at the caller, with its nonvolatile registers,
+-- after a search where its exception was raised, after an unwinding where that has come to.
 abbrev pub IsStack : Functions → Memory → Context → List StackItem → Type 0
 IsStack t m c [] = c.rip ≡ 0
 IsStack t m c (i ∷ is) = ItemIsAt t m c i × IsStack t m (context_after c i) is
@@ -210,6 +220,11 @@ OwnedBy c (Leaf back) a = IsBetween a (rsp c) (rsp c + 8)
 OwnedBy c (Searching r) a = IsBetween a (rsp c + 32) (rsp c + RECORD_SIZE)
 OwnedBy c (Unwinding r) a = IsBetween a (rsp c + 32) (rsp c + RECORD_SIZE)
 
+-- the bytes that a walk reads of each item. Of a frame these are the saved registers and the return
+-- address, of a leaf function the return address at RSP, and of a record all but its home space. A
+-- body that waits (`BodyWaits`) owns its slots too: temporaries, and locals that are in no
+-- register. A funclet's body owns the word that keeps its function's frame, and a filter's the word
+-- that keeps its EXCEPTION_POINTERS too.
 abbrev pub Owned : Context → List StackItem → ℕ → Type 0
 Owned c [] a = ⊥
 Owned c (i ∷ is) a = OwnedBy c i a ⊎ Owned (context_after c i) is a

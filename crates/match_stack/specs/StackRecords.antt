@@ -1,4 +1,6 @@
 -- The list in a memory of data, and a record that is pushed below it.
+--
+-- The main definition: `pushed`.
 use Rattle.std.specs.Prelude.{◌≡◌, ◌⊎◌, ℕ, ◌+◌, ◌^◌, ◌<◌, ◌≤◌, true, false, List, None}
 use Rattle.seh_num.specs.declared.width.Width.TheVariants.{W64}
 use Rattle.host_layout.specs.declared.range.TheConstants.{STACK_START, STACK_END}

@@ -1,4 +1,8 @@
 -- The answer of a vectored handler, at the host's return address: what the host's turn comes to.
+--
+-- `HandlerHasAnswered`, `VectoredReturns`: a handler has returned, and its record is on top of the
+-- list. By its answer the saved state continues, or the next one is asked. Where it answers that a
+-- noncontinuable exception is to be continued, that is raised as an exception of its own.
 use Rattle.std.specs.Prelude.{◌≡◌, ◌⊎◌, ℕ, ◌+◌, ◌^◌, ◌<◌, List, [], ◌∷◌}
 use Rattle.x64_instr.specs.declared.register.Reg.TheVariants.{Rsp}
 use Rattle.x64_machine.specs.Contexts.{context_of}

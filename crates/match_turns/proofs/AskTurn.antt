@@ -1,6 +1,6 @@
 -- A turn that asks the vectored handlers from a place on: one is called, or the search begins.
 use Rattle.std.proofs.Common.{◌≡◌, ℕ, zero, ◌≤◌, List, ◌∷◌, None, ap, subst, inl, inr}
-use Rattle.match_turns.specs.Words.{context_of, State, rsp, DispatchRecord, arrived, asks_on, searching, searches_on, Exception, Resumption, Waits, Configuration, handlers, exec, StackItem, Activation, locals_of, RecordHasRoom, HasRule, live_from, turns_left, FlagsFit, Setting, IsMachineMemory, OutcomeOrAsks, IsAsking, SearchFollows, ResumesFrom, placed, AreAskable}
+use Rattle.match_turns.specs.Words.{context_of, State, rsp, DispatchRecord, arrived, asks_on, searching, searches_on, Exception, Resumption, Waits, Configuration, handlers, exec, StackItem, Activation, locals_of, RecordHasRoom, HasRule, live_from, turns_left, FlagsFit, Setting, IsMachineMemory, OutcomeOrAsks, IsAsking, SearchFollows, ResumesFrom, placed, AreListable}
 use Rattle.linear_machine.specs.Searching.{ask_from, search}
 use Rattle.match_turns.proofs.Lemmas.{in_stack}
 use Rattle.match_stack.proofs.Asking.{ask_turns}
@@ -17,7 +17,7 @@ module _ (setting : Setting) (fits : FlagsFit setting.program) where
       (h : IsAsking t fs program p s at r is acts exception place c)
       (memory : IsMachineMemory setting s.memory c.store.memory)
       (store : c.store.activations ≡ locals_of acts) (here : ℕ) (le : at ≤ here)
-      (listed : AreAskable program c.store.vectored) where
+      (listed : AreListable program c.store.vectored) where
     -- past the last one
     follows : (resumption : Resumption) → ResumesFrom p resumption c.frame acts r.saved
         → HasRule (ask_from program (exec program zero) place exception resumption c)

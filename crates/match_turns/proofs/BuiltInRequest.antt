@@ -2,7 +2,7 @@
 -- the list.
 use Rattle.std.proofs.Common.{◌≡◌, ℕ, ◌+◌, ◌-◌, ◌%◌, ◌^◌, ◌<◌, ◌≤◌, Some, List, [], ◌∷◌, Ok, refl, sym, ap, subst, ◌∙◌, arith, length-set}
 use Rattle.std.specs.Prelude.{◌==◌, false, slice_get, take}
-use Rattle.match_turns.specs.Words.{kept_of, W64, loaded, IMAGE_BASE, IMAGE_RANGE_END, STACK_START, STACK_END, address_of, Rsp, Instr, opcode_register, Cpu, Flags, State, register, BuiltIn, Put, Protect, RaiseException, Walk, AddVectored, RemoveVectored, Temporary, BodyState, LinearBody, Configuration, body_of, regions_of, waiting, instruction_at, Layout, size, sizes, put_back, keep, temporary_at, call, IsNear, return_at, begin_call, clear_result, template, template_size, MachineView, machine, pushed, HasCode, InCode, KeepsAbove, IsWellFormed, IsLive, Comes, links_of, service_of, CallsBuiltIn, IsWellMade, IsKnown, Setting, InBody, IsMachineMemory, IsResumed, RepresentsAt, arguments_code, host_list}
+use Rattle.match_turns.specs.Words.{kept_of, W64, loaded, IMAGE_BASE, IMAGE_RANGE_END, STACK_START, STACK_END, address_of, Rsp, Instr, opcode_register, Cpu, Flags, State, register, BuiltIn, Put, Protect, RaiseException, Walk, AddVectored, RemoveVectored, Temporary, BodyState, LinearBody, Configuration, body_of, regions_of, waiting, instruction_at, Layout, size, sizes, put_back, keep, temporary_at, call, IsNear, return_at, begin_call, clear_result, template, template_size, MachineView, machine, pushed, HasCode, InCode, KeepsAbove, IsWellFormed, IsLive, Comes, links_of, host_service_of, CallsBuiltIn, IsWellMade, IsKnown, Setting, InBody, IsMachineMemory, IsResumed, RepresentsAt, arguments_code, host_list}
 use Rattle.x64_templates.specs.Runs.{Reaches}
 use Rattle.linear_code.specs.declared.instruction.Instruction.TheVariants as instructions
 use Rattle.match_turns.proofs.BuiltInRun.{thunk_turns, named, service_reaches}
@@ -18,8 +18,8 @@ use Rattle.match_turns.proofs.HostPage.{host_silent}
 use Rattle.match_turns.proofs.BodySavedState.{first_words, in_body}
 
 -- the services are in the host's page
-service_low : (f : BuiltIn) → (1 ≤ address_of (service_of f))
-    × (address_of (service_of f) < 0x100000000)
+service_low : (f : BuiltIn) → (1 ≤ address_of (host_service_of f))
+    × (address_of (host_service_of f) < 0x100000000)
 service_low Put = (omega arith, omega arith)
 service_low Protect = (omega arith, omega arith)
 service_low RaiseException = (omega arith, omega arith)
@@ -27,7 +27,7 @@ service_low Walk = (omega arith, omega arith)
 service_low (AddVectored f) = (omega arith, omega arith)
 service_low (RemoveVectored f) = (omega arith, omega arith)
 
-service_live : (f : BuiltIn) → (address_of (service_of f) == 0) ≡ false
+service_live : (f : BuiltIn) → (address_of (host_service_of f) == 0) ≡ false
 service_live Put = refl
 service_live Protect = refl
 service_live RaiseException = refl
@@ -69,7 +69,7 @@ module _ (setting : Setting) (made : IsWellMade setting.program setting.plan) wh
     back = return_at y first (place + 5)
 
     abbrev service : ℕ
-    service = address_of (service_of f)
+    service = address_of (host_service_of f)
 
     abbrev view : MachineView
     view = v setting made.room s c b counted

@@ -1,7 +1,7 @@
 -- From where a built-in function is called to its service: a thunk, after a stub where a vectored
 -- handler is put in or taken out.
 use Rattle.std.proofs.Common.{◌≡◌, ℕ, ◌+◌, ◌≤◌, [], ◌∷◌, subst, arith}
-use Rattle.match_turns.specs.Words.{Rcx, Rdx, address_of, Flags, sizes, MachineView, machine, BuiltIn, Put, Protect, RaiseException, Walk, AddVectored, RemoveVectored, service_of, ImagePlan, Setting}
+use Rattle.match_turns.specs.Words.{Rcx, Rdx, address_of, Flags, sizes, MachineView, machine, BuiltIn, Put, Protect, RaiseException, Walk, AddVectored, RemoveVectored, host_service_of, ImagePlan, Setting}
 use Rattle.host_layout.specs.declared.service.Service.TheVariants as services
 use Rattle.template_code.specs.Handlers.{address_in}
 use Rattle.x64_templates.specs.Runs.{Reaches}
@@ -42,7 +42,7 @@ module _ (setting : Setting) where
   pub service_reaches : (f : BuiltIn) (v : MachineView) (g : Flags)
       → HasBuiltIn t fs program p q v.memory f
       → Reaches (thunk_turns f) (machine v (q.thunk f) g)
-      (machine (named p f v) (address_of (service_of f)) g)
+      (machine (named p f v) (address_of (host_service_of f)) g)
   service_reaches Put v g has = thunk_reaches v (q.thunk Put) (address_of services.Put) g
       (direct_service setting Put v.memory tt has).thunk
   service_reaches Protect v g has = thunk_reaches v (q.thunk Protect)

@@ -1,6 +1,6 @@
 -- Where built-in functions are called: those without a stub where their thunk is.
 use Rattle.std.proofs.Common.{◌≡◌, ◌+◌, refl, subst, arith}
-use Rattle.match_turns.specs.Words.{Memory, BuiltIn, Put, Protect, RaiseException, Walk, AddVectored, RemoveVectored, sizes, service_of, FindsReturn, CallsBuiltIn, stub_code, Setting}
+use Rattle.match_turns.specs.Words.{Memory, BuiltIn, Put, Protect, RaiseException, Walk, AddVectored, RemoveVectored, sizes, host_service_of, FindsReturn, CallsBuiltIn, stub_code, Setting}
 use Rattle.match_bodies.specs.ProgramImages.{HasService, HasBuiltIn}
 
 -- what is called isn't about a vectored handler
@@ -22,11 +22,11 @@ module _ (setting : Setting) where
 
   -- its service
   pub direct_service : (f : BuiltIn) (m : Memory) → IsDirect f → HasBuiltIn t fs program p q m f
-      → HasService t fs program p q m (q.thunk f) (service_of f)
+      → HasService t fs program p q m (q.thunk f) (host_service_of f)
   direct_service f m d has =
       let z = stub_size f d in
       let same : q.thunk f + sizes (stub_code p f (q.thunk f)) ≡ q.thunk f = omega arith in
-      subst (λ a. HasService t fs program p q m a (service_of f)) same has.service
+      subst (λ a. HasService t fs program p q m a (host_service_of f)) same has.service
 
   -- where a built-in function is called the walk finds its caller
   pub called_found : (f : BuiltIn) (m : Memory) → CallsBuiltIn program f

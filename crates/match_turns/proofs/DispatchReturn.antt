@@ -1,7 +1,7 @@
 -- At the host's return addresses: a filter has answered, a `__finally` block has ended.
 use Rattle.std.proofs.Common.{◌≡◌, ℕ, zero, ◌+◌, ◌*◌, ◌≤◌, Bool, List, [], ◌∷◌, ◌++◌, Option, Some, None, refl, sym, ap, subst, ◌∙◌, arith, inl, inr, append_assoc, length-append}
 use Rattle.std.proofs.lemmas.List.{append-nil}
-use Rattle.match_turns.specs.Words.{W32, Event, signed, Rsp, LiveCallers, context_of, State, register, rsp, distance, DispatchRecord, Turn, Continues, with_event, arrivals, arrived, accepted, searches_on, unwinds_on, finally_returned, eax, restored, if_unwinding, Exception, noncontinuable, raise_event, Region, Handler, Target, Resumption, AfterCall, SameOperation, Waits, Unwinds, Item, Frame, Store, Seen, Next, Configuration, search, accept, resumed, unwind, end_finally, exec, StackItem, Unwinding, Activation, locals_of, On, store_of, IsWellFormed, Unwound, SearchIsAnswered, AnswersAs, filter_turn, linear_answer, with_answer, answered, AsksTheNext, AskedTakesOver, ContinuesException, IsRaisedAnew, HasRule, WalkGives, drop_below, live_from, held_below, turns_left, FlagsFit, NoneLanded, Setting, IsMachineMemory, Continuations, Outcome, OutcomeOrAsks, Shows, ShowsOrAsks, AreAskable, host_list, ResumesFrom}
+use Rattle.match_turns.specs.Words.{W32, Event, signed, Rsp, LiveCallers, context_of, State, register, rsp, distance, DispatchRecord, Turn, Continues, with_event, arrivals, arrived, accepted, searches_on, unwinds_on, finally_returned, eax, restored, if_unwinding, Exception, noncontinuable, raise_event, Region, Handler, Target, Resumption, AfterCall, SameOperation, Waits, Unwinds, Item, Frame, Store, Seen, Next, Configuration, search, accept, resumed, unwind, end_finally, exec, StackItem, Unwinding, Activation, locals_of, On, store_of, IsWellFormed, Unwound, SearchIsAnswered, AnswersAs, filter_turn, linear_answer, with_answer, answered, AsksTheNext, AskedTakesOver, ContinuesException, IsRaisedAnew, HasRule, WalkGives, drop_below, live_from, held_below, turns_left, FlagsFit, NoneLanded, Setting, IsMachineMemory, Continuations, Outcome, OutcomeOrAsks, Shows, ShowsOrAsks, AreListable, host_list, ResumesFrom}
 use Rattle.seh_records.specs.Record.{fetched}
 use Rattle.seh_num.specs.declared.event.Event.TheVariants as events
 use Rattle.match_turns.proofs.Lemmas.{answers_continue, finally_returns_unwind, none_below, none_started, on_stack, stack_rises}
@@ -25,7 +25,7 @@ module _ (setting : Setting) (fits : FlagsFit setting.program) where
       (answers : SearchIsAnswered t fs program p s r is acts exception resumption asked rest c)
       (memory : IsMachineMemory setting s.memory c.store.memory)
       (store : c.store.activations ≡ locals_of acts) (free : c.frame.landed ≡ None)
-      (listed : AreAskable program c.store.vectored) where
+      (listed : AreListable program c.store.vectored) where
     abbrev event : Event
     event = events.Answer (signed W32 (eax s))
 

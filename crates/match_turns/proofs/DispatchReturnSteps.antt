@@ -2,7 +2,7 @@
 -- block above an unwinding.
 use Rattle.std.proofs.Common.{◌≡◌, ℕ, zero, ◌+◌, ◌≤◌, List, [], ◌∷◌, ap, subst, arith}
 use Rattle.std.specs.Prelude.{◌==◌}
-use Rattle.match_turns.specs.Words.{Rsp, context_of, State, register, DispatchRecord, filter_return, finally_return, arrived, finally_returned, Exception, Instruction, Region, Frame, Handler, Target, Resumption, Item, Waits, Searches, Unwinds, Configuration, Next, act, end_finally, exec, StackItem, Searching, Unwinding, Activation, locals_of, On, IsWellFormed, SearchIsAnswered, filter_turn, linear_answer, IsLive, Comes, HasRule, IsMatched, live_from, held_below, turns_left, KnownNext, FlagsFit, NoneLanded, waiting_below, Setting, IsMachineMemory, Continuations, Represents, host_list, FilterOf, AreAskable, IsMatchedOrAsks}
+use Rattle.match_turns.specs.Words.{Rsp, context_of, State, register, DispatchRecord, filter_return, finally_return, arrived, finally_returned, Exception, Instruction, Region, Frame, Handler, Target, Resumption, Item, Waits, Searches, Unwinds, Configuration, Next, act, end_finally, exec, StackItem, Searching, Unwinding, Activation, locals_of, On, IsWellFormed, SearchIsAnswered, filter_turn, linear_answer, IsLive, Comes, HasRule, IsMatched, live_from, held_below, turns_left, KnownNext, FlagsFit, NoneLanded, waiting_below, Setting, IsMachineMemory, Continuations, Represents, host_list, FilterOf, AreListable, IsMatchedOrAsks}
 use Rattle.seh_records.specs.Record.{fetched}
 use Rattle.match_turns.proofs.Lemmas.{on_stack}
 use Rattle.match_turns.proofs.DispatchReturn.{filter_answered, finally_ended}
@@ -27,7 +27,7 @@ module _ (setting : Setting) (fits : FlagsFit setting.program) where
       → ((next : Next) → act program i next c
       ≡ linear_answer program u exception resumption asked rest (waiting_below c w below) next)
       → HasRule (act program i (exec program zero) c)
-      → KnownNext program c i → AreAskable program c.store.vectored
+      → KnownNext program c i → AreListable program c.store.vectored
       → IsMatchedOrAsks setting s c i
   filter_step continues k s u c i r is acts exception resumption asked rest w below silent few at
       under unlanded answers memory store goes rule known listed =

@@ -1,7 +1,7 @@
 -- A body asks the dispatcher: a raise and a local unwind.
 use Rattle.std.proofs.Common.{◌≡◌, ℕ, zero, ◌^◌, ◌<◌, ◌≤◌, Bool, List, [], ◌∷◌, ◌++◌, length, Option, None, sym, ap, subst, ◌∙◌, arith}
 use Rattle.std.proofs.lemmas.List.{append-nil}
-use Rattle.match_turns.specs.Words.{Code, Event, Cpu, context_of, State, rsp, placed, arrived, raised, unwound_locally, asks_on, unwinds_on, place_of, new_record, to_target, Exception, raise_event, Target, Resumption, Waits, Store, Next, Configuration, raise, unwind, local_unwind, exec, StackItem, Activation, locals_of, Aimed, RecordHasRoom, store_of, placed_in, from_body, AsksHost, IsException, HasRule, live_from, turns_left, FlagsFit, NoneLanded, Setting, IsMachineMemory, Outcome, Shows, ShowsOrAsks, AreAskable, host_list, ResumesFrom}
+use Rattle.match_turns.specs.Words.{Code, Event, Cpu, context_of, State, rsp, placed, arrived, raised, unwound_locally, asks_on, unwinds_on, place_of, new_record, to_target, Exception, raise_event, Target, Resumption, Waits, Store, Next, Configuration, raise, unwind, local_unwind, exec, StackItem, Activation, locals_of, Aimed, RecordHasRoom, store_of, placed_in, from_body, AsksHost, IsException, HasRule, live_from, turns_left, FlagsFit, NoneLanded, Setting, IsMachineMemory, Outcome, Shows, ShowsOrAsks, AreListable, host_list, ResumesFrom}
 use Rattle.seh_records.specs.declared.dispatch.Kind.TheVariants.{Vectored}
 use Rattle.match_turns.proofs.Lemmas.{in_stack, raise_asks, local_unwind_unwinds}
 use Rattle.match_turns.proofs.DispatchMemory.{memory_untouched, placing}
@@ -36,7 +36,7 @@ module _ (setting : Setting) (fits : FlagsFit setting.program) where
         (resumption : Resumption)
         → IsException code flags access exception → ResumesFrom p resumption c.frame acts saved
         → HasRule (raise program (exec program zero) exception resumption c)
-        → AreAskable program c.store.vectored → (here : ℕ) → place_of saved ≤ here
+        → AreListable program c.store.vectored → (here : ℕ) → place_of saved ≤ here
         → ShowsOrAsks setting (arrived t fs (raised t s code flags access saved))
         (raise_event exception ∷ []) (λ next. raise program next exception resumption c) c.events
         (turns_left c) here (live_from (context_of saved) is)

@@ -2,7 +2,7 @@
 -- RSP at the record.
 use Rattle.std.proofs.Common.{◌≡◌, ℕ, zero, ◌+◌, ◌<◌, ◌≤◌, Some, List, [], ◌∷◌, length, sym, ap, subst, ◌∙◌, arith}
 use Rattle.std.specs.Prelude.{slice_get}
-use Rattle.match_turns.specs.Words.{W32, low, Rsp, context_of, State, register, Exception, Slot, Region, LinearFunclet, FuncletBody, Frame, Handler, Target, Resumption, Item, Waits, Searches, Unwinds, Configuration, Next, with_some, read, answer, end_funclet, end_body, act, exec, return_code, StackItem, Searching, Unwinding, context_below, activations_below, On, SearchIsAnswered, linear_answer, Comes, HasRule, IsMatched, HaveRoom, AreWaiting, turns_left, KnownNext, FlagsFit, waiting_below, Setting, IsMachineMemory, RepresentsAt, Continuations, Represents, Context, FilterOf, AreAskable, filter_return, IsMatchedOrAsks}
+use Rattle.match_turns.specs.Words.{W32, low, Rsp, context_of, State, register, Exception, Slot, Region, LinearFunclet, FuncletBody, Frame, Handler, Target, Resumption, Item, Waits, Searches, Unwinds, Configuration, Next, with_some, read, answer, end_funclet, end_body, act, exec, return_code, StackItem, Searching, Unwinding, context_below, activations_below, On, SearchIsAnswered, linear_answer, Comes, HasRule, IsMatched, HaveRoom, AreWaiting, turns_left, KnownNext, FlagsFit, waiting_below, Setting, IsMachineMemory, RepresentsAt, Continuations, Represents, Context, FilterOf, AreListable, filter_return, IsMatchedOrAsks}
 use Rattle.linear_code.specs.declared.instruction.Instruction.TheVariants as instructions
 use Rattle.linear_code.specs.declared.program.FuncletKind.TheVariants as funclets
 use Rattle.match_turns.proofs.Lemmas.{reaches_silently, IsCounted}
@@ -90,7 +90,7 @@ module _ (setting : Setting) (roomy : HaveRoom setting.program) where
         (exception : Exception) (resumption : Resumption) (asked : Handler) (rest : List Handler)
         (w : Frame) (below : List Item) (under : c.below
         ≡ Searches exception resumption (FilterOf asked rest) ∷ Waits w ∷ below)
-        (waits : AreWaiting program c.below) (listed : AreAskable program c.store.vectored) where
+        (waits : AreWaiting program c.below) (listed : AreListable program c.store.vectored) where
       abbrev waiting : List Item
       waiting = Searches exception resumption (FilterOf asked rest) ∷ Waits w ∷ below
 

@@ -2,7 +2,7 @@
 -- continued.
 use Rattle.std.proofs.Common.{◌≡◌, ℕ, zero, ◌+◌, ◌≤◌, List, [], ◌∷◌, ◌++◌, None, sym, ap, subst, ◌∙◌, arith, inl, inr, length-append}
 use Rattle.std.proofs.lemmas.List.{append-nil}
-use Rattle.match_turns.specs.Words.{Event, Rsp, LiveCallers, context_of, State, register, rsp, DispatchRecord, Turn, Continues, arrived, restored, Exception, noncontinuable, raise_event, Resumption, AfterCall, SameOperation, Seen, Next, Configuration, resumed, raise, exec, StackItem, Activation, locals_of, HasRule, WalkGives, drop_below, live_from, turns_left, FlagsFit, Setting, IsMachineMemory, Continuations, OutcomeOrAsks, ShowsOrAsks, AreAskable, vectored_turn, at_next, linear_vectored, HandlerHasAnswered, AsksOn, ContinuesSaved, AsksAnew}
+use Rattle.match_turns.specs.Words.{Event, Rsp, LiveCallers, context_of, State, register, rsp, DispatchRecord, Turn, Continues, arrived, restored, Exception, noncontinuable, raise_event, Resumption, AfterCall, SameOperation, Seen, Next, Configuration, resumed, raise, exec, StackItem, Activation, locals_of, HasRule, WalkGives, drop_below, live_from, turns_left, FlagsFit, Setting, IsMachineMemory, Continuations, OutcomeOrAsks, ShowsOrAsks, AreListable, vectored_turn, at_next, linear_vectored, HandlerHasAnswered, AsksOn, ContinuesSaved, AsksAnew}
 use Rattle.linear_machine.specs.Searching.{ask_from}
 use Rattle.host_model.specs.Dispatch.{asks_on, again}
 use Rattle.match_stack.specs.VectoredReturns.{HandlerReturned}
@@ -22,7 +22,7 @@ module _ (setting : Setting) (fits : FlagsFit setting.program) where
       (answers : HandlerHasAnswered t fs program p s r is acts exception resumption place c)
       (memory : IsMachineMemory setting s.memory c.store.memory)
       (store : c.store.activations ≡ locals_of acts) (free : c.frame.landed ≡ None)
-      (listed : AreAskable program c.store.vectored) where
+      (listed : AreListable program c.store.vectored) where
     abbrev seen : Next → Seen
     seen next = linear_vectored program s exception resumption place c next
 

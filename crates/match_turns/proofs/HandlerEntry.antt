@@ -1,7 +1,7 @@
 -- A vectored handler is called: its name thunk is run, and its function begins.
 use Rattle.std.proofs.Common.{◌≡◌, ℕ, ◌+◌, ◌^◌, ◌<◌, ◌≤◌, Option, List, [], ◌∷◌, length, refl, sym, ap, subst, ◌∙◌, arith}
 use Rattle.std.proofs.lemmas.Option.{slice_get_within}
-use Rattle.match_turns.specs.Words.{Event, Context, context_of, State, register, Rsp, distance, DispatchRecord, vectored_return, arrived, arrivals, asks_on, Continues, Exception, depth_weight, LinearFunction, Resumption, VectoredAt, Waits, Searches, Configuration, Next, with_some, begin_function, StackItem, Searching, context_below, Activation, locals_of, live_from, WalkGives, GivesCallers, caller_at, callers, turns_left, Setting, IsMachineMemory, IsAskable, AreAskable, IsAsking, HandlerBegins, EntersHandler}
+use Rattle.match_turns.specs.Words.{Event, Context, context_of, State, register, Rsp, distance, DispatchRecord, vectored_return, arrived, arrivals, asks_on, Continues, Exception, depth_weight, LinearFunction, Resumption, VectoredAt, Waits, Searches, Configuration, Next, with_some, begin_function, StackItem, Searching, context_below, Activation, locals_of, live_from, WalkGives, GivesCallers, caller_at, callers, turns_left, Setting, IsMachineMemory, IsListable, AreListable, IsAsking, HandlerBegins, EntersHandler}
 use Rattle.flat_memory.specs.Memory.{number_at}
 use Rattle.virtual_unwind.specs.Undone.{word}
 use Rattle.source_meaning.specs.Raises.{handler_arguments}
@@ -24,7 +24,7 @@ module _ (setting : Setting) where
       (h : IsAsking t fs program p s at r is acts exception place c)
       (memory : IsMachineMemory setting s.memory c.store.memory)
       (store : c.store.activations ≡ locals_of acts) (here : ℕ) (le : at ≤ here)
-      (listed : AreAskable program c.store.vectored)
+      (listed : AreListable program c.store.vectored)
       (a : HandlerBegins t fs program p s at r is acts exception resumption place c) where
     abbrev f : ℕ
     f = a.handler
@@ -32,8 +32,8 @@ module _ (setting : Setting) where
     abbrev u : State
     u = a.state
 
-    askable : IsAskable program f
-    askable = each (IsAskable program) c.store.vectored place f listed a.listed
+    askable : IsListable program f
+    askable = each (IsListable program) c.store.vectored place f listed a.listed
 
     abbrev function : LinearFunction
     function = askable.callee.function

@@ -1,7 +1,7 @@
 -- A vectored handler's function returns to the host.
 use Rattle.std.proofs.Common.{◌≡◌, ℕ, zero, ◌+◌, ◌^◌, ◌<◌, ◌≤◌, Some, None, List, [], ◌∷◌, length, refl, sym, ap, subst, ◌∙◌, arith, ◌%◌}
 use Rattle.std.specs.Prelude.{slice_get, nat_lt, ◌==◌}
-use Rattle.match_turns.specs.Words.{Context, W32, low, Rax, Rsp, context_of, State, register, vectored_return, arrived, Exception, Slot, FunctionBody, Resumption, VectoredAt, Item, Waits, Searches, Frame, Configuration, Next, pick, continued, read, act, return, return_code, exec, Searching, Activation, activations_below, context_below, On, store_of, HaveRoom, HasRule, IsLive, Comes, live_from, held_below, turns_left, FlagsFit, Setting, RepresentsAt, Continuations, IsMatchedOrAsks, AreAskable, KnownNext, below_handler, vectored_turn, linear_vectored, HandlerHasAnswered}
+use Rattle.match_turns.specs.Words.{Context, W32, low, Rax, Rsp, context_of, State, register, vectored_return, arrived, Exception, Slot, FunctionBody, Resumption, VectoredAt, Item, Waits, Searches, Frame, Configuration, Next, pick, continued, read, act, return, return_code, exec, Searching, Activation, activations_below, context_below, On, store_of, HaveRoom, HasRule, IsLive, Comes, live_from, held_below, turns_left, FlagsFit, Setting, RepresentsAt, Continuations, IsMatchedOrAsks, AreListable, KnownNext, below_handler, vectored_turn, linear_vectored, HandlerHasAnswered}
 use Rattle.linear_code.specs.declared.instruction.Instruction.TheVariants as instructions
 use Rattle.linear_machine.specs.Searching.{ask_from, vectored_answered}
 use Rattle.match_turns.proofs.Lemmas.{reaches_silently, on_stack, IsCounted}
@@ -27,7 +27,7 @@ module _ (setting : Setting) (roomy : HaveRoom setting.program) where
       (exception : Exception) (resumption : Resumption) (place : ℕ) (w : Frame) (below : List Item)
       (under : c.below ≡ Searches exception resumption (VectoredAt place) ∷ Waits w ∷ below)
       (small : place + 1 < 2 ^ 64) (free : w.landed ≡ None)
-      (listed : AreAskable program c.store.vectored) where
+      (listed : AreListable program c.store.vectored) where
     abbrev after : State
     after = leaving.after setting roomy s c b counted from at
 

@@ -6,7 +6,7 @@ use Rattle.std.proofs.lemmas.Option.{slice_get_within}
 use Rattle.source_meaning.specs.Raises.{handler_arguments}
 use Rattle.source_meaning.specs.Expressions.{of_test}
 use Rattle.linear_machine.specs.Frames.{function_body}
-use Rattle.match_turns.specs.Words.{weight, STACK_START, STACK_END, context_of, State, register, Rsp, rsp, number_at, DispatchRecord, vectored_return, Exception, ExceptionCode, ExceptionFlags, LinearFunction, FunctionBody, body_of, depth_weight, Resumption, VectoredAt, Item, Waits, Searches, Configuration, begin_function, Flags, IsNear, MachineView, machine, StackItem, Searching, context_below, Activation, locals_of, FRAME_BY_WEIGHT, Comes, GivesCallers, AllKeep, weight_of, IsLayoutIf, Setting, IsMachineMemory, IsKnown, IsAskable, IsAsking, HandlerBegins, seen_by_templates, host_list, IsWellFormed}
+use Rattle.match_turns.specs.Words.{weight, STACK_START, STACK_END, context_of, State, register, Rsp, rsp, number_at, DispatchRecord, vectored_return, Exception, ExceptionCode, ExceptionFlags, LinearFunction, FunctionBody, body_of, depth_weight, Resumption, VectoredAt, Item, Waits, Searches, Configuration, begin_function, Flags, IsNear, MachineView, machine, StackItem, Searching, context_below, Activation, locals_of, FRAME_BY_WEIGHT, Comes, GivesCallers, AllKeep, weight_of, IsLayoutIf, Setting, IsMachineMemory, IsKnown, IsListable, IsAsking, HandlerBegins, seen_by_templates, host_list, IsWellFormed}
 use Rattle.match_stack.specs.PlainWalks.{state}
 use Rattle.match_bodies.specs.Callers.{FindsReturn, callers}
 use Rattle.match_stack.specs.StackRecords.{On}
@@ -64,7 +64,7 @@ module _ (setting : Setting) where
       (h : IsAsking t fs program p s at r is acts exception place c)
       (store : c.store.activations ≡ locals_of acts)
       (a : HandlerBegins t fs program p s at r is acts exception resumption place c)
-      (askable : IsAskable program a.handler)
+      (askable : IsListable program a.handler)
       (memory : IsMachineMemory setting a.state.memory c.store.memory)
       (name : HasName t fs program p q a.state.memory a.handler)
       (shallow : nat_lt 1000 (length c.store.activations + c.frame.held

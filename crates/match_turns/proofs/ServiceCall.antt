@@ -2,7 +2,7 @@
 use Rattle.std.proofs.Common.{◌≡◌, ℕ, ◌+◌, ◌^◌, ◌<◌, ◌≤◌, [], ◌∷◌, Some, Ok, refl, sym, subst, arith}
 use Rattle.std.specs.Prelude.{slice_get}
 use Rattle.std.proofs.lemmas.Bool.{ne_eqb}
-use Rattle.match_turns.specs.Words.{opcode_register, IMAGE_BASE, IMAGE_RANGE_END, STACK_START, STACK_END, address_of, W64, loaded, Rsp, Flags, State, register, BuiltIn, Put, Protect, RaiseException, Walk, AddVectored, RemoveVectored, Temporary, BodyState, Configuration, Layout, size, sizes, keep, IsNear, call, return_at, begin_call, call_code, clear_result, template_size, MachineView, machine, pushed, HasCode, IsLive, Comes, HaveRoom, service_of, CallsBuiltIn, Setting, RepresentsAt, arguments_code}
+use Rattle.match_turns.specs.Words.{opcode_register, IMAGE_BASE, IMAGE_RANGE_END, STACK_START, STACK_END, address_of, W64, loaded, Rsp, Flags, State, register, BuiltIn, Put, Protect, RaiseException, Walk, AddVectored, RemoveVectored, Temporary, BodyState, Configuration, Layout, size, sizes, keep, IsNear, call, return_at, begin_call, call_code, clear_result, template_size, MachineView, machine, pushed, HasCode, IsLive, Comes, HaveRoom, host_service_of, CallsBuiltIn, Setting, RepresentsAt, arguments_code}
 use Rattle.x64_templates.specs.Runs.{Reaches}
 use Rattle.linear_code.specs.declared.instruction.Instruction.TheVariants as instructions
 use Rattle.match_turns.proofs.BuiltInRun.{thunk_turns, named, service_reaches}
@@ -16,8 +16,8 @@ clear_size : size clear_result ≡ 5
 unfolding size opcode_register
 clear_size = refl
 
-service_low : (f : BuiltIn) → (0 < address_of (service_of f))
-    × (address_of (service_of f) < 0x100000000)
+service_low : (f : BuiltIn) → (0 < address_of (host_service_of f))
+    × (address_of (host_service_of f) < 0x100000000)
 service_low Put = (omega arith, omega arith)
 service_low Protect = (omega arith, omega arith)
 service_low RaiseException = (omega arith, omega arith)
@@ -59,7 +59,7 @@ module _ (setting : Setting) (roomy : HaveRoom setting.program) where
       back = return_at layout first (s.cpu.rip + 5)
 
       abbrev pub service : ℕ
-      service = address_of (service_of f)
+      service = address_of (host_service_of f)
 
       pub low : STACK_START + 196568 ≤ sp
       low = sp_low setting s c b counted

@@ -1,7 +1,7 @@
 -- Each of these steps is matched.
 use Rattle.std.proofs.Common.{◌≡◌, ℕ, ◌+◌, ◌<◌, Bool, true, false, List, ◌∷◌, Option, Some, None, length, refl, sym, ap, subst, ◌∙◌}
 use Rattle.std.specs.Prelude.{slice_get}
-use Rattle.match_turns.specs.Words.{Rsp, address_of, back, register, context_of, waiting, Waits, StackItem, On, return_at, MachineView, machine, pushed, service_of, State, BuiltIn, Put, Protect, Walk, AddVectored, RemoveVectored, Local, Instruction, LinearProgram, Configuration, instruction_at, LandsWell, IsWellMade, IsKnown, Setting, setting_of, RepresentsAt}
+use Rattle.match_turns.specs.Words.{Rsp, address_of, back, register, context_of, waiting, Waits, StackItem, On, return_at, MachineView, machine, pushed, host_service_of, State, BuiltIn, Put, Protect, Walk, AddVectored, RemoveVectored, Local, Instruction, LinearProgram, Configuration, instruction_at, LandsWell, IsWellMade, IsKnown, Setting, setting_of, RepresentsAt}
 use Rattle.linear_code.specs.declared.instruction.Instruction.TheVariants as instructions
 use Rattle.match_turns.proofs.Lemmas.{some_is, counted_here, askable_here, around_here, code_at, held_here, goes_inside, ready_here}
 use Rattle.match_turns.specs.ServiceLaws.{InformationIsMatched, PutsAreMatched, ProtectsAreMatched, WalksAreMatched, AddsAreMatched, RemovesAreMatched}
@@ -108,7 +108,7 @@ module _ (setting : Setting) (made : IsWellMade setting.program setting.plan) (s
     to a = return_at (p.layout c.frame.body) first (a + 5)
 
     abbrev there : ℕ → State
-    there a = machine (pushed given (register s.cpu Rsp) (to a)) (address_of (service_of Walk))
+    there a = machine (pushed given (register s.cpu Rsp) (to a)) (address_of (host_service_of Walk))
         s.cpu.flags
 
     abbrev stack : List StackItem

@@ -1,6 +1,6 @@
 -- Each turn from where a built-in function is called to its service keeps the shadow.
 use Rattle.std.proofs.Common.{◌≡◌, ℕ, ◌+◌, List, [], ◌∷◌, refl, subst, arith}
-use Rattle.match_turns.specs.Words.{Rcx, Rdx, address_of, Memory, Flags, State, sizes, MachineView, machine, BuiltIn, Put, Protect, RaiseException, Walk, AddVectored, RemoveVectored, StackItem, AllKeep, FindsReturn, nothing_owed, CallsBuiltIn, service_of, Setting}
+use Rattle.match_turns.specs.Words.{Rcx, Rdx, address_of, Memory, Flags, State, sizes, MachineView, machine, BuiltIn, Put, Protect, RaiseException, Walk, AddVectored, RemoveVectored, StackItem, AllKeep, FindsReturn, nothing_owed, CallsBuiltIn, host_service_of, Setting}
 use Rattle.template_code.specs.Handlers.{address_in}
 use Rattle.x64_templates.specs.Runs.{Reaches, Steps}
 use Rattle.x64_templates.specs.Thunks.{HasThunk}
@@ -20,24 +20,25 @@ module _ (setting : Setting) where
   open setting use {functions as t, funclets as fs, program, plan as p, sites as q, image}
 
   -- at a service it finds the caller
-  service_found : (f : BuiltIn) (m : Memory) → FindsReturn t m (address_of (service_of f))
-  service_found Put m = image.callers_outside.services m (address_of (service_of Put)) (omega arith)
+  service_found : (f : BuiltIn) (m : Memory) → FindsReturn t m (address_of (host_service_of f))
+  service_found Put m = image.callers_outside.services m (address_of (host_service_of Put))
+      (omega arith)
       (omega arith) (λ e. absurd (omega arith)) (λ e. absurd (omega arith))
       (λ e. absurd (omega arith))
-  service_found Protect m = image.callers_outside.services m (address_of (service_of Protect))
+  service_found Protect m = image.callers_outside.services m (address_of (host_service_of Protect))
       (omega arith) (omega arith) (λ e. absurd (omega arith)) (λ e. absurd (omega arith))
       (λ e. absurd (omega arith))
   service_found RaiseException m = image.callers_outside.services m
-      (address_of (service_of RaiseException)) (omega arith) (omega arith)
+      (address_of (host_service_of RaiseException)) (omega arith) (omega arith)
       (λ e. absurd (omega arith)) (λ e. absurd (omega arith)) (λ e. absurd (omega arith))
-  service_found Walk m = image.callers_outside.services m (address_of (service_of Walk))
+  service_found Walk m = image.callers_outside.services m (address_of (host_service_of Walk))
       (omega arith) (omega arith) (λ e. absurd (omega arith)) (λ e. absurd (omega arith))
       (λ e. absurd (omega arith))
   service_found (AddVectored f) m = image.callers_outside.services m
-      (address_of (service_of (AddVectored f))) (omega arith) (omega arith)
+      (address_of (host_service_of (AddVectored f))) (omega arith) (omega arith)
       (λ e. absurd (omega arith)) (λ e. absurd (omega arith)) (λ e. absurd (omega arith))
   service_found (RemoveVectored f) m = image.callers_outside.services m
-      (address_of (service_of (RemoveVectored f))) (omega arith) (omega arith)
+      (address_of (host_service_of (RemoveVectored f))) (omega arith) (omega arith)
       (λ e. absurd (omega arith)) (λ e. absurd (omega arith)) (λ e. absurd (omega arith))
 
   module _ (v : MachineView) (g : Flags) (top from back : ℕ) (others : List ℕ)
@@ -52,7 +53,7 @@ module _ (setting : Setting) where
         → AllKeep t fs 1 (machine v (q.thunk f) g)
     thunk_turn f direct called has beneath =
         let at = q.thunk f in
-        let service = address_of (service_of f) in
+        let service = address_of (host_service_of f) in
         let s = machine v at g in
         let u = machine v service g in
         let thunk : HasThunk v.memory at service = (direct_service setting f v.memory direct
@@ -71,14 +72,14 @@ module _ (setting : Setting) where
     turns_keep (AddVectored f) called has beneath =
         let at = q.thunk (AddVectored f) in
         let to = p.handler f in
-        let service = address_of (service_of (AddVectored f)) in
+        let service = address_of (host_service_of (AddVectored f)) in
         let w : MachineView = record v { rdx = to } in
         let s = machine v at g in
         let u = machine w (at + 7) g in
         let n = adding_size (at + 7) to in
         let next : at + sizes (address_in Rdx (at + 7) to ∷ []) ≡ at + 7 = omega arith in
         let thunk : HasThunk v.memory (at + 7) service = (subst (λ a. HasService t fs program p q
-        v.memory a (service_of (AddVectored f))) next has.service).thunk in
+        v.memory a (host_service_of (AddVectored f))) next has.service).thunk in
         stub_keeps setting s u (machine w service g) top from back others list beneath
         (address_in Rdx (at + 7) to) (short (at + 7) to has.names.near) has.stub refl
         (one_step s u (adding v at to service g has.names.near has.stub)) refl refl (λ a. refl)
@@ -90,14 +91,14 @@ module _ (setting : Setting) where
     turns_keep (RemoveVectored f) called has beneath =
         let at = q.thunk (RemoveVectored f) in
         let to = p.handler f in
-        let service = address_of (service_of (RemoveVectored f)) in
+        let service = address_of (host_service_of (RemoveVectored f)) in
         let w : MachineView = record v { rcx = to } in
         let s = machine v at g in
         let u = machine w (at + 7) g in
         let n = removing_size (at + 7) to in
         let next : at + sizes (address_in Rcx (at + 7) to ∷ []) ≡ at + 7 = omega arith in
         let thunk : HasThunk v.memory (at + 7) service = (subst (λ a. HasService t fs program p q
-        v.memory a (service_of (RemoveVectored f))) next has.service).thunk in
+        v.memory a (host_service_of (RemoveVectored f))) next has.service).thunk in
         stub_keeps setting s u (machine w service g) top from back others list beneath
         (address_in Rcx (at + 7) to) (short (at + 7) to has.names.near) has.stub refl
         (one_step s u (removing v at to service g has.names.near has.stub)) refl refl (λ a. refl)

@@ -7,7 +7,7 @@ use Rattle.std.proofs.lemmas.List.{append-nil}
 use Rattle.std.proofs.lemmas.Option.{slice_get_within}
 use Rattle.vectored_list.specs.Lists.{is_listed, can_be_added, added, removed}
 use Rattle.host_model.specs.HostStep.{removing, listed}
-use Rattle.match_turns.specs.Words.{W32, low, Rcx, State, register, Continues, arrived, back, turn, answer_number, BuiltIn, AddVectored, RemoveVectored, of_test, Temporary, LinearProgram, Configuration, Next, act, AreAskable, CallsBuiltIn, Moves, HaveRoom, turns_left, Setting, RepresentsAt}
+use Rattle.match_turns.specs.Words.{W32, low, Rcx, State, register, Continues, arrived, back, turn, answer_number, BuiltIn, AddVectored, RemoveVectored, of_test, Temporary, LinearProgram, Configuration, Next, act, AreListable, CallsBuiltIn, Moves, HaveRoom, turns_left, Setting, RepresentsAt}
 use Rattle.linear_code.specs.declared.instruction.Instruction.TheVariants as instructions
 use Rattle.match_turns.proofs.Lemmas.{IsCounted, Surroundings}
 use Rattle.match_turns.proofs.BuiltInShadow.{calls_it}
@@ -17,7 +17,7 @@ use Rattle.match_turns.proofs.ServiceReturn.{to, there, returned_to, answered, s
 use Rattle.match_turns.proofs.ServiceTurns.{calls_as, numbered, argument, pushed_memory, same_stack}
 
 -- functions that can be asked are of the program
-askable_below : (program : LinearProgram) (fs : List ℕ) → AreAskable program fs
+askable_below : (program : LinearProgram) (fs : List ℕ) → AreListable program fs
     → AllByRecursion (λ f. f < length program.functions) fs
 askable_below program [] h = tt
 askable_below program (f ∷ fs) h = (
@@ -39,7 +39,7 @@ module _ (setting : Setting) (roomy : HaveRoom setting.program) where
 
   -- a handler is taken out; of no handlers none is
   takes_out : (f : ℕ) → f < length program.functions → (s u : State) (gs : List ℕ)
-      → AreAskable program gs → u.vectored ≡ map p.handler gs → register s.cpu Rcx ≡ p.handler f
+      → AreListable program gs → u.vectored ≡ map p.handler gs → register s.cpu Rcx ≡ p.handler f
       → removing s u ≡ listed u (is_listed f gs) (map p.handler (removed f gs))
   takes_out f few s u [] askable list e =
       ap (λ hs. listed u (is_listed (register s.cpu Rcx) hs) (removed (register s.cpu Rcx) hs)) list
@@ -57,7 +57,7 @@ module _ (setting : Setting) (roomy : HaveRoom setting.program) where
       (within : c.frame.next + 1 < length b.body.slots.code.code)
       (held : length c.frame.temporaries ≤ b.body.slots.code.temporaries)
       (count : length c.frame.temporaries ≡ first + 1) (free : c.frame.landed ≡ None)
-      (askable : AreAskable program c.store.vectored) where
+      (askable : AreListable program c.store.vectored) where
     abbrev k : BuiltIn
     k = AddVectored f
 
@@ -144,7 +144,7 @@ module _ (setting : Setting) (roomy : HaveRoom setting.program) where
       (within : c.frame.next + 1 < length b.body.slots.code.code)
       (held : length c.frame.temporaries ≤ b.body.slots.code.temporaries)
       (count : length c.frame.temporaries ≡ first + 0) (free : c.frame.landed ≡ None)
-      (askable : AreAskable program c.store.vectored) where
+      (askable : AreListable program c.store.vectored) where
     abbrev removal : BuiltIn
     removal = RemoveVectored f
 

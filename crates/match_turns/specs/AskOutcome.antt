@@ -1,4 +1,7 @@
 -- What a turn comes to that asks a vectored handler, against what linear code continues with.
+--
+-- The main definitions: `EntersHandler`, `HandlerStarts`, `OutcomeOrAsks`, `ShowsOrAsks`,
+-- `AskBegins`, `IsMatchedOrAsks`.
 use Rattle.std.specs.Prelude.{◌≡◌, ◌⊎◌, ℕ, ◌+◌, ◌-◌, ◌*◌, ◌<◌, ◌≤◌, false, nat_lt, List, [], ◌∷◌, ◌++◌, length, slice_get, Some}
 use Rattle.seh_num.specs.declared.event.Event.{Event}
 use Rattle.flat_memory.specs.Memory.{number_at}

@@ -1,4 +1,6 @@
 -- Where a function begins.
+--
+-- The main definitions: `CallBegins`, `FunctionsApart`.
 use Rattle.std.specs.Prelude.{◌≡◌, ◌≢◌, ℕ, ◌+◌, ◌-◌, ◌*◌, ◌<◌, ◌≤◌, List, [], ◌∷◌, ◌++◌, length, slice_get, Some, None}
 use Rattle.seh_num.specs.declared.event.Event.{Event}
 use Rattle.x64_machine.specs.Effect.{State}

@@ -1,4 +1,6 @@
 -- What a turn of the dispatcher comes to, against what linear code continues with.
+--
+-- The main definitions: `Represents`, `Outcome`.
 use Rattle.std.specs.Prelude.{◌≡◌, ◌⊎◌, ℕ, ◌+◌, ◌≤◌, false, nat_lt, List, [], ◌∷◌, ◌++◌, length, None}
 use Rattle.seh_num.specs.declared.event.Code.{Code}
 use Rattle.seh_num.specs.declared.event.Event.{Event}
@@ -60,7 +62,8 @@ module _ (t : Functions) (fs : List Funclet) (program : LinearProgram) (p : Imag
     pub again : WorksAgain t fs program p q c.frame
         (leaf_values (p.leaf c.frame.body) c.frame.body body.acts) s.cpu
 
-  -- a state of the machine represents a configuration of linear code
+  -- an instruction begins, or, after a fault that was continued, the machine is within the
+  -- operation that linear code makes again
   abbrev pub Represents : State → Configuration → Type 0
   Represents s c = RepresentsAt t fs program p q s c ⊎ WorksOn s c
 
@@ -111,7 +114,9 @@ module _ (t : Functions) (fs : List Funclet) (program : LinearProgram) (p : Imag
     pub turns : turn ≡ Ends [] (ends.Unhandled code)
     pub acts : (next : Next) → seen next ≡ Finished (source.Unhandled code) es
 
-  -- a turn of the dispatcher continues a body, enters a funclet or ends the run
+  -- a turn of the dispatcher comes to a body that continues, enters a funclet or ends the run.
+  -- Where RSP was no higher before it than where the walk began (`LiveCallers`), the walk gives the
+  -- callers that are live then, and past a funclet's first byte its own (`WalkContinues`).
   abbrev pub Outcome : Turn → (Next → Seen) → List Event → ℕ → LiveCallers → Type 0
   Outcome turn seen es left live =
       ContinuesAs turn seen es left live ⊎ (EntersFunclet turn seen es left live

@@ -1,4 +1,6 @@
 -- What is asked of the bodies that continue where an exception is continued.
+--
+-- The main definition: `Continuations`.
 use Rattle.std.specs.Prelude.{◌≡◌, List, [], ◌∷◌, None}
 use Rattle.x64_machine.specs.declared.cpu.Cpu.{Cpu}
 use Rattle.x64_machine.specs.Contexts.{context_of}

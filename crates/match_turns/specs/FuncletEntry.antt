@@ -1,5 +1,7 @@
 -- From a funclet's first byte, where the dispatcher or a call has brought the machine, to its first
 -- instruction of linear code.
+--
+-- The main definitions: `FiltersBegin`, `BlocksBegin`, `FlagsFit`.
 use Rattle.std.specs.Prelude.{◌≡◌, ℕ, ◌+◌, ◌<◌, true, false, nat_lt, List, ◌∷◌, length, slice_get, Some}
 use Rattle.x64_instr.specs.declared.register.Reg.TheVariants.{Rcx, Rsp}
 use Rattle.x64_machine.specs.Effect.{State, register}

@@ -32,7 +32,7 @@ use Rattle.match_runs.specs.Matched.{IsMatched}
 use Rattle.match_bodies.specs.CodeSites.{Sites}
 use Rattle.match_bodies.specs.ProgramImages.{IsMachineMemory, IsProgramImage}
 use Rattle.match_bodies.specs.Bodies.{turns_left}
-use Rattle.match_bodies.specs.ConfigurationFacts.{KnownNext, AreAskable}
+use Rattle.match_bodies.specs.ConfigurationFacts.{KnownNext, AreListable}
 use Rattle.match_turns.specs.FuncletEntry.{FlagsFit}
 use Rattle.match_turns.specs.DispatchOutcome.{live_from, NoneLanded, Represents, Shows}
 use Rattle.match_turns.specs.ExceptionContinuation.{Continuations}
@@ -71,7 +71,7 @@ FilterAnswersAreMatched =
     → c.store.activations ≡ locals_of acts
     → ((next : Next) → act program i next c ≡ linear_answer program u exception resumption asked
     rest (waiting_below c w below) next) → HasRule (act program i (exec program zero) c)
-    → KnownNext program c i → AreAskable program c.store.vectored
+    → KnownNext program c i → AreListable program c.store.vectored
     → IsMatchedOrAsks t fs program p q s c i
 
 -- and where they lead to that of `__finally` blocks, the step that ends the block
@@ -108,7 +108,7 @@ RaisesAreShown =
     (resumption : Resumption)
     → IsException code flags access exception → ResumesFrom p resumption c.frame acts saved
     → HasRule (raise program (exec program zero) exception resumption c)
-    → AreAskable program c.store.vectored → (here : ℕ) → place_of saved ≤ here
+    → AreListable program c.store.vectored → (here : ℕ) → place_of saved ≤ here
     → ShowsOrAsks t fs program p q (arrived t fs (raised t s code flags access saved))
     (raise_event exception ∷ []) (λ next. raise program next exception resumption c) c.events
     (turns_left c) here (live_from (context_of saved) is)

@@ -113,10 +113,10 @@ pub use Rattle.match_bodies.specs.Bodies.{slots_end, last_temporary, turns_left,
 pub use Rattle.match_bodies.specs.BodyViews.{counts_of, seen_by_templates, arrived_in, frame_at, state_of, IsReached}
 pub use Rattle.match_bodies.specs.Callers.{FindsReturn, FindsOwed, Owed, nothing_owed, owed_by, owed_of, callers, caller_above}
 pub use Rattle.match_bodies.specs.CodeSites.{Sites, links_of, function_arguments, parent_base, keep_argument, begin_of, making_size, frame_code, entry_code, funclet_arguments, keep_base}
-pub use Rattle.match_bodies.specs.ConfigurationFacts.{IsAskable, AreAskable, IsWellMade, IsKnown, KnownNext}
+pub use Rattle.match_bodies.specs.ConfigurationFacts.{IsListable, AreListable, IsWellMade, IsKnown, KnownNext}
 pub use Rattle.match_bodies.specs.Layouts.{IsLayoutIf, IsFuncletPlan, IsFunctionLayout, IsLeafLayout, IsLaidOut, IsFuncletLayout}
 pub use Rattle.match_bodies.specs.LocalRegisters.{now_of, RegistersHold}
-pub use Rattle.match_bodies.specs.ProgramImages.{frame_of, stub_code, service_of, WorksAgain, IsProgramImage, is_finally, view_of, ReturnsThere}
+pub use Rattle.match_bodies.specs.ProgramImages.{frame_of, stub_code, host_service_of, WorksAgain, IsProgramImage, is_finally, view_of, ReturnsThere}
 pub use Rattle.match_bodies.specs.Setting.{Setting, IsMachineMemory, RepresentsAt, InBody, IsResumed, setting_of, HasProgram}
 pub use Rattle.match_bodies.specs.SlotStores.{KeepsStackBut, OwnerHasFrame, with_values}
 pub use Rattle.match_bodies.specs.StepLaws.{turns_per_step}

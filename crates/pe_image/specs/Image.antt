@@ -1,4 +1,6 @@
 -- An image as it is read, and what is stored in it.
+--
+-- The main definition: `stored`.
 use Rattle.std.specs.Prelude.{◌≡◌, ℕ, ◌+◌, ◌-◌, ◌%◌, ◌≤◌, bit_and, Bool, true, false, not, ◌&&◌, ◌==◌, nat_lt, nat_le, List, [], ◌∷◌, length, take, drop, find, Option, Some, None}
 use Rattle.std.specs.Str.{bytes_eq}
 use Rattle.host_layout.specs.declared.range.TheConstants.{PAGE}

@@ -1,6 +1,8 @@
 -- What an image imports (PE format, "The .idata Section"): its libraries in their order, and the
 -- names of each in theirs. Each definition answers what it reads, or refuses the import at which it
 -- can't continue, by its index over all libraries.
+--
+-- The main definition: `imports`.
 use Rattle.std.specs.Prelude.{ℕ, zero, suc, ◌+◌, Bool, true, false, ◌&&◌, ◌==◌, nat_lt, nat_le, List, [], length, take, drop, position, option_map, option_and_then, Option, Some, None, Result, Ok, Err}
 use Rattle.byteorder.specs.Endian.{little_number}
 use Rattle.pe_image.specs.declared.layout.TheConstants.{DESCRIPTOR_SIZE, IMPORT_LOOKUP_TABLE, TIME_DATE_STAMP, FORWARDER_CHAIN, LIBRARY_NAME, IMPORT_ADDRESS_TABLE, LOOKUP_ENTRY_SIZE, IMAGE_ORDINAL_FLAG64, HINT_SIZE, ADDRESS_COUNT}
@@ -114,6 +116,10 @@ unless_none others false = others
 abbrev pub imports_in : List Section → DataDirectory → Result (List Import) ImageErr
 imports_in ss d = unless_none (libraries max_count ss 0 d.rva) (d.size == 0)
 
+-- the names that an image imports with the addresses of their slots, library by library, or the
+-- first import, by its index over all libraries, that can't be read (PE format, "The .idata
+-- Section"). `outline` is the reading before them; `outline_alone` is it as an image that imports
+-- nothing, as an unwinder reads it
 abbrev pub imports : Image → Result (List Import) ImageErr
 imports image = imports_in image.sections image.imports
 

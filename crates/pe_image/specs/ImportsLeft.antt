@@ -1,5 +1,7 @@
 -- What is left of the list of imports from a place on: the other entries of a lookup table, and
 -- then those of the libraries after it.
+--
+-- The main definition: `left`.
 use Rattle.std.specs.Prelude.{ℕ, ◌+◌, ◌-◌, ◌*◌, ◌≤◌, ◌<◌, ◌^◌, ◌==◌, List, [], ◌++◌, Option, Some, None, IfSome, Result, IsOk}
 use Rattle.pe_image.specs.declared.layout.TheConstants.{DESCRIPTOR_SIZE, LOOKUP_ENTRY_SIZE}
 use Rattle.pe_image.specs.declared.directory.DataDirectory.{DataDirectory}
@@ -23,6 +25,8 @@ abbrev pub table_left : List Section → Option LookupTable → List Import
 table_left ss None = []
 table_left ss (Some t) = or_none (entries ss t)
 
+-- the imports from a place on: the other entries of a lookup table, and then those of the libraries
+-- after it
 abbrev pub left : List Section → ImportPlace → List Import
 left ss p = table_left ss p.table ++ or_none (others ss p.directory p.library)
 

@@ -1,6 +1,8 @@
 -- The table of names in the section `.sehname`: a count of 32 bits, then that many rows of four
 -- such numbers (own). A row has the range of a part of a function's code, the function's number,
 -- and the address of its name, which a 0 ends in the same section.
+--
+-- The main definitions: `rows_of`, `names_of`, `function_name`.
 use Rattle.std.specs.Prelude.{ℕ, zero, suc, ◌+◌, ◌-◌, ◌*◌, ◌<◌, Bool, true, false, ◌&&◌, nat_lt, nat_le, nat_eq, if◌then◌else◌, List, [], ◌∷◌, drop, length, slice_index_or, option_map, Option, Some, None, Result, Ok, Err}
 use Rattle.seh_num.specs.Answers.{unless, or_refused, prepend, ◌>>=◌}
 use Rattle.pe_image.specs.declared.layout.TheConstants.{SEHNAME_NAME, NAME_COUNT_SIZE, NAME_ROW_SIZE, NAME_ROW_END, NAME_ROW_NUMBER, NAME_ROW_NAME}
@@ -70,7 +72,11 @@ rows_from s (suc n) index last = do
   row ← or_refused (row_at s index last) (record { row = index })
   prepend row (rows_from s n (index + 1) row.end)
 
--- all rows, or the first one that isn't right; a section without a count has no first row
+-- the rows of a table of names, each a range of code with its function's number and name, or the
+-- first by its index that isn't right. A row isn't right where it or its name isn't stored whole,
+-- its range is empty, or it begins before the range before it ends. `row_holding` is the row whose
+-- range holds an address, `name_at_begin` the name of the one that begins there, `name_of` the name
+-- in the first row with a number (own).
 abbrev pub rows_of : NameSection → Result (List NameRow) NameErr
 rows_of s = do
   _ ← unless (is_there s.raw 0 NAME_COUNT_SIZE) (record { row = 0 })
@@ -81,7 +87,8 @@ abbrev pub names_in : Option Section → Result (List NameRow) NameErr
 names_in None = Ok []
 names_in (Some s) = rows_of (name_section s)
 
--- the names of an image: the rows of the table in its first section `.sehname`
+-- the rows of the table of names in an image's first section `.sehname`, or its first row that
+-- isn't right; an image without such a section has none (own)
 unfoldable pub names_of : Image → Result (List NameRow) NameErr
 names_of image = names_in (section_named SEHNAME_NAME image.sections)
 
@@ -104,7 +111,8 @@ abbrev pub name_of : ℕ → List NameRow → Option (List ℕ)
 name_of number [] = None
 name_of number (r ∷ rs) = name_or (name_of number rs) r.name (nat_eq r.number number)
 
--- the name of a number in an image; one whose table is refused has none
+-- the name of a number in an image. In a layout in which a loader mapped the image these are the
+-- same definitions, of sections that have all of their size.
 abbrev pub function_name : Image → ℕ → Option (List ℕ)
 function_name image number = name_of number (rows_read (names_of image))
 

@@ -1,4 +1,6 @@
 -- How an image is read: fields by their places in the PE format, and the checks in their order.
+--
+-- The main definitions: `reading`, `IsImage`, `placed`.
 use Rattle.std.specs.Prelude.{◌≡◌, ℕ, zero, suc, ◌+◌, ◌*◌, ◌%◌, ◌≤◌, Bool, ◌&&◌, ◌||◌, ◌==◌, nat_lt, nat_le, if◌then◌else◌, List, [], ◌∷◌, length, take, drop, map, min, Result, Ok, Err}
 use Rattle.host_layout.specs.declared.range.TheConstants.{PAGE}
 use Rattle.host_layout.specs.Ranges.{pages}
@@ -128,7 +130,9 @@ abbrev pub headers_from : List ℕ → ℕ → ℕ → List SectionHeader
 headers_from bytes zero at = []
 headers_from bytes (suc n) at = header_at bytes at ∷ headers_from bytes n (at + SECTION_HEADER_SIZE)
 
--- what a loader mapped is at the section's address, all of its size
+-- where the bytes of an image have a section. In a file they are its raw data; where a loader
+-- mapped the image (`Mapped`), they are at its address, all of its size. `outline_in`,
+-- `reading_in`: the readings in such a layout; `outline` and `reading` are those of a file.
 abbrev pub placed : ImageLayout → SectionHeader → SectionHeader
 placed layouts.File s = s
 placed layouts.Mapped s = record s { raw_at = s.address; raw_size = s.size }
@@ -220,7 +224,10 @@ outline_alone layout bytes = do
   image ← outline_in layout bytes
   Ok (unimported image)
 
--- whose imports can be read, in a file
+-- the checks of a PE32+ image for x64 in their order, each with its refusal, and the image that is
+-- read where none fails. That has a base, an entry point, a size, sections with their names and
+-- what the file stores of each, and directories (PE format, "MS-DOS Stub", "COFF File Header",
+-- "Optional Header", "Section Table").
 unfoldable pub reading : List ℕ → Result Image ImageErr
 reading bytes = do
   image ← outline bytes

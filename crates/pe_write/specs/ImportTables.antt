@@ -1,6 +1,8 @@
 -- The tables of `.rdata` by which a written image imports the services of its host (PE format, "The
 -- .idata Section"): one library, whose names have no hints. All addresses are relative to the image
 -- base.
+--
+-- The main definitions: `import_tables`, `place_of`, `slot_of`, `tables_size`.
 use Rattle.std.specs.Prelude.{ℕ, suc, ◌+◌, ◌*◌, ◌%◌, ◌==◌, if◌then◌else◌, List, [], ◌∷◌, ◌++◌, length}
 use Rattle.std.specs.List.{flat_map}
 use Rattle.host_layout.specs.declared.imported.ImportedService.{ImportedService}
@@ -81,8 +83,10 @@ descriptor ss at =
     ++ u32 (library_at ss at)
     ++ u32 (slots_at ss at)
 
--- `.rdata` of those that a program imports, where it lies there. The slots hold what the lookup
--- table holds, until they are bound
+-- the tables of `.rdata` at an address, of the services that a program imports. They are the
+-- descriptor of the library and one of zeros, the lookup table and the slots, the names, and the
+-- library's name (PE format, "The .idata Section"). The slots hold what the lookup
+-- table holds, until they are bound.
 unfoldable pub import_tables : List ImportedService → ℕ → List ℕ
 import_tables ss at =
     descriptor ss at

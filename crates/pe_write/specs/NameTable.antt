@@ -1,5 +1,7 @@
 -- The table of names of a written image, in its section `.sehname`: how many rows there are, the
 -- rows with the ranges and the numbers of functions, and then the names, each ended by a 0 (own).
+--
+-- The main definitions: `name_table_bytes`, `AreNames`.
 use Rattle.std.specs.Prelude.{ℕ, ◌+◌, ◌*◌, ◌^◌, ◌<◌, ◌≤◌, List, [], ◌∷◌, ◌++◌, length}
 use Rattle.std.specs.List.{AllByRecursion}
 use Rattle.pe_image.specs.declared.layout.TheConstants.{NAME_COUNT_SIZE, NAME_ROW_SIZE}
@@ -41,7 +43,8 @@ unfoldable pub counted_bytes : List NameRow → ℕ → List ℕ
 counted_bytes rows base =
     u32 (length rows) ++ rows_bytes (base + names_offset rows) rows ++ names_bytes rows
 
--- the table that begins at an address
+-- the table of names at an address: how many rows, the rows with range, number and address of the
+-- name, and the names, each ended by a 0 (own)
 abbrev pub name_table_bytes : List NameRow → ℕ → List ℕ
 name_table_bytes [] base = []
 name_table_bytes (r ∷ rs) base = counted_bytes (r ∷ rs) base
@@ -60,7 +63,8 @@ abbrev pub AreInOrder : ℕ → List NameRow → Type 0
 AreInOrder last [] = Unit {0}
 AreInOrder last (r ∷ rs) = (last ≤ r.begin) × AreInOrder r.end rs
 
--- rows that are read again as they are
+-- rows that are read again as they are: no range is empty or begins before the one before it ends,
+-- and no name has a 0
 pub record AreNames (rows : List NameRow) : Type 0 where
   pub each : AllByRecursion IsNameRow rows
   pub order : AreInOrder 0 rows

@@ -1,5 +1,7 @@
 -- The image of a program, as it is written: five sections, the services of its host that it
 -- imports, and the table of its functions; and a sixth section where its functions have names.
+--
+-- The main definitions: `parts_of`, `image_of`, `imports_of`, `CanBeImage`.
 use Rattle.std.specs.Prelude.{◌≡◌, ℕ, ◌+◌, ◌%◌, ◌^◌, ◌<◌, ◌≤◌, List, [], ◌∷◌, length}
 use Rattle.host_layout.specs.declared.range.TheConstants.{IMAGE_BASE, DATA_AT, PAGE}
 use Rattle.pe_image.specs.declared.layout.TheConstants.{IMAGE_SCN_MEM_EXECUTE, IMAGE_SCN_MEM_READ, IMAGE_SCN_MEM_WRITE, SEHNAME_NAME}
@@ -147,7 +149,7 @@ address_directory p =
 
 -- ---- the image
 
--- as it is written
+-- a program's image as sections and directories
 abbrev pub parts_of : ImageContents → ImageParts
 parts_of p = record {
   entry = text_at (sizes_of p) + p.entry;
@@ -193,6 +195,7 @@ sections_of p =
     data_read p ∷ text_read p ∷ rdata_read p ∷ xdata_read p ∷ pdata_read p
     ∷ if_named p.names (names_read p)
 
+-- a program's image as it is read again
 abbrev pub image_of : ImageContents → Image
 image_of p = record {
   base = IMAGE_BASE;
@@ -203,7 +206,7 @@ image_of p = record {
   exceptions = exception_directory p;
 }
 
--- each service with its slot
+-- each service that is imported with its slot
 abbrev pub imports_of : ImageContents → List Import
 imports_of p = imported (slots_at p.imports (rdata_at (sizes_of p))) p.imports
 

@@ -1,4 +1,6 @@
 -- The one form in which an image is written, piece by piece.
+--
+-- The main definition: `written`.
 use Rattle.std.specs.Prelude.{◌≡◌, ℕ, ◌+◌, ◌-◌, ◌*◌, ◌/◌, ◌^◌, ◌<◌, ◌≤◌, bit_and, Bool, true, false, not, ◌==◌, List, [], ◌∷◌, ◌++◌, length, take, sum_by, filter, Ok}
 use Rattle.std.specs.List.{flat_map, AllByRecursion}
 use Rattle.host_layout.specs.declared.range.TheConstants.{IMAGE_BASE, PAGE}
@@ -159,6 +161,8 @@ table_of image =
 unfoldable pub raw_data : SectionParts → List ℕ
 raw_data s = s.bytes ++ zeros (raw_size s - length s.bytes)
 
+-- the bytes of an image of sections, piece by piece: the headers, filled up to 1,024 bytes, and the
+-- raw data of each section, filled up to whole blocks of 512 bytes
 unfoldable pub written : ImageParts → List ℕ
 written image =
     dos_header

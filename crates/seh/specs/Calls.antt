@@ -1,5 +1,7 @@
 -- Whole calls of the program in which no stream has a fault: what each command gives, and that
 -- compiling and then running gives what the text means.
+--
+-- The main definition: `Asks`.
 use Rattle.std.specs.Prelude.{◌≡◌, ◌⊎◌, ℕ, ◌^◌, ◌<◌, ◌≤◌, List, ◌++◌, length, pos, Some, Ok}
 use Rattle.seh_num.specs.declared.end.RunEnd.{RunEnd}
 use Rattle.seh_io.specs.Streams.{Grew, last_count}
@@ -53,7 +55,10 @@ pub record HadNoFault (before after : Stream) : Type 0 where
   pub counts : after.faults < last_count
   pub same : after.faults ≡ before.faults
 
--- a call with the words of this command, over a source that holds these bytes, without a fault
+-- a call of the program with the words of a command, over a source that holds these bytes, in which
+-- no stream has a fault. Then want of memory is the one free answer: `CompileIsComplete`,
+-- `RunIsComplete`, `MeaningIsComplete`, `ShowIsComplete` and `ExecIsComplete` say what is written
+-- otherwise, with which status.
 pub record Asks (command : Command) (held : List ℕ) (call : Call) : Type 0 where
   pub answers : Answers call.words call.source call.source_after call.out call.out_after call.err
       call.err_after call.status

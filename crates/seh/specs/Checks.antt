@@ -1,4 +1,6 @@
 -- What comes of an image that is checked: the verdict on its function table, and its line.
+--
+-- The main definitions: `IsChecked`, `verdict_line`, `IsCheckAnswer`.
 use Rattle.std.specs.Prelude.{◌≡◌, ℕ, List, ◌++◌, codes, Ok, Err}
 use Rattle.std.specs.Fmt.{decimal}
 use Rattle.seh_io.specs.Streams.{Grew}
@@ -39,6 +41,7 @@ verdict_text (No k fault) =
     codes "no " ++ decimal k ++ codes " " ++ hexadecimal RVA_DIGITS fault.at ++ codes " "
     ++ unwind_rule_name fault.rule
 
+-- `yes N`, or `no INDEX RVA RULE`
 abbrev pub verdict_line : Verdict → List ℕ
 verdict_line verdict = ended (verdict_text verdict)
 

@@ -1,4 +1,6 @@
 -- Which answer a call of the program has, and by what cause.
+--
+-- The main definition: `Answers`.
 use Rattle.std.specs.Prelude.{◌≡◌, ◌⊎◌, ℕ, List, Result, Err}
 use Rattle.command_line.specs.declared.command.Command.{Command}
 use Rattle.command_line.specs.declared.command.CheckReport.TheVariants.{Whole, Each}
@@ -56,7 +58,16 @@ IsAnswer words source source' out out' answer =
     × IsCommandAnswer command source source' out out' answer)
     ⊎ ((answer ≡ Err refusals.NoMemory) × Untouched source source' out out'))
 
--- the program has one answer, by its cause, and reports it
+-- which answer a call has, by its cause, and how it is reported. It is `usage` where the words are
+-- no line of the command set, and then nothing is read. For `compile` the sink took an image with
+-- IsCompiled, and a refusal of the text comes where `TextIsRefused` says so. For `run` the answer
+-- is one of `exec` for an image with IsCompiled, or such a refusal of the text. For `selftest`
+-- nothing is read, and `IsSelftestAnswer` of 10,000,000 turns is the answer. There is a read fault
+-- only where the source's count of faults rose, and too long only where the source held more than
+-- the limit. A refusal of an image is its first failing check, or the load's. There is a write
+-- fault only where a sink's count rose, and then a part of the text from the front was taken. Else
+-- the sink took exactly the text of `machine` on the bytes that the source held, and the status is
+-- that of its end. Running out of memory alone is free.
 pub record Answers (words : List (List ℕ)) (source source' out out' err err' : Stream)
     (status : Status) : Type 0 where
   pub answer : Result CommandOutcome Refusal

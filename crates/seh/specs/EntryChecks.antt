@@ -1,5 +1,7 @@
 -- What comes of an image that is checked entry by entry: the verdicts on the entries of its
 -- function table, and their text.
+--
+-- The main definitions: `AreChecked`, `entries_text`, `IsEntriesAnswer`.
 use Rattle.std.specs.Prelude.{◌≡◌, ℕ, ◌+◌, List, [], ◌∷◌, ◌++◌, length, codes, count_by, is_none, Option, Some, None, Ok, Err}
 use Rattle.std.specs.Fmt.{decimal}
 use Rattle.seh_io.specs.Streams.{Grew}
@@ -42,6 +44,7 @@ kept_count vs = count_by (λ v. is_none v.fault) vs
 abbrev pub count_line : ℕ → ℕ → List ℕ
 count_line kept all = ended (codes "yes " ++ decimal kept ++ codes " of " ++ decimal all)
 
+-- their lines, and the last with `kept_count`, how many entries are without a fault
 abbrev pub entries_text : List EntryVerdict → List ℕ
 entries_text vs = entry_lines 0 vs ++ count_line (kept_count vs) (length vs)
 

@@ -1,4 +1,6 @@
 -- The image of a text.
+--
+-- The main definitions: `IsCompiled`, `entry_count`.
 use Rattle.std.specs.Prelude.{◌≡◌, ℕ, ◌+◌, ◌*◌, ◌^◌, ◌<◌, ◌≤◌, true, List, length, sum_by, pos, Option, Some, None, Ok}
 use Rattle.c_checked.specs.Program.{Program}
 use Rattle.linear_code.specs.declared.program.LabelRange.{LabelRange}
@@ -58,7 +60,8 @@ abbrev pub entries_with : Option FrameLayout → List LabelRange → ℕ
 entries_with None cold = 0
 entries_with (Some f) cold = 1 + length cold
 
--- those of all routines of a program, functions and funclets
+-- how many entries the function table of a program's image has: of each routine with a frame,
+-- function or funclet, one, and one for each of its cold parts (`entries_with`)
 abbrev pub entry_count : Program → ℕ
 entry_count program =
     sum_by (λ r. entries_with r.frame r.body.cold) (routines (lowered program))

@@ -1,4 +1,6 @@
 -- Whole calls of `selftest` in which no sink has a fault.
+--
+-- The main definition: `AsksSelftest`.
 use Rattle.std.specs.Prelude.{◌⊎◌, ℕ, ◌+◌, ◌*◌, ◌≤◌, List, length, false, pos, Option}
 use Rattle.seh_num.specs.Shown.{Shown}
 use Rattle.c_syntax.specs.Program.{ExternalDeclaration}

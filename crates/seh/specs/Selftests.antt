@@ -1,4 +1,6 @@
 -- What comes of the generated program of a number: the summary of its run.
+--
+-- The main definitions: `summary`, `summary_by`, `IsSelftestAnswer`.
 use Rattle.std.specs.Prelude.{ℕ, List, ◌++◌, length, codes, min, false, pos, Option, Result}
 use Rattle.seh_num.specs.declared.end.RunEnd.{RunEnd}
 use Rattle.seh_num.specs.Shown.{Shown}
@@ -36,7 +38,8 @@ summary_of turns n names shown =
 abbrev pub selftest_options : ℕ → RunOptions
 selftest_options turns = record { turns = turns; argument = pos 0; trace = false }
 
--- the summary of an image's run
+-- that of an image's run with argument 0, with its text without trace and the number of its events
+-- of all kinds
 abbrev pub summary_by : ℕ → ℕ → List ℕ → List ℕ
 summary_by turns n image =
     summary_of turns n (names_by image) (shown_by (selftest_options turns) image)

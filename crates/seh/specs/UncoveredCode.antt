@@ -1,6 +1,8 @@
 -- The code of an image that no entry of its function table covers: leaf functions, the thunks of
 -- services, `__chkstk`, and the name thunks and stubs of functions that can be vectored handlers
 -- (Microsoft x64 ABI, "Unwind data for exception handling": a leaf function needs no entry).
+--
+-- The main definition: `UncoveredCodeIsRoutines`.
 use Rattle.std.specs.Prelude.{◌≡◌, ℕ, ◌+◌, ◌<◌, ◌≤◌, true, List, [], slice_get, Some, None}
 use Rattle.pe_image.specs.Image.{Section, Image, is_executable}
 use Rattle.eh_tables.specs.Tables.{Entry, holding}
@@ -22,7 +24,9 @@ pub record IsInRoutine (image : Image) (entries : List Entry) (rva : ℕ) : Type
   pub there : HasItems (code_of image) begin rest end
   pub right : is_body (following 0 0 [] rest (Body [])) ≡ true
 
--- each byte of an executable section that no entry covers is in such a routine
+-- each byte of an executable section that no entry covers is in a routine without an entry
+-- (`IsInRoutine`). No entry covers the routine from its begin to its end, its instructions are
+-- spelled there one after another, and none of them but a return or a jump out of it writes RSP.
 abbrev pub UncoveredCodeIsRoutines : Image → List Entry → Type 0
 UncoveredCodeIsRoutines image entries =
     (index : ℕ) (section : Section) (rva : ℕ) → slice_get image.sections index ≡ Some section

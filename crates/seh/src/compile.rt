@@ -4,7 +4,7 @@ ghost use Rattle.std.specs.Prelude.{◌≤◌, length};
 ghost use Rattle.seh.specs.Answers.{text_limit, IsCompileAnswer, IsInputAnswer};
 ghost use Rattle.seh.specs.Streams.{stream};
 
-use crate::image::image_of;
+use crate::image::compiled_image;
 use crate::input::read_input;
 use crate::outcome::CommandOutcome;
 use crate::refusal::Refusal;
@@ -20,7 +20,7 @@ fn compile_text<O: Sink>(alloc: Global, text: &[u8], out: &mut O) -> Result<Comm
     ensures { IsCompileAnswer text.now
         (stream O.taken O.faults out.old) (stream O.taken O.faults out.new) result }
 {
-    let image = match image_of(alloc, text) {
+    let image = match compiled_image(alloc, text) {
         Ok(image) => image,
         Err(refusal) => return Err(refusal),
     };

@@ -25,7 +25,7 @@ fn linked_image(alloc: Global, checked: &Checked) -> Result<Vec<u8>, AllocError>
 }
 
 /// The image of an accepted text, or why it isn't compiled.
-pub fn image_of(alloc: Global, text: &[u8]) -> Result<Vec<u8>, Refusal>
+pub fn compiled_image(alloc: Global, text: &[u8]) -> Result<Vec<u8>, Refusal>
     requires { length text.now ≤ MOST_TEXT }
     ensures found { IfOk result (λ image. IsCompiled text.now image.items) }
     ensures refused { IfErr result (λ e. IsTextRefusal text.now e) }

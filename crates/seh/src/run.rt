@@ -6,7 +6,7 @@ ghost use Rattle.seh.specs.Answers.{text_limit, IsTextRunAnswer, IsInputAnswer};
 ghost use Rattle.seh.specs.Streams.{stream};
 
 use crate::exec::run_image;
-use crate::image::image_of;
+use crate::image::compiled_image;
 use crate::input::read_input;
 use crate::outcome::CommandOutcome;
 use crate::refusal::Refusal;
@@ -27,7 +27,7 @@ fn run_text<O: Sink>(
     ensures { IsTextRunAnswer options text.now
         (stream O.taken O.faults out.old) (stream O.taken O.faults out.new) result }
 {
-    match image_of(alloc, text) {
+    match compiled_image(alloc, text) {
         Ok(image) => run_image(alloc, options, &image, out),
         Err(refusal) => Err(refusal),
     }

@@ -11,7 +11,7 @@ ghost use Rattle.seh.specs.Refusals.{named};
 ghost use Rattle.seh.specs.Selftests.{summary_of, IsSummaryAnswer, IsSelftestAnswer};
 ghost use Rattle.seh.specs.Streams.{stream};
 
-use crate::image::image_of;
+use crate::image::compiled_image;
 use crate::outcome::CommandOutcome;
 use crate::refusal::{Refusal, named};
 use generated_program::generating::generate;
@@ -113,7 +113,7 @@ pub fn selftest<O: Sink>(
     let Ok(text) = generate(alloc, number) else {
         return Err(Refusal::NoMemory);
     };
-    match image_of(alloc, &text) {
+    match compiled_image(alloc, &text) {
         Ok(image) => run_program(alloc, turns, number, &image, out),
         Err(refusal) => Err(refusal),
     }

@@ -1,5 +1,8 @@
 -- What a call writes and returns, by its answer. Any call may answer that memory is wanting, and
 -- then writes nothing.
+--
+-- `Answers`, `WalkAnswers`, `FunctionAnswers`, `ScopeAnswers`: what a call returns and writes by such
+-- an answer; or memory is wanting, and nothing is written.
 use Rattle.std.specs.Prelude.{◌≡◌, ◌⊎◌, ℕ, List, Option, Some, None, Result, Ok, Err}
 use Rattle.seh_c.specs.declared.c_types.SehFrame.{SehFrame}
 use Rattle.seh_c.specs.declared.c_types.SehFunction.{SehFunction}

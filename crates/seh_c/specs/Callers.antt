@@ -1,4 +1,9 @@
 -- A frame and its caller, and the entry of an address: of all entries that one alone is read.
+--
+-- `unwound`, `walked_in`, `found_in`, `scopes_in`: what the calls answer, from the bytes of an image
+-- on, in a file or mapped.
+--
+-- The main definition: `step_in`.
 use Rattle.std.specs.Prelude.{◌≡◌, ℕ, List, Option, Some, None, option_map, Result, Ok, Err}
 use Rattle.seh_num.specs.Answers.{◌>>=◌}
 use Rattle.flat_memory.specs.Memory.{Memory}
@@ -43,7 +48,8 @@ step_at t rva m c = do
   o ← of_table (entry_covering t rva)
   step_by m c rva o
 
--- in an image that lies at a base
+-- the code of the entry that covers RIP, and the caller by the rules of `caller_of`, with that entry
+-- read when it is asked; what is refused is an image, a table, that entry, or a word of the stack
 abbrev pub step_in : Tables → ℕ → Memory → Context → Answer Step
 step_in t base m c = step_at t (distance base c.rip) m c
 

@@ -1,4 +1,6 @@
 -- What a call answers, and what it reads first: an image, and the ranges of its function table.
+--
+-- The main definition: `table_of`.
 use Rattle.std.specs.Prelude.{◌≡◌, ℕ, List, Result, Ok, Err}
 use Rattle.seh_num.specs.Answers.{◌>>=◌}
 use Rattle.pe_image.specs.Image.{Image}

@@ -1,4 +1,6 @@
 -- Ranges of memory that a caller passes: their order, and the bytes that they hold.
+--
+-- The main definitions: `AreInOrder`, `held`.
 use Rattle.std.specs.Prelude.{◌≡◌, ℕ, ◌+◌, ◌-◌, ◌^◌, Bool, true, false, ◌&&◌, nat_le, nat_lt, List, [], ◌∷◌, length, drop, Option, Some, None, Result, Ok, Err}
 use Rattle.seh_num.specs.Answers.{unless, ◌>>=◌}
 use Rattle.seh_c.specs.declared.c_types.SehRange.{SehRange}
@@ -20,6 +22,8 @@ abbrev pub in_order : ℕ → List SehRange → Bool
 in_order end [] = true
 in_order end (r ∷ rs) = is_placed end r && in_order (r.at + length r.bytes.now) rs
 
+-- each range of memory begins at or above the end of the one before, and all end within the
+-- addresses
 abbrev pub AreInOrder : List SehRange → Type 0
 AreInOrder rs = in_order 0 rs ≡ true
 
@@ -42,5 +46,6 @@ abbrev pub held_from : ℕ → Option SehRange → List ℕ
 held_from a None = []
 held_from a (Some r) = drop (a - r.at) r.bytes.now
 
+-- the bytes that one of them has from an address on
 abbrev pub held : ℕ → List SehRange → List ℕ
 held a rs = held_from a (range_at a rs)

@@ -1,6 +1,8 @@
 -- The scope records of an entry that hold an address, innermost first: a search asks them in this
 -- order (Microsoft x64 ABI, "Language-specific handler"; Windows headers, `winnt.h`,
 -- SCOPE_TABLE_AMD64).
+--
+-- The main definition: `scopes_from`.
 use Rattle.std.specs.Prelude.{◌≡◌, ◌⊎◌, ℕ, ◌+◌, Bool, true, false, ◌&&◌, nat_le, nat_lt, List, [], ◌∷◌, length, Option, Some, None, Result, Ok, Err, slice_set}
 use Rattle.seh_num.specs.Answers.{◌>>=◌}
 use Rattle.pe_image.specs.declared.image_layout.ImageLayout.{ImageLayout}
@@ -40,6 +42,7 @@ abbrev pub if_around : Filled → Filled → Bool → Filled
 if_around this others true = this
 if_around this others false = others
 
+-- the scope records that hold an address, as far as an array has room
 abbrev pub scopes_from : ℕ → ℕ → List ScopeRecord → List SehScope → Filled
 scopes_from rva k [] out = filled out k ok
 scopes_from rva k (s ∷ ss) out =

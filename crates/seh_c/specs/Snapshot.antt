@@ -1,4 +1,6 @@
 -- The memory that ranges of bytes over the code of an image are.
+--
+-- The main definition: `snapshot`.
 use Rattle.std.specs.Prelude.{ℕ, List, [], ◌∷◌}
 use Rattle.flat_memory.specs.Memory.{Memory, distance}
 use Rattle.flat_memory.specs.declared.protection.Protection.{Protection}

@@ -1,4 +1,6 @@
 -- The verdict on an image, and how C sees it.
+--
+-- The main definition: `VerdictAnswers`.
 use Rattle.std.specs.Prelude.{◌≡◌, ◌⊎◌, ℕ, List, Ok, Err}
 use Rattle.pe_image.specs.declared.image_layout.ImageLayout.{ImageLayout}
 use Rattle.pe_image.specs.Image.{Image}
@@ -63,6 +65,8 @@ pub record GivesNone (layout : ImageLayout) (bytes : List ℕ) (old new : SehVer
   pub status : given ≡ refusal_status refusal
   pub kept : new ≡ old
 
+-- what `seh_validate` returns and writes: the verdict, by `IsImageVerdict` on the image that the
+-- bytes are read as (`IsValidated`), or why there is none, with nothing written (`IsUnvalidated`)
 abbrev pub VerdictAnswers : ImageLayout → List ℕ → List ℕ → SehVerdict → SehVerdict → SehStatus
     → Type 0
 VerdictAnswers layout bytes probe old new given =

@@ -1,4 +1,6 @@
--- Views of images.
+-- Views of images: what an opening makes of the bytes, and what is found by any view.
+--
+-- The main definitions: `IsViewOf`, `OpenAnswers`, `IsFunctionOf`.
 use Rattle.std.specs.Prelude.{◌≡◌, ◌⊎◌, ◌<◌, ℕ, List, length, Bool, Ok, Err}
 use Rattle.pe_image.specs.Image.{Image}
 use Rattle.eh_tables.specs.Tables.{Entry, Tables, directory, entry_at}
@@ -19,7 +21,8 @@ pub record IsKnown (v : SehView) (image : Image) : Type 0 where
   pub read : table_of image ≡ Ok tables
   pub index : IsIndexOf tables.ranges v.shift v.index.now
 
--- the view says what opening its bytes finds
+-- the view says what opening its bytes finds: an image whose function table ascends, and an index of
+-- that table
 pub record IsViewOf (v : SehView) : Type 0 where
   pub image : Image
   pub is : opened (layout v) v.bytes.now ≡ Ok image
@@ -57,6 +60,8 @@ pub record OpensNone (mapped : Bool) (bytes : List ℕ) (old new : SehView) (giv
   pub status : given ≡ refusal_status refusal
   pub kept : new ≡ old
 
+-- what `seh_open` returns and writes: a view of these bytes, in that form, at that base, or why there
+-- is none
 abbrev pub OpenAnswers : Bool → List ℕ → ℕ → SehView → SehView → SehStatus → Type 0
 OpenAnswers mapped bytes base old new given =
     Opens mapped bytes base new given ⊎ OpensNone mapped bytes old new given
@@ -78,7 +83,7 @@ pub record IsFunctionIn (image : Image) (rva : ℕ) (f : SehFunction) : Type 0 w
   pub found : IsFound tables rva entry
   pub is : f ≡ c_function entry
 
--- of the bytes of a view
+-- of the bytes of a view: what `seh_find_function` writes, whatever the view holds
 pub record IsFunctionOf (v : SehView) (rva : ℕ) (f : SehFunction) : Type 0 where
   pub image : Image
   pub read : opened (layout v) v.bytes.now ≡ Ok image

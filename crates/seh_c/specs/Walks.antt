@@ -1,4 +1,6 @@
 -- A walk through the frames whose code lies in one image.
+--
+-- The main definition: `walk`.
 use Rattle.std.specs.Prelude.{◌≡◌, ℕ, zero, suc, ◌+◌, Bool, true, false, nat_lt, List, length, Result, Ok, Err, slice_set}
 use Rattle.seh_num.specs.Answers.{◌>>=◌}
 use Rattle.flat_memory.specs.Memory.{Memory}
@@ -57,7 +59,7 @@ walk_from t base m size (suc n) k c fs =
     if_inside (with_frame (walk_from t base m size n (k + 1)) fs k (step_in t base m c)) fs k
     (is_inside base size c)
 
--- as many as the array has room for
+-- frames one after another, while RIP lies in the image and the array has room
 abbrev pub walk : Tables → ℕ → Memory → ℕ → Context → List SehFrame → Walked
 walk t base m size c fs = walk_from t base m size (length fs) 0 c fs
 

@@ -16,7 +16,7 @@ use Rattle.host_model.specs.Turns.{Turn, Continues, Ends}
 use Rattle.host_model.specs.HostStep.{printed, walked, walk_from}
 use Rattle.seh_dispatch.specs.FuncletLists.{listed}
 use Rattle.seh_dispatch.specs.Machines.{state_of}
-use Rattle.seh_dispatch.specs.declared.machine.Machine.{Machine}
+use Rattle.seh_dispatch.specs.declared.machine.HostedProcessor.{HostedProcessor}
 use Rattle.seh_dispatch.specs.declared.outcome.TurnOutcome as code
 use Rattle.seh_dispatch.specs.declared.outcome.TurnOutcome.TheVariants as outcomes
 use Rattle.seh_dispatch.specs.declared.outcome.Led.{Led}
@@ -29,18 +29,18 @@ abbrev pub led : List Event → Turn → Turn
 led es (Continues s fs) = Continues s (es ++ fs)
 led es (Ends fs end) = Ends (es ++ fs) end
 
-abbrev pub turn_of : Machine → Memory → code.TurnOutcome → Turn
+abbrev pub turn_of : HostedProcessor → Memory → code.TurnOutcome → Turn
 turn_of x m (outcomes.Continues shown) = Continues (state_of x m) (listed shown)
 turn_of x m (outcomes.Ends end) = Ends [] end
 
-abbrev pub led_turn : Machine → Memory → Led → Turn
+abbrev pub led_turn : HostedProcessor → Memory → Led → Turn
 led_turn x m made = led (listed made.first) (turn_of x m made.outcome)
 
-abbrev pub made_turn : Machine → Memory → Made → Turn
+abbrev pub made_turn : HostedProcessor → Memory → Made → Turn
 made_turn x m made = led (listed made.first) (led_turn x m made.rest)
 
 -- a printed walk from the state that is left
-abbrev pub turn_made : Functions → Machine → Memory → TurnMade → Turn
+abbrev pub turn_made : Functions → HostedProcessor → Memory → TurnMade → Turn
 turn_made t x m (Told made) = made_turn x m made
 turn_made t x m Walks = walked (state_of x m) (printed steps t m (walk_from x.cpu))
 

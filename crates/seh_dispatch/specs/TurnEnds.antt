@@ -10,10 +10,10 @@ use Rattle.x64_machine.specs.declared.cpu.Cpu.{Cpu}
 use Rattle.x64_machine.specs.Effect.{register}
 use Rattle.host_model.specs.HostStep.{Host, Live, Ended}
 use Rattle.seh_dispatch.specs.Machines.{state_of}
-use Rattle.seh_dispatch.specs.declared.machine.Machine.{Machine}
+use Rattle.seh_dispatch.specs.declared.machine.HostedProcessor.{HostedProcessor}
 
 -- the host that is left
-abbrev pub left : Machine → Memory → Option RunEnd → Host
+abbrev pub left : HostedProcessor → Memory → Option RunEnd → Host
 left x m None = Live (state_of x m)
 left x m (Some end) = Ended end
 

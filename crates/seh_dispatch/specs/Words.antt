@@ -24,7 +24,7 @@ pub use Rattle.seh_dispatch.specs.PrintedSteps.{followed, shown_at}
 pub use Rattle.seh_dispatch.specs.Outcomes.{back_of, led, turn_of, led_turn, made_turn, turn_made, silent, all_silent, all_told}
 pub use Rattle.seh_dispatch.specs.TurnEnds.{left, over_if, over_cpu}
 pub use Rattle.seh_dispatch.specs.declared.filter.TheConstants.{REMAINDERS}
-pub use Rattle.seh_dispatch.specs.declared.machine.Machine.{Machine}
+pub use Rattle.seh_dispatch.specs.declared.machine.HostedProcessor.{HostedProcessor}
 pub use Rattle.seh_dispatch.specs.declared.outcome.Made.{Made}
 pub use Rattle.seh_dispatch.specs.declared.outcome.TurnMade.{TurnMade}
 pub use Rattle.seh_dispatch.specs.declared.outcome.TurnMade.TheVariants.{Told, Walks}

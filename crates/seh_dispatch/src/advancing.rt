@@ -18,7 +18,7 @@ ghost use Rattle.seh_dispatch.specs.TurnEnds.{over_cpu};
 
 use crate::arrival::{arrival, may_arrive};
 use crate::filter::FuncletFilter;
-use crate::machine::Machine;
+use crate::machine::HostedProcessor;
 use crate::outcome::{Made, TurnMade, TurnOutcome};
 use crate::serving::make;
 use crate::telling::tell;
@@ -75,7 +75,7 @@ fn conclude<V: Events>(
     tables: &Tables,
     filter: &FuncletFilter,
     funclets: &[Funclet],
-    machine: &Machine,
+    machine: &HostedProcessor,
     made: Made,
     to: &mut V,
 ) -> Option<RunEnd>
@@ -104,7 +104,7 @@ fn conclude_walk<S: AddressSpace, V: Events>(
     names: &NameTable,
     filter: &FuncletFilter,
     funclets: &[Funclet],
-    machine: &Machine,
+    machine: &HostedProcessor,
     space: &S,
     to: &mut V,
 ) -> Option<RunEnd>
@@ -137,7 +137,7 @@ fn dispatch<S: AddressSpace, V: Events>(
     names: &NameTable,
     filter: &FuncletFilter,
     funclets: &[Funclet],
-    machine: &mut Machine,
+    machine: &mut HostedProcessor,
     space: &mut S,
     to: &mut V,
 ) -> Option<RunEnd>
@@ -167,7 +167,7 @@ pub fn advance<S: AddressSpace, V: Events>(
     filter: &FuncletFilter,
     funclets: &[Funclet],
     instructions: &mut InstructionCache,
-    machine: &mut Machine,
+    machine: &mut HostedProcessor,
     space: &mut S,
     to: &mut V,
 ) -> Option<RunEnd>

@@ -13,7 +13,7 @@ ghost use Rattle.seh_dispatch.specs.Machines.{state_of};
 ghost use Rattle.seh_dispatch.specs.Outcomes.{turn_of, led_turn, made_turn, bad_record};
 
 use crate::dispatching::{accept, begun, search_on, stopped, unwind_on};
-use crate::machine::Machine;
+use crate::machine::HostedProcessor;
 use crate::outcome::{Led, Made, TurnOutcome, all_silent, silent};
 use crate::raising::{ask_on, search_from};
 use eh_tables::{ScopeRecord, Tables};
@@ -80,7 +80,7 @@ fn asked_row(tables: &Tables, dispatch: &DispatchRecord) -> Option<ScopeRecord>
 /// An answer above 0: the row's frame accepts.
 fn jump<S: AddressSpace>(
     tables: &Tables,
-    machine: &mut Machine,
+    machine: &mut HostedProcessor,
     space: &mut S,
     at: u64,
     dispatch: &DispatchRecord,
@@ -107,7 +107,7 @@ fn jump<S: AddressSpace>(
 #[tactic(auto, using(crate::proofs::TurnEvents::leading))]
 fn continue_execution<S: AddressSpace>(
     tables: &Tables,
-    machine: &mut Machine,
+    machine: &mut HostedProcessor,
     space: &mut S,
     at: u64,
     dispatch: &DispatchRecord,
@@ -136,7 +136,7 @@ fn continue_execution<S: AddressSpace>(
 #[tactic(auto, using(crate::proofs::TurnEvents::leading))]
 fn answer<S: AddressSpace>(
     tables: &Tables,
-    machine: &mut Machine,
+    machine: &mut HostedProcessor,
     space: &mut S,
     at: u64,
     dispatch: &DispatchRecord,
@@ -158,7 +158,11 @@ fn answer<S: AddressSpace>(
 
 /// A filter's return, with its answer in EAX.
 #[tactic(auto, using(crate::proofs::TurnEvents::leading))]
-pub fn filter_return<S: AddressSpace>(tables: &Tables, machine: &mut Machine, space: &mut S) -> Made
+pub fn filter_return<S: AddressSpace>(
+    tables: &Tables,
+    machine: &mut HostedProcessor,
+    space: &mut S,
+) -> Made
     requires { TablesAreWhole tables.now }
     ensures { made_turn machine.new (S.memory space.new) result
         ≡ spec.filter_returned (functions_of tables.now) (state_of machine.old (S.memory space.old))
@@ -187,7 +191,7 @@ pub fn filter_return<S: AddressSpace>(tables: &Tables, machine: &mut Machine, sp
 /// The return of a `__finally` block: its unwinding continues.
 pub fn finally_return<S: AddressSpace>(
     tables: &Tables,
-    machine: &mut Machine,
+    machine: &mut HostedProcessor,
     space: &mut S,
 ) -> TurnOutcome
     requires { TablesAreWhole tables.now }
@@ -213,7 +217,7 @@ pub fn finally_return<S: AddressSpace>(
 /// begins.
 fn ask_next<S: AddressSpace>(
     tables: &Tables,
-    machine: &mut Machine,
+    machine: &mut HostedProcessor,
     space: &mut S,
     at: u64,
     dispatch: &DispatchRecord,
@@ -236,7 +240,7 @@ fn ask_next<S: AddressSpace>(
 #[tactic(auto, using(crate::proofs::TurnEvents::leading))]
 fn answer_vectored<S: AddressSpace>(
     tables: &Tables,
-    machine: &mut Machine,
+    machine: &mut HostedProcessor,
     space: &mut S,
     at: u64,
     dispatch: &DispatchRecord,
@@ -257,7 +261,7 @@ fn answer_vectored<S: AddressSpace>(
 #[tactic(auto, using(crate::proofs::TurnEvents::leading))]
 pub fn vectored_return<S: AddressSpace>(
     tables: &Tables,
-    machine: &mut Machine,
+    machine: &mut HostedProcessor,
     space: &mut S,
 ) -> Led
     requires { TablesAreWhole tables.now }

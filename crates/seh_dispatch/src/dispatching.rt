@@ -8,7 +8,7 @@ ghost use Rattle.host_model.specs.Dispatch as spec;
 ghost use Rattle.seh_dispatch.specs.Machines.{state_of};
 ghost use Rattle.seh_dispatch.specs.Outcomes.{turn_of, stopped_outcome};
 
-use crate::machine::Machine;
+use crate::machine::HostedProcessor;
 use crate::outcome::TurnOutcome;
 use eh_tables::Tables;
 use host_layout::service::{FILTER_RETURN_AT, FINALLY_RETURN_AT};
@@ -69,7 +69,7 @@ fn accepting(dispatch: &DispatchRecord, frame: u64, target: u64) -> DispatchReco
 
 /// Calls a funclet or a vectored handler at a record: its return address is below the record.
 pub fn enter<S: AddressSpace>(
-    machine: &mut Machine,
+    machine: &mut HostedProcessor,
     space: &mut S,
     at: u64,
     back: u64,
@@ -107,7 +107,7 @@ fn landed(context: &Context, rax: u64, target: u64) -> Cpu
 }
 
 fn land<S: AddressSpace>(
-    machine: &mut Machine,
+    machine: &mut HostedProcessor,
     space: &S,
     dispatch: &DispatchRecord,
     context: &Context,
@@ -131,7 +131,7 @@ fn land<S: AddressSpace>(
 #[tactic(auto, using(crate::proofs::RecordPlacement::placing))]
 pub fn unwind_on<S: AddressSpace>(
     tables: &Tables,
-    machine: &mut Machine,
+    machine: &mut HostedProcessor,
     space: &mut S,
     at: u64,
     dispatch: &DispatchRecord,
@@ -164,7 +164,7 @@ pub fn unwind_on<S: AddressSpace>(
 #[tactic(auto, using(crate::proofs::RecordPlacement::placing))]
 pub fn accept<S: AddressSpace>(
     tables: &Tables,
-    machine: &mut Machine,
+    machine: &mut HostedProcessor,
     space: &mut S,
     at: u64,
     dispatch: &DispatchRecord,
@@ -189,7 +189,7 @@ pub fn accept<S: AddressSpace>(
 #[tactic(auto, using(crate::proofs::RecordPlacement::placing))]
 pub fn search_on<S: AddressSpace>(
     tables: &Tables,
-    machine: &mut Machine,
+    machine: &mut HostedProcessor,
     space: &mut S,
     at: u64,
     dispatch: &DispatchRecord,
@@ -288,7 +288,7 @@ fn to_target(saved: &Cpu, frame: u64, target: u64) -> DispatchRecord
 #[tactic(auto, using(crate::proofs::RecordPlacement::placing))]
 pub fn unwind_locally<S: AddressSpace>(
     tables: &Tables,
-    machine: &mut Machine,
+    machine: &mut HostedProcessor,
     space: &mut S,
     frame: u64,
     target: u64,

@@ -9,7 +9,7 @@ ghost use Rattle.seh_dispatch.specs.Machines.{state_of};
 ghost use Rattle.seh_dispatch.specs.Outcomes.{turn_of};
 
 use crate::dispatching::{begun, enter, new_record, search_on};
-use crate::machine::Machine;
+use crate::machine::HostedProcessor;
 use crate::outcome::TurnOutcome;
 use eh_tables::Tables;
 use host_layout::service::VECTORED_RETURN_AT;
@@ -25,7 +25,7 @@ use x64_memory::space::AddressSpace;
 /// Asks a vectored handler about an exception. It has no event.
 #[tactic(auto, using(crate::proofs::RecordPlacement::placing))]
 fn ask<S: AddressSpace>(
-    machine: &mut Machine,
+    machine: &mut HostedProcessor,
     space: &mut S,
     at: u64,
     dispatch: &DispatchRecord,
@@ -59,7 +59,7 @@ fn searching(dispatch: &DispatchRecord) -> DispatchRecord
 #[tactic(auto, using(crate::proofs::RecordPlacement::placing))]
 pub fn search_from<S: AddressSpace>(
     tables: &Tables,
-    machine: &mut Machine,
+    machine: &mut HostedProcessor,
     space: &mut S,
     at: u64,
     dispatch: &DispatchRecord,
@@ -81,7 +81,7 @@ pub fn search_from<S: AddressSpace>(
 /// none, the search begins. The record is written first.
 pub fn ask_on<S: AddressSpace>(
     tables: &Tables,
-    machine: &mut Machine,
+    machine: &mut HostedProcessor,
     space: &mut S,
     at: u64,
     dispatch: &DispatchRecord,
@@ -99,7 +99,7 @@ pub fn ask_on<S: AddressSpace>(
 /// A new exception, of which the state is saved.
 pub fn raise<S: AddressSpace>(
     tables: &Tables,
-    machine: &mut Machine,
+    machine: &mut HostedProcessor,
     space: &mut S,
     code: Code,
     flags: u32,

@@ -16,7 +16,7 @@ ghost use Rattle.seh_dispatch.specs.Outcomes.{turn_of, led_turn, turn_made, back
 
 use crate::answering::{filter_return, finally_return, vectored_return};
 use crate::dispatching::{stopped, unwind_locally};
-use crate::machine::Machine;
+use crate::machine::HostedProcessor;
 use crate::outcome::{Led, Made, TurnMade, TurnOutcome, all_told, silent};
 use crate::raising::raise;
 use eh_tables::Tables;
@@ -61,7 +61,7 @@ fn unreadable(cpu: &Cpu) -> TurnOutcome
 
 /// Shows the number in RCX.
 #[tactic(auto, using(crate::proofs::ServiceReturn::returning_steps))]
-fn put<S: AddressSpace>(machine: &mut Machine, space: &S) -> TurnOutcome
+fn put<S: AddressSpace>(machine: &mut HostedProcessor, space: &S) -> TurnOutcome
     ensures { turn_of machine.new (S.memory space.now) result
         ≡ spec.put (state_of machine.old (S.memory space.now)) }
 {
@@ -77,7 +77,7 @@ fn put<S: AddressSpace>(machine: &mut Machine, space: &S) -> TurnOutcome
 
 /// Sets the rights of a page of the arena.
 #[tactic(auto, using(crate::proofs::ServiceReturn::returning_steps))]
-fn protect<S: AddressSpace>(machine: &mut Machine, space: &mut S) -> TurnOutcome
+fn protect<S: AddressSpace>(machine: &mut HostedProcessor, space: &mut S) -> TurnOutcome
     ensures { turn_of machine.new (S.memory space.new) result
         ≡ spec.returning (state_of machine.old (S.memory space.old))
         (spec.protecting (state_of machine.old (S.memory space.old))) }
@@ -97,7 +97,7 @@ fn protect<S: AddressSpace>(machine: &mut Machine, space: &mut S) -> TurnOutcome
 
 /// Puts the vectored handler in RDX into the list, in front of the others where ECX isn't 0.
 #[tactic(auto, using(crate::proofs::ServiceReturn::returning_steps))]
-fn add_vectored<S: AddressSpace>(machine: &mut Machine, space: &S) -> TurnOutcome
+fn add_vectored<S: AddressSpace>(machine: &mut HostedProcessor, space: &S) -> TurnOutcome
     ensures { turn_of machine.new (S.memory space.now) result
         ≡ spec.returning (state_of machine.old (S.memory space.now))
         (spec.adding (state_of machine.old (S.memory space.now))) }
@@ -121,7 +121,7 @@ fn add_vectored<S: AddressSpace>(machine: &mut Machine, space: &S) -> TurnOutcom
 
 /// Takes the vectored handler in RCX out of the list.
 #[tactic(auto, using(crate::proofs::ServiceReturn::returning_steps))]
-fn remove_vectored<S: AddressSpace>(machine: &mut Machine, space: &S) -> TurnOutcome
+fn remove_vectored<S: AddressSpace>(machine: &mut HostedProcessor, space: &S) -> TurnOutcome
     ensures { turn_of machine.new (S.memory space.now) result
         ≡ spec.returning (state_of machine.old (S.memory space.now))
         (spec.removing (state_of machine.old (S.memory space.now))) }
@@ -146,7 +146,7 @@ fn remove_vectored<S: AddressSpace>(machine: &mut Machine, space: &S) -> TurnOut
 #[tactic(auto, using(crate::proofs::TurnEvents::leading))]
 fn raised<S: AddressSpace>(
     tables: &Tables,
-    machine: &mut Machine,
+    machine: &mut HostedProcessor,
     space: &mut S,
     code: Code,
     flags: u32,
@@ -171,7 +171,11 @@ fn raised<S: AddressSpace>(
 
 /// Raises the exception of the code in ECX; bit 0 of EDX makes it noncontinuable.
 #[tactic(auto, using(crate::proofs::ServiceReturn::returning_steps, crate::proofs::TurnEvents::leading))]
-fn raise_exception<S: AddressSpace>(tables: &Tables, machine: &mut Machine, space: &mut S) -> Led
+fn raise_exception<S: AddressSpace>(
+    tables: &Tables,
+    machine: &mut HostedProcessor,
+    space: &mut S,
+) -> Led
     requires { TablesAreWhole tables.now }
     ensures { led_turn machine.new (S.memory space.new) result
         ≡ spec.served (functions_of tables.now) (state_of machine.old (S.memory space.old))
@@ -191,7 +195,7 @@ fn raise_exception<S: AddressSpace>(tables: &Tables, machine: &mut Machine, spac
 #[tactic(auto, using(crate::proofs::ServiceReturn::returning_steps))]
 fn local_unwind<S: AddressSpace>(
     tables: &Tables,
-    machine: &mut Machine,
+    machine: &mut HostedProcessor,
     space: &mut S,
 ) -> TurnOutcome
     requires { TablesAreWhole tables.now }
@@ -211,7 +215,7 @@ fn local_unwind<S: AddressSpace>(
 
 /// Returns, with a walk from the caller to be printed.
 #[tactic(auto, using(crate::proofs::ServiceReturn::returning_steps))]
-fn walk<S: AddressSpace>(tables: &Tables, machine: &mut Machine, space: &S) -> TurnMade
+fn walk<S: AddressSpace>(tables: &Tables, machine: &mut HostedProcessor, space: &S) -> TurnMade
     ensures { turn_made (functions_of tables.now) machine.new (S.memory space.now) result
         ≡ spec.served (functions_of tables.now) (state_of machine.old (S.memory space.now))
         (Some services.Walk) }
@@ -229,7 +233,7 @@ fn walk<S: AddressSpace>(tables: &Tables, machine: &mut Machine, space: &S) -> T
 #[tactic(auto, using(crate::proofs::TurnEvents::leading))]
 fn serve<S: AddressSpace>(
     tables: &Tables,
-    machine: &mut Machine,
+    machine: &mut HostedProcessor,
     space: &mut S,
     service: Option<Service>,
 ) -> TurnMade
@@ -264,7 +268,11 @@ fn serve<S: AddressSpace>(
 
 /// A turn, but for the event of the funclet at which it arrives.
 #[tactic(auto, using(crate::proofs::TurnEvents::leading, crate::proofs::StepTurns::step_turns))]
-pub fn make<S: AddressSpace>(tables: &Tables, machine: &mut Machine, space: &mut S) -> TurnMade
+pub fn make<S: AddressSpace>(
+    tables: &Tables,
+    machine: &mut HostedProcessor,
+    space: &mut S,
+) -> TurnMade
     requires { TablesAreWhole tables.now }
     ensures { turn_made (functions_of tables.now) machine.new (S.memory space.new) result
         ≡ spec.turned (functions_of tables.now) (state_of machine.old (S.memory space.old))

@@ -1,4 +1,6 @@
 -- What a host means.
+--
+-- The main definition: `event_count`.
 use Rattle.std.specs.Prelude.{ℕ, List, [], ℤ, Option}
 use Rattle.virtual_unwind.specs.CallerOf.{Functions, functions_of}
 use Rattle.x64_memory.specs.PageMaps.{memory_of}
@@ -44,7 +46,8 @@ run_names r = named_by r.functions.rows
 abbrev pub image_of : code.Host → Image
 image_of h = h.tables.image
 
--- how many events a host has counted
+-- how many events a host has counted. A turn adds what it shows, up to 2^64 - 1 (`HasCount`, crate
+-- `seh_io`)
 abbrev pub event_count : code.Host → ℕ
 event_count h = h.events
 

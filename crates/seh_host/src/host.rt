@@ -10,7 +10,7 @@ use eh_tables::Tables;
 use host_model::funclet::Funclet;
 use pe_image::NameTable;
 use seh_dispatch::filter::FuncletFilter;
-use seh_dispatch::machine::Machine;
+use seh_dispatch::machine::HostedProcessor;
 use seh_num::end::RunEnd;
 use x64_decoded::cache::InstructionCache;
 use x64_memory::page_map::PageMap;
@@ -21,7 +21,7 @@ use x64_memory::page_map::PageMap;
 /// run lasts.
 #[derive(Drop)]
 pub struct Host<'image, 'bytes> {
-    pub(crate) machine: Machine,
+    pub(crate) machine: HostedProcessor,
     pub(crate) space: PageMap,
     pub(crate) end: Option<RunEnd>,
     pub(crate) tables: Tables<'image, 'bytes>,

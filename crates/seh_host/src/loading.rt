@@ -21,7 +21,7 @@ use host_layout::range::{DATA_STACK_START, FIRST_DATA_STACK, FIRST_STACK};
 use pe_image::{ImageView, NameTable};
 use seh_dispatch::filter::FuncletFilter;
 use seh_dispatch::gathering::funclets_in;
-use seh_dispatch::machine::Machine;
+use seh_dispatch::machine::HostedProcessor;
 use seh_num::extension::wrap;
 use seh_num::width::Width;
 use std::alloc::{AllocError, Global};
@@ -157,7 +157,7 @@ pub fn load<'image, 'bytes>(
         return Err(LoadErr::Memory);
     };
     Ok(Host {
-        machine: Machine {
+        machine: HostedProcessor {
             cpu: first_cpu(image.base() + image.entry(), arg),
             handlers: VectoredList::new(),
         },

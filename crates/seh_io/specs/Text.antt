@@ -1,5 +1,7 @@
 -- The text of a run: a line for each event that is shown, and one for the end, each with its line
 -- feed.
+--
+-- The main definition: `text`.
 use Rattle.std.specs.Prelude.{ℕ, zero, suc, ◌/◌, ◌%◌, ◌==◌, Bool, true, false, if◌then◌else◌, List, [], ◌∷◌, ◌++◌, codes}
 use Rattle.std.specs.Prelude.{Option, Some, None}
 use Rattle.std.specs.Fmt.{decimal, signed_decimal, digit_glyph}
@@ -87,6 +89,7 @@ abbrev pub lines : Bool → List Event → (ℕ → Option (List ℕ)) → List 
 lines trace [] names = []
 lines trace (event ∷ events) names = line trace event names ++ lines trace events names
 
--- the names are those of the functions of the image or the program that ran
+-- a line for each event that is shown and one for the end, each with its line feed; the names are
+-- those of the functions of what ran
 abbrev pub text : List Event → RunEnd → Bool → (ℕ → Option (List ℕ)) → List ℕ
 text events end trace names = lines trace events names ++ end_line end

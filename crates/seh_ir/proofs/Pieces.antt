@@ -122,7 +122,8 @@ pub record HoldsOfPieces (P : ℕ → List Instruction → List Region → Type 
   pub of_landing : (names : Names) (m begin end at : ℕ) (f : Filter) → 1 ≤ m → N names m
       → begin ≤ at
       → L begin → L (at + 1) → L end
-      → P at (landed names.part end names.free) (region begin (at + 1) (except_kind f (at + 1)) ∷ [])
+      → P at (landed names.part end names.free)
+      (region begin (at + 1) (except_kind f (at + 1)) ∷ [])
   pub of_finally : (k begin at : ℕ) → begin ≤ at → L begin → L (at + 1)
       → P at (finally_called k) (region begin (at + 1) (kinds.Finally k) ∷ [])
   pub of_zeroed : (x at : ℕ) → D x

@@ -1,6 +1,12 @@
 -- The cold parts of a function: `else` branches that stand apart from it in the image (own). One is
 -- cold where it holds a call and no `__try`, and stands in no `__try` statement and in no other
 -- cold part.
+--
+-- `is_cold`, `statement_cold`: an `else` branch is a cold part where it holds a call and no
+-- `__try`, and stands in no `__try` statement and no other cold part (own). The second has the
+-- labels of a part's cold parts. `HasColdParts` of a body: they rise and are apart, and inside the
+-- code. Nothing falls into one or out of it, each holds a call, no region holds an instruction of
+-- one, and no local unwind leads there. A function has an instruction before its first one.
 use Rattle.std.specs.Prelude.{ℕ, ◌+◌, Bool, true, false, not, ◌&&◌, ◌||◌, if◌then◌else◌, List, [], ◌∷◌, ◌++◌, Option, Some, None}
 use Rattle.c_checked.specs.declared.statement.StackedVariable.{StackedVariable}
 use Rattle.c_checked.specs.Expression as nodes
@@ -78,7 +84,7 @@ abbrev mutual
   statement_calls Leave = false
   -- a `__try` statement isn't asked, since no cold part holds one
   statement_calls (TryExcept body filter block) = false
-  statement_calls (TryFinally body k last) = false
+  statement_calls (TryFinally body k finally_block) = false
 
   pub statements_call : Statements → Bool
   statements_call Empty = false
@@ -94,7 +100,7 @@ abbrev mutual
   statement_tries (For ds first c next s) = statement_tries s
   statement_tries (DoWhile s c) = statement_tries s
   statement_tries (TryExcept body filter block) = true
-  statement_tries (TryFinally body k last) = true
+  statement_tries (TryFinally body k finally_block) = true
   statement_tries (Declare d) = false
   statement_tries (Evaluate e) = false
   statement_tries (Return e) = false
@@ -133,7 +139,7 @@ abbrev mutual
   statement_cold Continue at = []
   statement_cold Leave at = []
   statement_cold (TryExcept body filter block) at = []
-  statement_cold (TryFinally body k last) at = []
+  statement_cold (TryFinally body k finally_block) at = []
 
   pub statements_cold : Statements → ℕ → List LabelRange
   statements_cold Empty at = []

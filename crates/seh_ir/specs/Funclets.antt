@@ -1,4 +1,6 @@
 -- Filters and `__finally` blocks, in the order of their numbers.
+--
+-- The main definition: `finally_begin`.
 use Rattle.std.specs.Prelude.{ℕ, ◌-◌, List, [], ◌∷◌, ◌++◌, Option, None, Some}
 use Rattle.c_checked.specs.Expression.{Expression}
 use Rattle.c_checked.specs.Statement.{Filter, Always, Funclet, Statement, Declare, Block, Evaluate, If, IfElse, For, DoWhile, Return, Break, Continue, Leave, TryExcept, TryFinally, Statements, Empty, Then}
@@ -73,10 +75,10 @@ abbrev mutual
       statements_funclets owner names body
       ++ (filter_funclets owner (filter_names names) filter
       ++ statements_funclets owner (except_names names) block)
-  statement_funclets owner names (TryFinally body k last) =
+  statement_funclets owner names (TryFinally body k finally_block) =
       statements_funclets owner names body
-      ++ (finally_funclet owner names last
-      ∷ statements_funclets (in_funclet (k - 1) owner) (finally_names names) last)
+      ++ (finally_funclet owner names finally_block
+      ∷ statements_funclets (in_funclet (k - 1) owner) (finally_names names) finally_block)
 
   pub statements_funclets : Owner → Names → Statements → List LinearFunclet
   statements_funclets owner names Empty = []

@@ -1,4 +1,6 @@
 -- The linear code of a program.
+--
+-- The main definitions: `first_separators`, `first_count`, `asking`, `open_code`, `close_code`.
 use Rattle.std.specs.Prelude.{ℕ, ◌+◌, if◌then◌else◌, List, [], ◌∷◌, ◌++◌, length, map, replicate, Option, Some, None}
 use Rattle.c_operations.specs.declared.operation.Operation.TheVariants.{Allocate, Place}
 use Rattle.c_checked.specs.declared.function.StackedParameter.{StackedParameter}

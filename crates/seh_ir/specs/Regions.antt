@@ -34,7 +34,7 @@ abbrev mutual
       let target = at + statements_size body + 1 in
       statements_regions body at ++ (region at target (except_kind filter target)
       ∷ statements_regions block (target + 2))
-  statement_regions (TryFinally body k last) at =
+  statement_regions (TryFinally body k finally_block) at =
       statements_regions body at ++ region at (at + statements_size body + 1)
       (kinds.Finally (k - 1)) ∷ []
 

@@ -1,4 +1,6 @@
 -- The code of statements. No temporary is used across them.
+--
+-- The main definitions: `reset_code`, `put_code`, `clear_code`.
 use Rattle.std.specs.Prelude.{ℕ, ◌+◌, ◌-◌, ◌*◌, List, [], ◌∷◌, ◌++◌, Option, None, Some}
 use Rattle.seh_num.specs.Widths.{bytes_of}
 use Rattle.c_operations.specs.declared.operation.Operation.TheVariants.{Pure, SetPointer, Place, Clear}
@@ -179,7 +181,7 @@ abbrev mutual
       statements_code (in_try end scope) body at
       ++ (landed scope.names.part end scope.names.free
       ++ statements_code (in_except scope) block (target + 2))
-  statement_code scope (TryFinally body k last) at =
+  statement_code scope (TryFinally body k finally_block) at =
       statements_code (in_guarded (at + statements_size body) scope) body at
       ++ Separator ∷ CallFinally (k - 1) ∷ Separator ∷ []
 

@@ -62,21 +62,21 @@ fn finally_funclet(
     alloc: Global,
     owner: Owner,
     names: Names,
-    last: &[Stmt],
+    finally_block: &[Stmt],
 ) -> Result<IrFunclet, AllocError>
     ensures { IfOk result (λ f. linear_funclet f ≡
         spec.finally_funclet owner names
-        (statements.statements (map statements.statement last.now))) }
+        (statements.statements (map statements.statement finally_block.now))) }
 {
     let scope = finally_scope(names)?;
     let mut code = Vec::new(alloc);
     begin_finally(&mut code, names)?;
-    statements(alloc, &mut code, &scope, last)?;
+    statements(alloc, &mut code, &scope, finally_block)?;
     code.push(Instruction::Return {
         from: Slot::Local(names.free),
     })?;
     let mut regions = Vec::new(alloc);
-    statements_regions(&mut regions, last, 3)?;
+    statements_regions(&mut regions, finally_block, 3)?;
     let body = body_with(owner.locals, code, regions, Vec::new(alloc))?;
     Ok(IrFunclet {
         kind: FuncletKind::Finally { flag: names.free },
@@ -160,12 +160,22 @@ fn try_funclets(
             filter_funclets(funclets, alloc, owner, filter_names(names), filter)?;
             statements_funclets(funclets, alloc, owner, inner, handler)
         }
-        Stmt::TryFinally { body, number, last } => {
+        Stmt::TryFinally {
+            body,
+            number,
+            finally_block,
+        } => {
             let inner = finally_scope(names)?.names;
             statements_funclets(funclets, alloc, owner, names, body)?;
-            let funclet = finally_funclet(alloc, owner, names, last)?;
+            let funclet = finally_funclet(alloc, owner, names, finally_block)?;
             funclets.push(funclet)?;
-            statements_funclets(funclets, alloc, in_funclet(*number, owner), inner, last)
+            statements_funclets(
+                funclets,
+                alloc,
+                in_funclet(*number, owner),
+                inner,
+                finally_block,
+            )
         }
         _ => unreachable!(),
     }

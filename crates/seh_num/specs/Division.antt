@@ -1,4 +1,9 @@
 -- Division towards zero.
+--
+-- `divided_signed`, `divided_unsigned`: the quotient towards zero and the remainder with the
+-- dividend's sign. For the divisor 0 it is Zero, else Overflow where the quotient doesn't fit
+-- (Intel manual, volume 2, DIV and IDIV; C reference, "Multiplicative operators"). The relations
+-- IsSignedDivision and IsUnsignedDivision say what quotient and remainder are.
 use Rattle.std.specs.Prelude.{◌≡◌, ℕ, ◌+◌, ◌*◌, ◌/◌, ◌%◌, ◌<◌, Bool, ◌==◌, nat_lt, if◌then◌else◌, ℤ, pos, negsuc, ◌+ℤ◌, ◌*ℤ◌, ◌≤ℤ◌, int_div, int_rem, unsigned_abs, Result, Ok, Err}
 use Rattle.seh_num.specs.declared.width.Width.{Width}
 use Rattle.seh_num.specs.declared.division.DivFault.{DivFault}

@@ -1,4 +1,11 @@
 -- What a run shows.
+--
+-- `RunEnd`: how a run of an image ended.
+--
+-- `Event`: what a run shows: a number that was put, a raise, a filter's begin, its answer, a
+-- finally block's begin, a landing.
+--
+-- The main definition: `Shown`.
 use Rattle.std.specs.Prelude.{List, Option}
 use Rattle.seh_num.specs.declared.event.Event.{Event}
 

@@ -1,4 +1,9 @@
 -- The widths of numbers, and the numbers that bits represent.
+--
+-- `Width`: 8, 16, 32 or 64 bits (Intel manual, volume 1, "Fundamental Data Types"). `limit` is 2 to
+-- the width, `low w n` is n modulo it.
+--
+-- The main definitions: `signed`, `wrapped`.
 use Rattle.std.specs.Prelude.{◌≡◌, ℕ, Bool, true, false, ◌-◌, ◌%◌, ◌^◌, nat_lt, if◌then◌else◌, ℤ, pos, negsuc, ◌+ℤ◌, ◌-ℤ◌, ◌*ℤ◌}
 use Rattle.seh_num.specs.declared.width.Width.{Width}
 use Rattle.seh_num.specs.declared.width.Width.TheVariants.{W8, W16, W32, W64}
@@ -27,7 +32,8 @@ half W64 = 2 ^ 63
 abbrev pub low : Width → ℕ → ℕ
 low w n = n % limit w
 
--- two's complement: low bits below half represent themselves, the others themselves less the limit
+-- the low bits in two's complement: those below half of the limit are themselves, the others less
+-- by the limit (Intel manual, volume 1, "Signed Integers")
 abbrev pub signed : Width → ℕ → ℤ
 signed w n = if nat_lt (low w n) (half w) then pos (low w n) else pos (low w n) -ℤ pos (limit w)
 

@@ -1,4 +1,11 @@
 -- A dispatch record at its place.
+--
+-- `DispatchRecord`: what the host keeps of a suspended search or unwinding, or of a vectored
+-- handler that is asked: the exception, the state to go back to, the walk's state and the next
+-- scope record. It lies in the machine's stack, in 1,568 bytes whose fields are placed as the
+-- Windows headers have EXCEPTION_RECORD, CONTEXT and DISPATCHER_CONTEXT, with a mark (own).
+--
+-- The main definitions: `placed`, `fetched`.
 use Rattle.std.specs.Prelude.{◌≡◌, ℕ, ◌+◌, ◌-◌, ◌*◌, ◌/◌, ◌%◌, ◌^◌, Bool, true, false, ◌==◌, nat_lt, if◌then◌else◌, List, [], ◌∷◌, ◌++◌, replicate, Option, Some, None, Result, Ok, Err}
 use Rattle.seh_num.specs.Widths.{if_set}
 use Rattle.seh_num.specs.declared.size.TheConstants.{EXCEPTION_MAXIMUM_PARAMETERS}

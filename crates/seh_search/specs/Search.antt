@@ -1,4 +1,7 @@
 -- The search of a record: frame by frame, from its walk's state and next row.
+--
+-- `search`, `unwind`: the walk of a record from where it was suspended, up to the next filter or
+-- `__finally` block, an acceptance or a landing, or its end.
 use Rattle.std.specs.Prelude.{ℕ, zero, suc, ◌+◌, ◌%◌, ◌^◌, Bool, true, false, ◌==◌, Option, Some, None, Result, Ok, Err}
 use Rattle.flat_memory.specs.Memory.{Memory}
 use Rattle.x64_machine.specs.declared.context.Context.{Context}

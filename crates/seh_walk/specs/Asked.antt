@@ -1,4 +1,8 @@
 -- The scope records that are asked at a frame, with their indices.
+--
+-- `searched`, `unwound`: the scope records of an entry that hold an address and are asked while
+-- searching and while unwinding, with their indices (Microsoft x64 ABI, "Language-specific
+-- handler"; EHANDLER and UHANDLER).
 use Rattle.std.specs.Prelude.{ℕ, ◌+◌, ◌%◌, Bool, true, false, ◌==◌, ◌&&◌, ◌||◌, not, nat_lt, nat_le, if◌then◌else◌, List, [], ◌∷◌, drop, Option, Some, None}
 use Rattle.eh_tables.specs.declared.scope.ScopeRecord.{ScopeRecord}
 use Rattle.eh_tables.specs.Infos.{Info}

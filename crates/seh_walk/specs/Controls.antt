@@ -1,5 +1,7 @@
 -- A walk as a whole: the control address of each of its frames, and the numbers of the functions
 -- that have their code there.
+--
+-- The main definitions: `controls`, `number_at`.
 use Rattle.std.specs.Prelude.{ℕ, zero, suc, List, [], ◌∷◌, option_map, Option, Some, None}
 use Rattle.flat_memory.specs.Memory.{Memory}
 use Rattle.pe_image.specs.NameRows.{row_holding}
@@ -26,7 +28,8 @@ controls_from rest w (Past u) = rest u
 controls_from rest w (Frame f u) = with_address w.context.rip (rest u)
 controls_from rest w (Broken y) = no_more (Some y)
 
--- those of at most so many steps
+-- the control address of each frame of a walk, its RIP, the innermost first, and what stops the
+-- walk
 unfoldable pub controls : ℕ → Functions → Memory → WalkState → Controls
 controls zero t m w = no_more None
 controls (suc n) t m w = controls_from (controls n t m) w (visited t m w)

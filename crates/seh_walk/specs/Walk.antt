@@ -1,5 +1,7 @@
 -- The walk over frames: through the callers, and through the host's three return addresses at
 -- the records there.
+--
+-- The main definition: `visited`.
 use Rattle.std.specs.Prelude.{ℕ, Bool, true, false, ◌==◌, nat_lt, Option, Some, None, Result, Ok, Err}
 use Rattle.seh_num.specs.declared.end.Reason.{Reason}
 use Rattle.seh_num.specs.declared.end.Reason.TheVariants as reasons
@@ -117,6 +119,8 @@ abbrev pub if_over : Functions → Memory → WalkState → Bool → Visited
 if_over t m w true = Over
 if_over t m w false = if_filter t m w (w.context.rip == filter_return)
 
+-- what a walk finds at a state: the end, a frame with its caller, one of the host's three return
+-- addresses, or what stops it. Past such an address it continues at the record that is there.
 unfoldable pub visited : Functions → Memory → WalkState → Visited
 visited t m w = if_over t m w (w.context.rip == 0)
 

@@ -1,4 +1,6 @@
 -- What the machine comes to: what its next item means, through the frames that wait.
+--
+-- The main definition: `comes_to`.
 use Rattle.std.specs.Prelude.{ℕ, zero, suc, ◌++◌, not, nat_eq, List, [], ◌∷◌, length, slice_get}
 use Rattle.std.specs.Prelude.{Option, Some, None}
 use Rattle.seh_num.specs.declared.width.Width.TheVariants.{W32}
@@ -237,5 +239,7 @@ module _ (program : Program) (d : Does) where
   reaches hs fs st (Over how) = Gives how st
   reaches hs fs st next = through_all hs fs (next_meaning hs next st)
 
+  -- what the next item means, through all frames that wait: each frame's part is a part of the
+  -- meaning, in its words
   abbrev pub comes_to : Machine → Outcome
   comes_to m = reaches m.handlers m.stack m.state m.next

@@ -1,4 +1,9 @@
 -- What the machine does next, and what waits for the result of that.
+--
+-- `ContinuationFrame`, `Next`: what waits for a result (an operand's value, a place, a normal end,
+-- the end of a call, of a `__try`), and what is done next. A frame has its place: the activation,
+-- the exception and what AbnormalTermination answers there; the handlers around the place are the
+-- machine's.
 use Rattle.std.specs.Prelude.{ℕ, Bool, List, Option, reverse}
 use Rattle.c_operations.specs.declared.built_in.BuiltIn.{BuiltIn}
 use Rattle.c_operations.specs.declared.operation.Operation.{Operation}

@@ -1,4 +1,8 @@
 -- The machine, and its step.
+--
+-- `Machine`, `step`: a state of the meaning, the handlers outermost first, the stack of frames, and
+-- what is done next; a step does that, and leaves one such item again. A task's step is counted
+-- where it begins.
 use Rattle.std.specs.Prelude.{ℕ, zero, suc, ◌+◌, ◌-◌, ◌++◌, ◌^◌, Bool, true, false, not, nat_eq}
 use Rattle.std.specs.Prelude.{nat_lt, List}
 use Rattle.std.specs.Prelude.{[], ◌∷◌, length, reverse, take, replicate, get_or, slice_get, Option, Some}

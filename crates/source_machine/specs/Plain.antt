@@ -1,5 +1,7 @@
 -- Runs in which no exception is raised while a filter, a vectored handler, or a `__finally` block
 -- with flag 1, runs.
+--
+-- The main definition: `Plain`.
 use Rattle.std.specs.Prelude.{◌≡◌, ℕ, Bool, true, false, ◌&&◌, List, [], ◌∷◌, ℤ}
 use Rattle.c_checked.specs.Program.{Program}
 use Rattle.source_meaning.specs.Tasks as tasks

@@ -1,5 +1,11 @@
 -- What expressions do, given what the tasks inside them do (C11, 6.5). Operands are evaluated from
 -- left to right.
+--
+-- `expression`, `statement`, `search`, `run_filter`, `run_finally`: what each does, given what the
+-- tasks inside it do. Operands are evaluated from left to right. Filters run innermost first,
+-- before any `__finally` block; the blocks run for every result that leaves their `__try`. A
+-- continued fault makes the operation again on the same operands. A noncontinuable exception that
+-- is continued raises C0000025 (Microsoft C reference, "Writing an exception handler").
 use Rattle.std.specs.Prelude.{ℕ, ◌+◌, ◌*◌, ◌%◌, Bool, false, not, nat_eq, if◌then◌else◌, List}
 use Rattle.std.specs.Prelude.{[], ◌∷◌, ◌++◌, length, reverse, slice_get, get_or, replicate, pos}
 use Rattle.std.specs.Prelude.{int_div, Option, Some, None, is_some}

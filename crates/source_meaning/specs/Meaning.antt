@@ -1,4 +1,6 @@
 -- What a program means: what it shows within some steps, and how it ends.
+--
+-- The main definitions: `meaning`, `Calm`.
 use Rattle.std.specs.Prelude.{ℕ, zero, suc, Bool, true, false, List, [], ◌∷◌, slice_get, ℤ, Option}
 use Rattle.std.specs.Prelude.{Some, None}
 use Rattle.seh_num.specs.declared.width.Width.TheVariants.{W32, W64}
@@ -93,7 +95,9 @@ shows (Gives (Value v) st) = record { events = st.events; end = Some (Exit (sign
 shows (Gives (End e) st) = record { events = st.events; end = e }
 shows (Gives how st) = record { events = st.events; end = None }
 
--- what a program shows within n steps, from an argument
+-- the events within n steps, and the end, if it is within them. An end is a number, unhandled,
+-- undefined at a reserved address, or too deep, where the depth, the live activations and what is
+-- held, would rise above 1,000 (own).
 abbrev pub meaning : Program → ℤ → ℕ → Shown Ended
 meaning program arg n = shows (ran program arg n)
 

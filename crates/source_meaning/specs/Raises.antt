@@ -1,5 +1,11 @@
 -- Raises, vectored handlers, filters and `__finally` blocks, given what the tasks inside them do
 -- (Microsoft C reference, "Writing an exception handler").
+--
+-- `ask_from`, `ask_vectored`, `vectored_answered`: a raise asks the vectored handlers first, from
+-- the front of their list on, as it stands each time. Each is called with the code and the flag,
+-- under the handlers of the raise point. Its answer, an `int`, continues where it is below 0, as a
+-- filter's does. After any other the place in the list rises by one, and past the end of the list
+-- the handlers are asked (Windows headers, `errhandlingapi.h`; own).
 use Rattle.std.specs.Prelude.{ℕ, ◌+◌, ◌^◌, Bool, true, nat_eq, nat_lt, List, [], ◌∷◌, length}
 use Rattle.std.specs.Prelude.{slice_get}
 use Rattle.std.specs.Prelude.{Option, Some, None}

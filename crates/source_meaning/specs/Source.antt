@@ -1,4 +1,6 @@
 -- The memory that a program begins with, and the addresses of which the language says nothing.
+--
+-- The main definitions: `first_memory`, `is_reserved`.
 use Rattle.std.specs.Prelude.{ℕ, ◌+◌, ◌-◌, ◌*◌, ◌/◌, Bool, false, not, ◌&&◌, ◌||◌, nat_le, nat_lt}
 use Rattle.std.specs.Prelude.{if◌then◌else◌, List, length, get_or}
 use Rattle.host_layout.specs.declared.range.TheConstants.{GUARD_START, STACK_END, IMAGE_BASE}

@@ -1,4 +1,6 @@
 -- The states that a program goes through, and what a part of it comes to.
+--
+-- The main definitions: `State`, `walk_events`, `Result`.
 use Rattle.std.specs.Prelude.{ℕ, ◌+◌, ◌-◌, Bool, true, false, nat_lt, List, [], ◌∷◌, ◌++◌, length, take}
 use Rattle.std.specs.Prelude.{slice_index, slice_set, slice_get, map, Option, Some, None}
 use Rattle.seh_num.specs.declared.event.Event.{Event}
@@ -89,7 +91,8 @@ emit e st = record st { events = st.events ++ e ∷ [] }
 abbrev pub emit_all : List Event → State → State
 emit_all es st = record st { events = st.events ++ es }
 
--- what a printed walk shows of these functions: their numbers, from 1
+-- what a call of `walk` shows, all in one step: the numbers, from 1, of the functions of the live
+-- activations, innermost first (own)
 abbrev pub walk_events : List ℕ → List Event
 walk_events functions = map (λ f. At (f + 1)) functions
 

@@ -1,4 +1,6 @@
 -- What counts a step, and where a part of a program is.
+--
+-- The main definition: `Task`.
 use Rattle.std.specs.Prelude.{ℕ, zero, suc, Bool, List, Option, None}
 use Rattle.c_operations.specs.declared.operation.Operation.{Operation}
 use Rattle.c_checked.specs.Expression.{Expression, Lvalue}
@@ -23,7 +25,11 @@ pub record Context : Type 0 where
   pub exception : Exception
   pub abnormal : Bool
 
--- what counts one step, where it begins
+-- what counts one step where it begins: an expression, the place of an assignment, a statement or
+-- declared name, an iteration, or the body of a `__try`. So does a raise, a vectored handler that
+-- is asked, a filter, a `__finally` block, and an operation that is made again. An activation
+-- counts its function's surplus in steps, all at once, where it begins: after it was asked whether
+-- the depth has room for its weight (own).
 pub data Task : Type 0 where
   -- an expression
   Eval : Expression → Task

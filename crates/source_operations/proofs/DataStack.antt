@@ -1,5 +1,5 @@
 -- The bytes that a variable on the data stack may have, and the pointer's.
-use Rattle.std.proofs.Common.{◌≡◌, ℕ, zero, suc, Bool, true, false, cond, Option, Some, None, Ok}
+use Rattle.std.proofs.Common.{◌≡◌, ℕ, zero, suc, Bool, true, false, cond, Some, None}
 use Rattle.std.proofs.Common.{refl, sym, ap, ◌∙◌, arith}
 use Rattle.std.specs.Prelude.{not, ◌&&◌, is_ok}
 use Rattle.seh_num.specs.declared.width.Width.{Width}
@@ -40,11 +40,6 @@ pub number_none : (byte : ℕ → ℕ) (n at : ℕ) → n ≡ 0 → 0 ≡ number
 unfolding number_at
 number_none byte zero at e = refl
 number_none byte (suc n) at e = absurd (omega arith)
-
--- the number that a load gives
-pub loaded_is : (o : Option ℕ) (v x : ℕ) → Ok v ≡ access false o x → v ≡ x
-loaded_is None v x e = cc
-loaded_is (Some a) v x e = absurd cc
 
 -- where a variable may have its bytes, it takes the number
 pub placed_all : (reserved : ℕ → Bool) (w : Width) (at v given : ℕ) (m new : Memory)

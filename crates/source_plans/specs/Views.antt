@@ -147,8 +147,8 @@ task_of (task_kinds.AskVectored f asked exc) =
     tasks.AskVectored f asked.value (exception_of exc)
 task_of (task_kinds.RunFilter k e h exc) =
     tasks.RunFilter k (expression e.now) (handler_of h) (exception_of exc)
-task_of (task_kinds.RunFinally k last flag) =
-    tasks.RunFinally k (all_statements last.now.items) flag
+task_of (task_kinds.RunFinally k finally_block flag) =
+    tasks.RunFinally k (all_statements finally_block.now.items) flag
 task_of (task_kinds.Retry o a b) = tasks.Retry o a b
 
 abbrev pub operand_frame_of : OperandFrame → frames.OperandFrame
@@ -241,8 +241,8 @@ waiting_of (waiting.Body f) = frames.Body (body_frame_of f)
 waiting_of (waiting.EndsCall n s part) = frames.EndsCall n s part
 waiting_of (waiting.Lands held block p) =
     frames.Lands held (all_statements block.now.items) (place_of p)
-waiting_of (waiting.Finishes k last p) =
-    frames.Finishes k (all_statements last.now.items) (place_of p)
+waiting_of (waiting.Finishes k finally_block p) =
+    frames.Finishes k (all_statements finally_block.now.items) (place_of p)
 
 abbrev pub frame_of : ContinuationFrame → frames.ContinuationFrame
 frame_of (frame_kinds.Waits w) = waiting_of w

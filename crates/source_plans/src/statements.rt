@@ -243,13 +243,18 @@ fn return_plan<'p>(expr: &'p Option<Expr>, place: Place) -> Plan<'p>
 }
 
 /// For a `__try` with a `__finally`.
-fn finally_plan<'p>(body: &'p Vec<Stmt>, number: u32, last: &'p Vec<Stmt>, place: Place) -> Plan<'p>
+fn finally_plan<'p>(
+    body: &'p Vec<Stmt>,
+    number: u32,
+    finally_block: &'p Vec<Stmt>,
+    place: Place,
+) -> Plan<'p>
     ensures { plan_of result ≡ plans.statement_plan (trees.TryFinally
         (views.all_statements body.now.items) number
-        (views.all_statements last.now.items)) (place_of place) }
+        (views.all_statements finally_block.now.items)) (place_of place) }
 {
     push(
-        ContinuationFrame::Waits(Waiting::Finishes(number, last, place)),
+        ContinuationFrame::Waits(Waiting::Finishes(number, finally_block, place)),
         start(Task::TryBody(body), place),
     )
 }
@@ -291,7 +296,11 @@ pub fn statement_plan<'p>(stmt: &'p Stmt, place: Place) -> Plan<'p>
             filter,
             handler,
         } => then(Next::Does(Action::Guard(body, filter, handler, place))),
-        Stmt::TryFinally { body, number, last } => finally_plan(body, *number, last, place),
+        Stmt::TryFinally {
+            body,
+            number,
+            finally_block,
+        } => finally_plan(body, *number, finally_block, place),
     }
 }
 

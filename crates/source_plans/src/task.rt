@@ -50,7 +50,7 @@ pub enum Task<'p> {
     /// A `__finally` block, by its number.
     RunFinally {
         number: u32,
-        last: &'p Vec<Stmt>,
+        finally_block: &'p Vec<Stmt>,
         abnormal: bool,
     },
     /// An operation again, on the same operands.

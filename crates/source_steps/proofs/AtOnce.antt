@@ -26,10 +26,10 @@ use Rattle.source_values.proofs.ChangeSteps.{changed_leads}
 use Rattle.source_steps.specs.Machines.{machine_of, state_of}
 use Rattle.source_steps.specs.Directly.{Hastened, Unchanged, DoneAtOnce, WrittenTo, Made, EvaluatedTo, Evaluated}
 use Rattle.source_steps.specs.Directly.{stack_of, waiting}
-use Rattle.source_steps.specs.declared.machine.Machine.{Machine as Machine'}
+use Rattle.source_steps.specs.declared.machine.Interpreter.{Interpreter}
 
 -- a value, in surroundings that are those of the place
-pub value_at_once : (program : Program) (m : Machine') (p : Place) (e : Expression)
+pub value_at_once : (program : Program) (m : Interpreter) (p : Place) (e : Expression)
     (left data_end : ℕ) (k : spec.Surroundings) (r : ℕ × ℕ)
     → data_end ≡ model_data_end program.globals
     → ((es : List Event) → k ≡ around (reserved_below data_end) (state_of m es) p)
@@ -45,7 +45,7 @@ value_at_once program m p e left data_end k r ends there is = record {
 }
 
 -- a change of one place
-change_at_once : (program : Program) (m m' : Machine') (p : Place) (x : Node) (to : Conversion)
+change_at_once : (program : Program) (m m' : Interpreter) (p : Place) (x : Node) (to : Conversion)
     (left data_end : ℕ) (k : spec.Surroundings) (c : spec.Change)
     → data_end ≡ model_data_end program.globals
     → ((es : List Event) → k ≡ around (reserved_below data_end) (state_of m es) p)
@@ -83,7 +83,7 @@ change_at_once program m m' p x to left data_end k c ends there is written = rec
 }
 
 -- the same, as the code makes it
-pub made_at_once : (program : Program) (m m' : Machine') (p : Place) (x : Node) (to : Conversion)
+pub made_at_once : (program : Program) (m m' : Interpreter) (p : Place) (x : Node) (to : Conversion)
     (n left data_end : ℕ) (k : spec.Surroundings) (c : spec.Change) (given : Option ℕ)
     → data_end ≡ model_data_end program.globals
     → ((es : List Event) → k ≡ around (reserved_below data_end) (state_of m es) p)
@@ -94,12 +94,12 @@ pub made_at_once : (program : Program) (m m' : Machine') (p : Place) (x : Node) 
 made_at_once program m m' p x to n left data_end k c None ends there more is made = made
 made_at_once program m m' p x to n left data_end k c (Some v) ends there more is made =
     subst (λ (n : ℕ). EvaluatedTo program m n (On x to) p m' v) (sym more)
-    (subst (λ (m' : Machine'). EvaluatedTo program m (suc left) (On x to) p m' v) (sym made.is)
+    (subst (λ (m' : Interpreter). EvaluatedTo program m (suc left) (On x to) p m' v) (sym made.is)
     (subst (λ (v : ℕ). EvaluatedTo program m (suc left) (On x to) p
     (record made.before { steps_left = c.left }) v) (sym made.gives)
     (change_at_once program m made.before p x to left data_end k c ends there is made.written)))
 
-pub eval_at_once : (program : Program) (m m' : Machine') (p : Place) (e : Expression) (v : ℕ)
+pub eval_at_once : (program : Program) (m m' : Interpreter) (p : Place) (e : Expression) (v : ℕ)
     → EvaluatedTo program m m.steps_left e p m' v
     → Hastened program m (Start (Eval e) p) m' (Give (Value v))
 eval_at_once program m m' p e v d = λ es.
@@ -109,7 +109,7 @@ eval_at_once program m m' p e v d = λ es.
       is = l.is ∙ ap (λ fs. waiting fs (machine_of m' (Give (Value v)) es)) (sym d.stack);
     }
 
-pub run_at_once : (program : Program) (m m' : Machine') (p : Place) (e : Expression) (n v : ℕ)
+pub run_at_once : (program : Program) (m m' : Interpreter) (p : Place) (e : Expression) (n v : ℕ)
     → m.steps_left ≡ suc n → EvaluatedTo program m n e p m' v
     → Hastened program m (Start (Run (trees.Evaluate (Some e))) p) m' (Give Normal)
 run_at_once program m m' p e n v left d = λ es.
@@ -126,7 +126,7 @@ run_at_once program m m' p e n v left d = λ es.
     })))
 
 -- the same, of what may have a value
-pub evaluated_at_once : (program : Program) (m m' : Machine') (p : Place) (e : Expression)
+pub evaluated_at_once : (program : Program) (m m' : Interpreter) (p : Place) (e : Expression)
     (o : Option ℕ) (how : Option Completion) → how ≡ option_map completions.Value o
     → Evaluated program m m.steps_left e p m' o → DoneAtOnce program m (Eval e) p m' how
 evaluated_at_once program m m' p e None how is d =
@@ -135,7 +135,7 @@ evaluated_at_once program m m' p e (Some v) how is d =
     subst (λ how. DoneAtOnce program m (Eval e) p m' how) (sym is)
     (eval_at_once program m m' p e v d)
 
-pub ran_at_once : (program : Program) (m m' : Machine') (p : Place) (e : Expression) (n : ℕ)
+pub ran_at_once : (program : Program) (m m' : Interpreter) (p : Place) (e : Expression) (n : ℕ)
     (o : Option ℕ) (how : Option Completion) → how ≡ option_map (λ v. completions.Normal) o
     → m.steps_left ≡ suc n → Evaluated program m n e p m' o
     → DoneAtOnce program m (Run (trees.Evaluate (Some e))) p m' how
@@ -146,7 +146,7 @@ ran_at_once program m m' p e n (Some v) how is left d =
     (run_at_once program m m' p e n v left d)
 
 -- a task that begins
-pub begins : (program : Program) (m m' m'' : Machine') (next next' : Next) → Unchanged m m'
+pub begins : (program : Program) (m m' m'' : Interpreter) (next next' : Next) → Unchanged m m'
     → ((es : List Event) → step program (machine_of m' next es) ≡ machine_of m'' next' es)
     → Hastened program m next m'' next'
 begins program m m' m'' next next' same steps = λ es. record {

@@ -12,7 +12,7 @@ use Rattle.source_machine.specs.Machine.{Machine, at_state, follow, over, stored
 use Rattle.source_plans.specs.Views.{finish_of}
 use Rattle.source_plans.specs.declared.frame.Finish.{Finish}
 use Rattle.source_steps.specs.Machines.{machine_of}
-use Rattle.source_steps.specs.declared.machine.Machine.{Machine as Machine'}
+use Rattle.source_steps.specs.declared.machine.Interpreter.{Interpreter}
 
 -- the rest, unless the run is over
 abbrev pub unless_over : Option Finish → (Machine → Machine) → Machine → Machine
@@ -38,21 +38,21 @@ activated program m number f vs surplus =
     (at_state m (with_activation number (vs ++ replicate (length f.locals) 0) m.state))
 
 -- an operation of the data stack was performed, and what it comes to
-abbrev pub Stored : Machine' → OperationResult → Machine' → Option Finish → Type 0
+abbrev pub Stored : Interpreter → OperationResult → Interpreter → Option Finish → Type 0
 Stored m r m' how =
     (go : Machine → Machine) (x : Next) (es : List Event)
     → stored (machine_of m x es) r go ≡ unless_over how go (machine_of m' x es)
 
 -- parameters were brought to where they stand
-abbrev pub Brought : Program → Machine' → (base : ℕ) → List StackedParameter → (activation : ℕ)
-    → Machine' → Option Finish → Type 0
+abbrev pub Brought : Program → Interpreter → (base : ℕ) → List StackedParameter → (activation : ℕ)
+    → Interpreter → Option Finish → Type 0
 Brought program m base ps k m' how =
     (plan : Plan) (x : Next) (es : List Event)
     → brought program base ps k plan (machine_of m x es)
     ≡ unless_over how (λ m. follow m plan) (machine_of m' x es)
 
 -- an activation's part of the data stack was begun
-abbrev pub Opened : Program → Machine' → Option DataFrame → (activation : ℕ) → Machine'
+abbrev pub Opened : Program → Interpreter → Option DataFrame → (activation : ℕ) → Interpreter
     → Option Finish → Type 0
 Opened program m frame k m' how =
     (plan : Plan) (x : Next) (es : List Event)

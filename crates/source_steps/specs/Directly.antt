@@ -14,19 +14,19 @@ use Rattle.source_plans.specs.declared.frame.Completion.{Completion}
 use Rattle.source_values.specs.Leading.{Leads}
 use Rattle.source_steps.specs.Machines.{machine_of, state_of, shown_after}
 use Rattle.source_steps.specs.declared.machine.MachineStep.{MachineStep}
-use Rattle.source_steps.specs.declared.machine.Machine.{Machine as Machine'}
+use Rattle.source_steps.specs.declared.machine.Interpreter.{Interpreter}
 
 -- steps that show nothing lead from what was to be done next to what is
-abbrev pub Hastened : Program → Machine' → Next → Machine' → Next → Type 0
+abbrev pub Hastened : Program → Interpreter → Next → Interpreter → Next → Type 0
 Hastened program m next m' next' =
     (es : List Event) → Leads program (machine_of m next es) (machine_of m' next' es)
 
 -- nothing that the machine means has changed
-abbrev pub Unchanged : Machine' → Machine' → Type 0
+abbrev pub Unchanged : Interpreter → Interpreter → Type 0
 Unchanged m m' = (x : Next) (es : List Event) → machine_of m' x es ≡ machine_of m x es
 
 -- a state became another by a change that may fail, and nothing else has changed
-abbrev pub WrittenTo : Machine' → (State → Option State) → Machine' → Bool → Type 0
+abbrev pub WrittenTo : Interpreter → (State → Option State) → Interpreter → Bool → Type 0
 WrittenTo m change m' true =
     (es : List Event)
     → (st : State) × (change (state_of m es) ≡ Some st)
@@ -34,40 +34,43 @@ WrittenTo m change m' true =
 WrittenTo m change m' false = Unchanged m m'
 
 -- such a change was made, after which so many steps are left, and gives a value
-pub record MadeTo (m : Machine') (change : State → Option State) (m' : Machine') (left v given : ℕ)
+pub record MadeTo (m : Interpreter) (change : State → Option State) (m' : Interpreter)
+    (left v given : ℕ)
     : Type 0 where
   pub gives : given ≡ v
-  pub before : Machine'
+  pub before : Interpreter
   pub written : WrittenTo m change before true
   pub is : m' ≡ record before { steps_left = left }
 
-abbrev pub Made : Machine' → (State → Option State) → Machine' → ℕ → ℕ → Option ℕ → Type 0
+abbrev pub Made : Interpreter → (State → Option State) → Interpreter → ℕ → ℕ → Option ℕ → Type 0
 Made m change m' left v given = MatchOption given (Unchanged m m') (MadeTo m change m' left v)
 
 -- a task was done by such steps, which gave its result
-abbrev pub DoneAtOnce : Program → Machine' → Task → Place → Machine' → Option Completion → Type 0
+abbrev pub DoneAtOnce : Program → Interpreter → Task → Place → Interpreter → Option Completion
+    → Type 0
 DoneAtOnce program m task p m' how =
     MatchOption how (Unchanged m m')
     (λ how. Hastened program m (Start task p) m' (Give (result_of how)))
 
 -- ---- expressions, whatever waits
 
-abbrev pub stack_of : Machine' → List ContinuationFrame
+abbrev pub stack_of : Interpreter → List ContinuationFrame
 stack_of m = reverse (map frame_of m.stack.items)
 
 abbrev pub waiting : List ContinuationFrame → Machine → Machine
 waiting fs m = record m { stack = fs }
 
 -- an expression was evaluated by such steps, with so many of the meaning's left before them
-pub record EvaluatedTo (program : Program) (m : Machine') (left : ℕ) (e : Expression) (p : Place)
-    (m' : Machine') (v : ℕ) : Type 0 where
+pub record EvaluatedTo (program : Program) (m : Interpreter) (left : ℕ) (e : Expression) (p : Place)
+    (m' : Interpreter) (v : ℕ) : Type 0 where
   pub leads : (es : List Event) (fs : List ContinuationFrame)
       → Leads program
       (waiting fs (machine_of (record m { steps_left = left }) (Start (Eval e) p) es))
       (waiting fs (machine_of m' (Give (Value v)) es))
   pub stack : stack_of m' ≡ stack_of m
 
-abbrev pub Evaluated : Program → Machine' → ℕ → Expression → Place → Machine' → Option ℕ → Type 0
+abbrev pub Evaluated : Program → Interpreter → ℕ → Expression → Place → Interpreter → Option ℕ
+    → Type 0
 Evaluated program m left e p m' value =
     MatchOption value (Unchanged m m') (EvaluatedTo program m left e p m')
 
@@ -77,7 +80,7 @@ pub record Led (program : Program) (m m' : Machine) : Type 0 where
   pub silent : (after program before m).state.events ≡ m.state.events
   pub is : after program (suc before) m ≡ m'
 
-abbrev pub Advanced : Program → Machine' → Next → Machine' → MachineStep → Type 0
+abbrev pub Advanced : Program → Interpreter → Next → Interpreter → MachineStep → Type 0
 Advanced program m next m' step =
     (es : List Event)
     → Led program (machine_of m next es)

@@ -17,7 +17,7 @@ ghost use Rattle.source_steps.specs.DataStack.{activated};
 
 use crate::activations::with_zeros;
 use crate::functions::FunctionNumber;
-use crate::machine::{Machine, MachineStep, showing, silent, too_deep, walking};
+use crate::machine::{Interpreter, MachineStep, showing, silent, too_deep, walking};
 use c_checked::checked::Checked;
 use c_checked::function::Function;
 use c_operations::built_in::BuiltIn;
@@ -62,7 +62,7 @@ fn raised(code: u64, flags: u64) -> Exception
     }
 }
 
-impl<'p> Machine<'p> {
+impl<'p> Interpreter<'p> {
     /// An activation begins of the function of this number, whose surplus is this.
     fn activate(
         &mut self,

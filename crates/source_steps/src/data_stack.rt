@@ -17,7 +17,7 @@ ghost use Rattle.x64_memory.specs.PageMaps.{memory_of};
 ghost use Rattle.source_steps.specs.Machines.{machine_of, state_of, shown_after, Moved, Showed};
 ghost use Rattle.source_steps.specs.DataStack.{Stored, Brought, Opened};
 
-use crate::machine::{Machine, MachineStep, silent};
+use crate::machine::{Interpreter, MachineStep, silent};
 use c_checked::expression::Expr;
 use c_checked::function::{DataFrame, DataPart};
 use c_checked::statement::StackedVariable;
@@ -31,7 +31,7 @@ use source_plans::place::Place;
 use source_plans::statements::{ends, initialise_stacked_plan};
 use std::alloc::AllocError;
 
-impl<'p> Machine<'p> {
+impl<'p> Interpreter<'p> {
     /// An operation of the data stack is performed. How the run ended, if it is over then.
     fn perform_stacked(
         &mut self,

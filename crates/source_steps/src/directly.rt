@@ -20,7 +20,7 @@ ghost use Rattle.source_values.specs.Surrounding.{around, surroundings_of};
 ghost use Rattle.source_steps.specs.Machines.{state_of};
 ghost use Rattle.source_steps.specs.Directly.{Evaluated, DoneAtOnce, Hastened, WrittenTo, Made};
 
-use crate::machine::Machine;
+use crate::machine::Interpreter;
 use c_checked::checked::Checked;
 use c_checked::expression::{Conversion, Expr, Lvalue, Node};
 use c_checked::statement::Stmt;
@@ -55,7 +55,7 @@ fn valued(value: Option<u64>) -> Option<Completion>
     }
 }
 
-impl<'p> Machine<'p> {
+impl<'p> Interpreter<'p> {
     /// What an expression is evaluated in at a place.
     fn surroundings(&self, data_end: u64, place: Place) -> Surroundings<'_>
         ensures { (es : List Event') → surroundings_of result

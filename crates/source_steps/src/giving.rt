@@ -12,7 +12,7 @@ ghost use Rattle.source_plans.specs.Views.{place_of, plan_of};
 ghost use Rattle.source_steps.specs.Machines.{machine_of, shown_after, Moved, Showed};
 ghost use Rattle.source_steps.specs.Finished.{resumed_from};
 
-use crate::machine::{Machine, MachineStep, showing, silent, silently};
+use crate::machine::{Interpreter, MachineStep, showing, silent, silently};
 use c_checked::expression::Expr;
 use c_checked::function::DataPart;
 use c_checked::statement::Stmt;
@@ -30,21 +30,21 @@ use source_plans::task::Task;
 use std::alloc::AllocError;
 
 /// A `__finally` block is to run.
-fn finally<'p>(number: u32, last: &'p Vec<Stmt>, abnormal: bool, place: Place) -> Next<'p>
+fn finally<'p>(number: u32, finally_block: &'p Vec<Stmt>, abnormal: bool, place: Place) -> Next<'p>
     ensures { views.next_of result ≡ frames.Start (tasks.RunFinally number
-        (views.all_statements last.now.items) abnormal) (place_of place) }
+        (views.all_statements finally_block.now.items) abnormal) (place_of place) }
 {
     start(
         Task::RunFinally {
             number,
-            last,
+            finally_block,
             abnormal,
         },
         place,
     )
 }
 
-impl<'p> Machine<'p> {
+impl<'p> Interpreter<'p> {
     /// An activation that a target leaves is held. A run holds at most 1,000, so that there is room
     /// for one more; a count that has none fails as want of memory does.
     fn hold_activation(&mut self) -> Result<(), AllocError>
@@ -146,21 +146,22 @@ impl<'p> Machine<'p> {
     fn finish_try(
         &mut self,
         number: u32,
-        last: &'p Vec<Stmt>,
+        finally_block: &'p Vec<Stmt>,
         place: Place,
         how: Completion,
     ) -> Result<Next<'p>, AllocError>
         ensures { IfOk result (Moved self.old self.new (λ m. model.finished m number
-            (views.all_statements last.now.items) (place_of place) (views.result_of how))) }
+            (views.all_statements finally_block.now.items) (place_of place)
+            (views.result_of how))) }
     {
         match how {
-            Completion::Normal => Ok(finally(number, last, false, place)),
-            Completion::LeftTry => Ok(finally(number, last, false, place)),
+            Completion::Normal => Ok(finally(number, finally_block, false, place)),
+            Completion::LeftTry => Ok(finally(number, finally_block, false, place)),
             other => {
                 self.push(ContinuationFrame::Waits(Waiting::Sequel(SequelFrame::GivesResult(
                     other,
                 ))))?;
-                Ok(finally(number, last, true, place))
+                Ok(finally(number, finally_block, true, place))
             }
         }
     }
@@ -303,8 +304,8 @@ impl<'p> Machine<'p> {
                 let _ = self.handlers.pop();
                 Ok(self.resume_landing(held, block, place, how))
             }
-            Waiting::Finishes(number, last, place) => {
-                silently(self.finish_try(number, last, place, how))
+            Waiting::Finishes(number, finally_block, place) => {
+                silently(self.finish_try(number, finally_block, place, how))
             }
         }
     }

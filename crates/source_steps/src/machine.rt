@@ -12,7 +12,7 @@ ghost use Rattle.source_plans.specs.Views.{place_of};
 ghost use Rattle.source_steps.specs.Machines.{machine_of, state_of, shown_after, Moved, Showed};
 ghost use Rattle.source_steps.specs.Machines.{ShowsNothing};
 ghost use Rattle.source_steps.specs.Functions.{numbers_of};
-ghost use Rattle.source_steps.specs.declared.machine.Machine as model_machines;
+ghost use Rattle.source_steps.specs.declared.machine.Interpreter as model_machines;
 
 use crate::activations::Activations;
 use crate::functions::LiveFunctions;
@@ -28,7 +28,7 @@ use x64_memory::page_map::PageMap;
 
 /// A machine that runs a program.
 #[derive(Drop)]
-pub struct Machine<'p> {
+pub struct Interpreter<'p> {
     /// How many steps may still begin.
     pub steps_left: u64,
     /// The globals and the arena, with the protection of each page.
@@ -73,8 +73,8 @@ pub struct MachineStep<'p> {
 /// A step that shows nothing.
 pub fn silent<'p>(next: Next<'p>) -> MachineStep<'p>
     ensures next { views.next_of result.next ≡ views.next_of next.entry }
-    ensures shown { (m : model_machines.Machine) (es : List Event') → shown_after m es result.shown
-        ≡ es }
+    ensures shown { (m : model_machines.Interpreter) (es : List Event')
+        → shown_after m es result.shown ≡ es }
 {
     MachineStep {
         next,
@@ -95,8 +95,8 @@ pub fn silently<'p>(next: Result<Next<'p>, AllocError>) -> Result<MachineStep<'p
 /// A step that shows an event.
 pub fn showing<'p>(event: Event, next: Next<'p>) -> MachineStep<'p>
     ensures next { views.next_of result.next ≡ views.next_of next.entry }
-    ensures shown { (m : model_machines.Machine) (es : List Event') → shown_after m es result.shown
-        ≡ es ++ event ∷ [] }
+    ensures shown { (m : model_machines.Interpreter) (es : List Event')
+        → shown_after m es result.shown ≡ es ++ event ∷ [] }
 {
     MachineStep {
         next,
@@ -107,8 +107,8 @@ pub fn showing<'p>(event: Event, next: Next<'p>) -> MachineStep<'p>
 /// A step that shows the live activations.
 pub fn walking<'p>(next: Next<'p>) -> MachineStep<'p>
     ensures next { views.next_of result.next ≡ views.next_of next.entry }
-    ensures shown { (m : model_machines.Machine) (es : List Event') → shown_after m es result.shown
-        ≡ es ++ walk_events (reverse (numbers_of m.functions)) }
+    ensures shown { (m : model_machines.Interpreter) (es : List Event')
+        → shown_after m es result.shown ≡ es ++ walk_events (reverse (numbers_of m.functions)) }
 {
     MachineStep {
         next,
@@ -123,7 +123,7 @@ pub fn too_deep<'p>() -> Next<'p>
     Next::Does(Action::Over(Finish::Ended(Ended::Deep { depth: TOO_DEEP })))
 }
 
-impl<'p> Machine<'p> {
+impl<'p> Interpreter<'p> {
     /// Whether the depth would rise above the greatest, by so much.
     pub fn is_deep(&self, more: u64) -> bool
         ensures { (es : List Event') → result ≡ model.is_deep (state_of self.now es) more }

@@ -13,7 +13,7 @@ ghost use Rattle.source_plans.specs.Views.{place_of};
 ghost use Rattle.source_steps.specs.Machines.{machine_of, state_of, Moved, Showed};
 ghost use Rattle.source_steps.specs.Finished.{operation_finished};
 
-use crate::machine::Machine;
+use crate::machine::Interpreter;
 use c_checked::expression::{Access, Lvalue};
 use c_operations::operation::Operation;
 use source_meaning::ended::Ended;
@@ -44,7 +44,7 @@ fn store_plan<'p>(access: Access, address: u64, value: u64, place: Place) -> Pla
     then(Next::Does(Action::Operate(Operation::Store(access.width), address, value, place)))
 }
 
-impl<'p> Machine<'p> {
+impl<'p> Interpreter<'p> {
     /// The memory of a place that was located is read.
     fn load(&mut self, access: Access, address: u64, place: Place) -> Result<Next<'p>, AllocError>
         ensures { IfOk result (Moved self.old self.new (λ m. model.follow m

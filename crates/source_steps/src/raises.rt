@@ -13,7 +13,7 @@ ghost use Rattle.source_plans.specs.Views.{place_of};
 ghost use Rattle.source_steps.specs.Machines.{machine_of, shown_after, Moved, Showed};
 
 use crate::calls::low_signed;
-use crate::machine::{Machine, MachineStep, showing, silent, too_deep};
+use crate::machine::{Interpreter, MachineStep, showing, silent, too_deep};
 use c_checked::expression::Expr;
 use c_checked::statement::{Filter, Stmt};
 use seh_num::event::{Code, Event};
@@ -34,7 +34,7 @@ fn unhandled<'p>(exception: Exception) -> Next<'p>
     Next::Does(Action::Over(Finish::Ended(Ended::Unhandled(Code(exception.code)))))
 }
 
-impl<'p> Machine<'p> {
+impl<'p> Interpreter<'p> {
     /// An exception is raised: the vectored handlers are asked, and then the handlers.
     pub fn raise(&self, exception: Exception, place: Place) -> MachineStep<'p>
         ensures { Showed self.now self.now (λ m. model.begun m (tasks.Raise
@@ -83,12 +83,12 @@ impl<'p> Machine<'p> {
     pub fn run_finally(
         &mut self,
         number: u32,
-        last: &'p Vec<Stmt>,
+        finally_block: &'p Vec<Stmt>,
         abnormal: bool,
         place: Place,
     ) -> Result<MachineStep<'p>, AllocError>
         ensures { IfOk result (Showed self.old self.new (λ m. model.begun m
-            (tasks.RunFinally number (views.all_statements last.now.items) abnormal)
+            (tasks.RunFinally number (views.all_statements finally_block.now.items) abnormal)
             (place_of place))) }
     {
         if self.is_deep(2) {
@@ -105,7 +105,7 @@ impl<'p> Machine<'p> {
         };
         Ok(showing(
             Event::Finally { number, abnormal },
-            Next::Does(Action::Proceed(last, 0, inside)),
+            Next::Does(Action::Proceed(finally_block, 0, inside)),
         ))
     }
 

@@ -14,7 +14,7 @@ ghost use Rattle.source_plans.specs.Views.{place_of};
 ghost use Rattle.source_steps.specs.Machines.{machine_of, shown_after, Moved, Showed};
 ghost use Rattle.source_steps.specs.Directly.{Advanced};
 
-use crate::machine::{Machine, MachineStep, silent, silently};
+use crate::machine::{Interpreter, MachineStep, silent, silently};
 use c_checked::checked::Checked;
 use c_checked::statement::Declared;
 use source_plans::expressions::{expression_plan, find_plan, node_plan, pass_plan};
@@ -26,7 +26,7 @@ use source_plans::statements::{
 use source_plans::task::Task;
 use std::alloc::{AllocError, Global};
 
-impl<'p> Machine<'p> {
+impl<'p> Interpreter<'p> {
     /// A task's beginning, after its step.
     fn begin(
         &mut self,
@@ -62,9 +62,9 @@ impl<'p> Machine<'p> {
             } => self.run_filter(number, value, handler, exception, place),
             Task::RunFinally {
                 number,
-                last,
+                finally_block,
                 abnormal,
-            } => self.run_finally(number, last, abnormal, place),
+            } => self.run_finally(number, finally_block, abnormal, place),
             Task::Retry {
                 operation,
                 first,

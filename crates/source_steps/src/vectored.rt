@@ -17,7 +17,7 @@ ghost use Rattle.source_plans.specs.Views.{place_of};
 ghost use Rattle.source_steps.specs.Machines.{machine_of, Moved};
 ghost use Rattle.vectored_list.specs.Lists.{is_listed, can_be_added, added, removed};
 
-use crate::machine::{Machine, too_deep};
+use crate::machine::{Interpreter, too_deep};
 use seh_num::extension::zero_extend;
 use seh_num::width::Width;
 use source_plans::expressions::start;
@@ -48,7 +48,7 @@ fn is_first(value: u64) -> bool
     zero_extend(Width::W32, value) != 0
 }
 
-impl<'p> Machine<'p> {
+impl<'p> Interpreter<'p> {
     /// The function of this number becomes a vectored handler, and whether it could is given.
     pub fn add_vectored(&mut self, handler: u64, first: u64) -> Next<'p>
         ensures { Moved self.old self.new (λ m. model.with_next (model.at_state m (set_vectored

@@ -1,5 +1,11 @@
 -- The value of an expression where finding it changes nothing and raises nothing: it is found at
 -- once, and nothing has to wait for it.
+--
+-- `node_value`, `address`: of an expression that changes nothing, calls nothing and raises nothing
+-- its value, or the address of a place, with the steps that are left of so many. There is none
+-- where one of these isn't so, or no step is left.
+--
+-- The main definitions: `Surroundings`, `Change`, `change`, `written`.
 use Rattle.std.specs.Prelude.{ℕ, ◌-◌, Bool, true, false, not, nat_eq, List, slice_index, Option, Some}
 use Rattle.std.specs.Prelude.{None, option_map}
 use Rattle.flat_memory.specs.Memory.{Memory}
@@ -186,6 +192,7 @@ abbrev pub stored : State → OperationResult → Option State
 stored st (Gives v memory) = Some (set_memory st memory)
 stored st other = None
 
+-- the state after that; none where the access faults
 abbrev pub written : (ℕ → Bool) → State → Place → Lvalue → ℕ → ℕ → Option State
 written reserved st p (Local x) a v = Some (set_local st p.activation x v)
 written reserved st p (Global access _) a v =

@@ -1,5 +1,7 @@
 -- The lines of the view of an image's tables. Addresses are 8 hexadecimal digits, other numbers
 -- decimal.
+--
+-- The main definitions: `view`, `begun_name`.
 use Rattle.std.specs.Prelude.{ℕ, ◌+◌, ◌==◌, Bool, if◌then◌else◌, List, [], ◌∷◌, ◌++◌, length, Option, Some, None, Result, Ok, Err, codes}
 use Rattle.std.specs.List.{flat_map}
 use Rattle.std.specs.Fmt.{decimal}
@@ -173,6 +175,8 @@ abbrev pub name_if_begun : List NameRow → ℕ → Option NameRow → Option (L
 name_if_begun names rva None = None
 name_if_begun names rva (Some r) = if r.begin == rva then name_of r.number names else None
 
+-- the name of the number in the row of the table of names that begins where an entry does. It is
+-- the last of the entry's lines, and a cold part has its function's (own).
 abbrev pub begun_name : List NameRow → ℕ → Option (List ℕ)
 begun_name names rva = name_if_begun names rva (row_holding rva names)
 
@@ -200,6 +204,7 @@ abbrev pub table_lines : List NameRow → Image → Result (List RuntimeFunction
 table_lines names image (Ok rs) = all_lines names image 0 0 rs ++ count_line (length rs)
 table_lines names image (Err e) = refused_table_line e ++ count_line 0
 
--- without names where the table of names is refused
+-- the lines of each entry in its order, and a last line that counts them; one line for an entry, or
+-- a directory, that is refused
 abbrev pub view : Image → List ℕ
 view image = table_lines (rows_read (names_of image)) image (directory image)

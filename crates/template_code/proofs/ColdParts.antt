@@ -1,5 +1,5 @@
 -- A body whose cold parts stand apart: what is on each side, and where its labels are.
-use Rattle.std.proofs.Common.{◌≡◌, ℕ, zero, suc, ◌+◌, ◌-◌, ◌<◌, ◌≤◌, Bool, true, false, not, ltb, leb, List, [], ◌∷◌, ◌++◌, length, get_or, take, drop, append_assoc, refl, sym, ap, ◌∙◌, arith, length-drop, drop-cons}
+use Rattle.std.proofs.Common.{◌≡◌, ℕ, suc, ◌+◌, ◌-◌, ◌<◌, ◌≤◌, Bool, true, false, not, ltb, leb, List, [], ◌∷◌, ◌++◌, length, get_or, take, drop, append_assoc, refl, sym, ap, ◌∙◌, arith, length-drop, drop-cons}
 use Rattle.std.specs.Prelude.{◌&&◌, ◌||◌, if◌then◌else◌}
 use Rattle.std.specs.List.{AllByRecursion}
 use Rattle.std.proofs.lemmas.Bool.{lt-ltb, le-ltb, le-leb, lt-leb}
@@ -8,7 +8,7 @@ use Rattle.std.proofs.Math.Seq.{take-suc}
 use Rattle.linear_code.specs.declared.instruction.Instruction.{Instruction}
 use Rattle.linear_code.specs.declared.program.LabelRange.{LabelRange}
 use Rattle.template_code.specs.declared.layout.Layout.{Layout}
-use Rattle.template_code.specs.Template.{Links, template, template_size, body_size, offset_of, code_from}
+use Rattle.template_code.specs.Template.{Links, template, template_size, body_size, code_from}
 use Rattle.template_code.specs.ColdParts.{is_cold, AreParts, part_code, same, side_from, offset_in, label_at}
 
 -- ---- which labels are cold
@@ -327,24 +327,3 @@ label_next y hot cold rs code label d lt same =
     (take (suc label) code))) same
     ∙ (let e : (if c then cold else hot) + body_size y (side_from rs c 0 (take (suc label) code))
     ≡ label_at y hot cold rs code label + template_size y x = omega arith in e)
-
--- a label past the last one is where the code ends that isn't cold
-take_all : (code : List Instruction) (label : ℕ) → length code ≤ label → take label code ≡ code
-take_all [] zero le = refl
-take_all [] (suc label) le = refl
-take_all (x ∷ xs) zero le = absurd (omega arith)
-take_all (x ∷ xs) (suc label) le = ap (λ t. x ∷ t) (take_all xs label (omega arith))
-
-pub label_past : (y : Layout) (hot cold : ℕ) (rs : List LabelRange) (code : List Instruction)
-    (label : ℕ) → AreParts 0 rs (length code) → length code ≤ label
-    → label_at y hot cold rs code label ≡ hot + body_size y (side_from rs false 0 code)
-label_past y hot cold rs code label parts le =
-    ap (λ (b : Bool). (if b then cold else hot) + body_size y (side_from rs b 0 (take label code)))
-    (cold_past 0 (length code) rs label parts le)
-    ∙ ap (λ t. hot + body_size y (side_from rs false 0 t)) (take_all code label le)
-
--- without parts
-pub label_alone : (y : Layout) (hot cold : ℕ) (code : List Instruction) (label : ℕ)
-    → label_at y hot cold [] code label ≡ hot + offset_of y code label
-label_alone y hot cold code label =
-    ap (λ t. hot + body_size y t) (hot_all 0 (take label code))

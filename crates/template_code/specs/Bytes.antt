@@ -1,4 +1,6 @@
 -- The bytes of instructions, each in its chosen spelling, and how many they are.
+--
+-- The main definition: `thunk`.
 use Rattle.std.specs.Prelude.{ℕ, ◌+◌, List, [], ◌∷◌, length, None}
 use Rattle.std.specs.List.{flat_map}
 use Rattle.x64_instr.specs.declared.operand.Base.TheVariants as bases

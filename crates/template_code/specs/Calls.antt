@@ -1,4 +1,6 @@
 -- Calls (Microsoft x64 ABI, "Parameter passing" and "Prolog and epilog").
+--
+-- The main definitions: `passing_call_code`, `parameters_code`, `return_code`, `information_code`.
 use Rattle.std.specs.Prelude.{ℕ, zero, suc, ◌+◌, ◌-◌, ◌*◌, nat_lt, if◌then◌else◌, List, [], ◌∷◌, ◌++◌, None}
 use Rattle.seh_num.specs.declared.width.Width.TheVariants.{W32, W64}
 use Rattle.x64_instr.specs.declared.register.Reg.{Reg}
@@ -113,6 +115,7 @@ field_load (ExceptionInformation k) =
     instrs.Move W64 (places.Register Rax) (operands.Memory (above Rax (32 + 8 * k)))
 field_load f = instrs.Move W32 (places.Register Rax) (operands.Memory (above Rax (field_at f)))
 
+-- a field of the exception's record, through EXCEPTION_POINTERS
 abbrev pub information_code : Layout → Slot → Field → List Instr
 information_code y to f = fetched Rax Rsp y.pointers ∷ fetched Rax Rax 0 ∷ field_load f ∷ keep y to
 

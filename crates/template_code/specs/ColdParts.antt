@@ -1,5 +1,13 @@
 -- A body whose cold parts stand apart: its other instructions one after another, and those of its
 -- cold parts one after another at another place.
+--
+-- `falls_through`: every instruction but a jump and a return.
+--
+-- `label_at`: where the code of a label begins, by where each side does. `HasLabelsApart` of links
+-- that say so.
+--
+-- `hot_code`, `cold_code`: a body's instructions that stand in no cold part, and those that do,
+-- each side one after another.
 use Rattle.std.specs.Prelude.{◌≡◌, ℕ, suc, ◌+◌, ◌-◌, ◌<◌, ◌≤◌, Bool, true, false, not, ◌&&◌, ◌||◌, nat_le, nat_lt, if◌then◌else◌, List, [], ◌∷◌, take, drop}
 use Rattle.linear_code.specs.declared.instruction.Instruction.{Instruction}
 use Rattle.linear_code.specs.declared.instruction.Instruction.TheVariants as instructions

@@ -1,4 +1,6 @@
 -- The frame of a body, as a frame of the rules (Microsoft x64 ABI, "Prolog and epilog").
+--
+-- The main definitions: `probe_end`, `probing`.
 use Rattle.std.specs.Prelude.{ℕ, zero, suc, ◌+◌, ◌*◌, ◌==◌, Bool, true, false, if◌then◌else◌, List, [], ◌∷◌, length}
 use Rattle.frame_rules.specs.Plan.{FramePlan, Saved}
 use Rattle.template_code.specs.declared.layout.Layout.{Layout}

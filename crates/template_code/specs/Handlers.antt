@@ -1,4 +1,9 @@
 -- The code by which functions become vectored handlers and are called as such.
+--
+-- `adding_stub`, `removing_stub`: what a program calls to make a function a vectored handler, or to
+-- take it out. The address of its name thunk goes to RDX or RCX, and a jump leads to the service.
+--
+-- The main definition: `name_thunk`.
 use Rattle.std.specs.Prelude.{ℕ, ◌+◌, List, [], ◌∷◌, None}
 use Rattle.seh_num.specs.declared.width.Width.TheVariants.{W32, W64}
 use Rattle.x64_instr.specs.declared.register.Reg.{Reg}

@@ -1,4 +1,8 @@
 -- Which operands an operation reads, and which registers it needs.
+--
+-- `has_first`, `has_second`: which operands an operation reads: a constant none, a load and an
+-- operation of one number (a copy, an extension, a complement, a negation) the first alone, all
+-- others both.
 use Rattle.std.specs.Prelude.{Bool, true, false}
 use Rattle.c_operations.specs.declared.operation.Operation.{Operation}
 use Rattle.c_operations.specs.declared.operation.Operation.TheVariants as operations

@@ -1,4 +1,6 @@
 -- Where a local stands: in a register, or in the frame.
+--
+-- The main definition: `place_of`.
 use Rattle.std.specs.Prelude.{ℕ, ◌==◌, nat_lt, if◌then◌else◌, List, ◌∷◌, Option, Some, None}
 use Rattle.x64_instr.specs.declared.register.Reg.{Reg}
 use Rattle.x64_instr.specs.declared.register.Reg.TheVariants.{Rcx, Rdx, R8, R9}
@@ -13,7 +15,8 @@ abbrev pub place_among : List (Option ℕ) → List Reg → ℕ → Place
 place_among (Some n ∷ ns) (r ∷ rs) x = if n == x then InRegister r else place_among ns rs x
 place_among ns rs x = InFrame
 
--- of a leaf function the parameters stay where they arrive
+-- where a local stands. That is in one of the registers that its function's frame saves, in its
+-- word of the frame, or, as a parameter of a leaf function, in the register in which it arrives.
 abbrev pub place_of : Layout → ℕ → Place
 place_of y x =
     if nat_lt x y.arrivals then Arriving else place_among y.registers LOCAL_REGISTERS x

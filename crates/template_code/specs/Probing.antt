@@ -1,5 +1,7 @@
 -- `__chkstk`, which a prologue calls before it makes a large frame (Microsoft x64 ABI, "Prolog and
 -- epilog"): RAX has the size, and each page of it is touched, from the top down.
+--
+-- The main definition: `check_stack`.
 use Rattle.std.specs.Prelude.{ℕ, ◌-◌, ◌^◌, List, [], ◌∷◌, ◌++◌}
 use Rattle.seh_num.specs.declared.width.Width.TheVariants.{W8, W64}
 use Rattle.x64_instr.specs.declared.register.Reg.TheVariants.{Rax, Rsp, R10, R11}
@@ -41,7 +43,9 @@ touched_range =
     ∷ instrs.LoadAddress W64 R10 (above Rsp first_touch)
     ∷ []
 
--- R11 is the frame's end, R10 goes down to it page by page; then test [r11],al ; ret
+-- `__chkstk`, which touches each page of a large frame by a loop (`touching`), from the top down to
+-- the end that `touched_range` puts into R11. The prologue of a body is that of its plan (crate
+-- `frame_rules`).
 abbrev pub check_stack : List Instr
 check_stack =
     touched_range ++ touching

@@ -1,4 +1,6 @@
 -- The instructions that bring slots to registers and back, and the template of an operation.
+--
+-- The main definition: `compute_code`.
 use Rattle.std.specs.Prelude.{ℕ, ◌+◌, ◌*◌, Bool, if◌then◌else◌, List, [], ◌∷◌, ◌++◌, Option, Some, None}
 use Rattle.seh_num.specs.declared.width.Width.TheVariants.{W64}
 use Rattle.x64_instr.specs.declared.register.Reg.{Reg}
@@ -71,5 +73,7 @@ operands_code y o first second =
 abbrev pub finish_code : Layout → Operation → Slot → List Instr
 finish_code y o to = work o ++ keep y to
 
+-- the operands that the operation reads to RAX and RCX, its instructions, and RAX to the slot of
+-- the result
 abbrev pub compute_code : Layout → Slot → Operation → Slot → Slot → List Instr
 compute_code y to o first second = operands_code y o first second ++ finish_code y o to

@@ -1,4 +1,6 @@
 -- The template of each instruction, and the code of a body.
+--
+-- The main definitions: `template`, `code_from`, `template_size`.
 use Rattle.std.specs.Prelude.{◌≡◌, ℕ, ◌+◌, List, [], ◌∷◌, ◌++◌, take}
 use Rattle.x64_instr.specs.declared.instruction.Instr.{Instr}
 use Rattle.c_operations.specs.declared.built_in.BuiltIn.{BuiltIn}
@@ -19,6 +21,9 @@ pub record Links : Type 0 where
   pub funclet : ℕ → ℕ
   pub local_unwind : ℕ
 
+-- the machine instructions of an instruction of linear code, by its address, by the `Layout` of its
+-- body's frame and by `Links`, the addresses of all that it refers to. A layout says where locals,
+-- temporaries and what a funclet keeps are, and where all of these end.
 abbrev pub template : Links → Layout → ℕ → Instruction → List Instr
 template k y at (instructions.Compute to o first second) = compute_code y to o first second
 template k y at (instructions.Information to field) = information_code y to field
@@ -40,6 +45,7 @@ abbrev pub nowhere : Links
 nowhere =
     record { label = λ l. 0; function = λ f. 0; known = λ f. 0; funclet = λ f. 0; local_unwind = 0 }
 
+-- how many bytes one takes, which depends on no address (law `sizes_are_fixed`)
 unfoldable pub template_size : Layout → Instruction → ℕ
 template_size y instruction = sizes (template nowhere y 0 instruction)
 
@@ -51,6 +57,7 @@ body_size y (instruction ∷ more) = template_size y instruction + body_size y m
 abbrev pub offset_of : Layout → List Instruction → ℕ → ℕ
 offset_of y body number = body_size y (take number body)
 
+-- the templates of a body, one after another
 abbrev pub code_from : Links → Layout → ℕ → List Instruction → List Instr
 code_from k y at [] = []
 code_from k y at (instruction ∷ more) =

@@ -278,7 +278,7 @@ fn are_found(
 }
 
 /// An image with the infos of a function, and its entry, or none for a leaf.
-fn image_of(rt: &impl Abort, alloc: Global, infos: &[u8]) -> Vec<u8> {
+fn image_with_infos(rt: &impl Abort, alloc: Global, infos: &[u8]) -> Vec<u8> {
     let entries: &[u8] = if infos.is_empty() { &[] } else { &ENTRY };
     table_image(alloc, infos, entries).expect(rt, "memory")
 }
@@ -286,7 +286,7 @@ fn image_of(rt: &impl Abort, alloc: Global, infos: &[u8]) -> Vec<u8> {
 /// The same of the function that a part of a table spells.
 fn unwinds(rt: &impl Abort, alloc: Global, part: &str) {
     let function = function_of(rt, alloc, part);
-    let bytes = image_of(rt, alloc, &function.infos);
+    let bytes = image_with_infos(rt, alloc, &function.infos);
     let view = ImageView::read(alloc, &bytes).expect(rt, "an image");
     let tables = Tables::read(&view).expect(rt, "a table");
     let space = space(rt, alloc, &function);

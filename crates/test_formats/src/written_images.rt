@@ -89,7 +89,7 @@ fn image_bytes(rt: &impl Abort, alloc: Global) -> Vec<u8> {
 
 /// The image of a row, `SIZE | DATA | TEXT | XDATA | PDATA`, of parts that take a page each at
 /// most, which begins so many bytes after the front of its code.
-fn image_of(rt: &impl Abort, alloc: Global, row: &str, entry: u32) -> Image<'static> {
+fn image_of_row(rt: &impl Abort, alloc: Global, row: &str, entry: u32) -> Image<'static> {
     let columns = columns_of(row);
     let size = (number(rt, columns[0]) % 65536) as u32;
     if size % 4096 != 0 || size < 4096 || size > 8192 {
@@ -120,7 +120,7 @@ fn image_of(rt: &impl Abort, alloc: Global, row: &str, entry: u32) -> Image<'sta
 
 /// Its bytes as they are written.
 fn written(rt: &impl Abort, alloc: Global, row: &str, entry: u32) -> Vec<u8> {
-    let image = image_of(rt, alloc, row, entry);
+    let image = image_of_row(rt, alloc, row, entry);
     write(alloc, &image).expect(rt, "memory")
 }
 
@@ -177,7 +177,7 @@ fn lays_sections(rt: HostRuntime) {
         sizes.end_at(),
     ];
     are(&rt, &numbers, "3000 4000 5000 5000 6000 7000");
-    let image = image_of(&rt, rt.alloc(), "1000 | | C3", 0);
+    let image = image_of_row(&rt, rt.alloc(), "1000 | | C3", 0);
     are(&rt, &[image.sizes().rdata_at()], "3000");
 }
 

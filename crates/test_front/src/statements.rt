@@ -6,16 +6,16 @@
 
 use crate::rows::{Reader, all_as_wanted};
 use c_lex::token::Token;
-use c_parse_stmt::left::Left;
+use c_parse_stmt::remaining::Remaining;
 use c_parse_stmt::statements::items;
 use c_syntax::limit::{MOST_ARRAY_BYTES, MOST_STATEMENTS};
 use std::alloc::{AllocError, Global};
 
 /// The three numbers that a row begins with; 0 for a word that is none.
-fn given_of(words: &str) -> Option<(u64, Left)> {
+fn given_of(words: &str) -> Option<(u64, Remaining)> {
     let (room, words) = words.split_once(' ')?;
     let (locals, funclets) = words.split_once(' ')?;
-    let left = Left {
+    let left = Remaining {
         locals: locals.parse().unwrap_or(0),
         bytes: MOST_ARRAY_BYTES,
         funclets: funclets.parse().unwrap_or(0),

@@ -5,7 +5,7 @@
 //! A table is one text. Each line after its first is a row, `IMAGE | LINES`: the image that words
 //! name, and the lines that its run shows, joined by ` / `.
 
-use crate::images::{image_of, many_funclets};
+use crate::images::{image_named, many_funclets};
 use crate::shown::{Run, shows};
 use std::alloc::Global;
 use std::process::Abort;
@@ -21,7 +21,7 @@ const TRACED: Run = Run {
 /// Compares what a row's image shows with its lines.
 fn row_shows(rt: &impl Abort, alloc: Global, row: &str) {
     let (words, lines) = row.split_once(" | ").unwrap_or((row, ""));
-    let bytes = image_of(alloc, words).expect(rt, "memory");
+    let bytes = image_named(alloc, words).expect(rt, "memory");
     shows(rt, alloc, &bytes, TRACED, lines);
 }
 

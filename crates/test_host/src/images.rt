@@ -135,7 +135,7 @@ fn whole(alloc: Global, name: &str) -> Result<Vec<u8>, AllocError> {
 }
 
 /// The image that words name.
-pub fn image_of(alloc: Global, words: &str) -> Result<Vec<u8>, AllocError> {
+pub fn image_named(alloc: Global, words: &str) -> Result<Vec<u8>, AllocError> {
     let (how, rest) = words.split_once(' ').unwrap_or((words, ""));
     match how {
         "plain" => plain(alloc, main_of(rest)),

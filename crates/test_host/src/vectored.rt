@@ -36,7 +36,7 @@ fn code_of(name: &str) -> &'static [u8] {
 }
 
 /// The image that words name.
-fn image_of(alloc: Global, words: &str) -> Result<Vec<u8>, AllocError> {
+fn vectored_image(alloc: Global, words: &str) -> Result<Vec<u8>, AllocError> {
     match words {
         "PUTS_CODE" => asked_first(alloc, PUTS_CODE),
         "VECTORED_HARMS_WALK" => asked_first(alloc, VECTORED_HARMS_WALK),
@@ -90,7 +90,7 @@ raises_while_asked 1 | raise E0000001 0 / raise E0000002 0 / stopped BadRecord 0
 fn vectored_handlers_are_asked(rt: HostRuntime) {
     for row in VECTORED.lines().skip(1) {
         let (words, lines) = row.split_once(" | ").unwrap_or((row, ""));
-        let bytes = image_of(rt.alloc(), words).expect(&rt, "memory");
+        let bytes = vectored_image(rt.alloc(), words).expect(&rt, "memory");
         shows(&rt, rt.alloc(), &bytes, TRACED, lines);
     }
 }

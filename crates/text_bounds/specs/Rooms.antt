@@ -1,4 +1,6 @@
 -- How many bytes the code of a part of a checked program takes at most.
+--
+-- The main definitions: `expression_room`, `statement_room`, `functions_room`.
 use Rattle.std.specs.Prelude.{ℕ, ◌+◌, List, [], ◌∷◌, Option, None, Some}
 use Rattle.c_checked.specs.declared.expression.Conversion.{Conversion}
 use Rattle.c_checked.specs.declared.expression.Conversion.TheVariants.{Kept, Extend, Scale}

@@ -1,4 +1,6 @@
 -- A weight for each part of a checked program, and how much each node adds to what its parts weigh.
+--
+-- The main definitions: `Weights`, `NodesAdd`, `StatementsAdd`, `FunctionsAdd`.
 use Rattle.std.specs.Prelude.{ℕ, ◌+◌, ◌≡◌, ◌≤◌, List, [], ◌∷◌, length, Option, None, Some}
 use Rattle.c_operations.specs.declared.built_in.BuiltIn.{BuiltIn}
 use Rattle.c_operations.specs.declared.field.Field.{Field}

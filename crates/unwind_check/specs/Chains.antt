@@ -1,6 +1,8 @@
 -- Chain: what an entry that is chained to another one is to be (Microsoft x64 ABI, "Chained unwind
 -- info structures"). Its unwind info is a secondary one, of a fragment of a function; the primary
 -- one is that of the function's entry.
+--
+-- The main definition: `is_fragment`.
 use Rattle.std.specs.Prelude.{Bool, true, false, ◌==◌, ◌&&◌, ◌||◌, is_none, List, [], ◌∷◌, Option, Some, None}
 use Rattle.eh_tables.specs.declared.code.UnwindCode.{UnwindCode}
 use Rattle.eh_tables.specs.declared.range.RuntimeFunction.{RuntimeFunction}
@@ -34,7 +36,8 @@ is_secondary i p =
     is_none p.parent && (has_no_codes i.codes && ((i.prologue_size == 0) &&
     ((i.frame_register == p.frame_register) && (i.frame_offset == p.frame_offset))))
 
--- a fragment of a function whose entry is one of the table
+-- the info of a chained entry has no codes, no prologue and the frame register of the primary one,
+-- which isn't chained. The range that it names is that of an entry of the table.
 abbrev pub is_fragment : List RuntimeFunction → Info → Info → Bool
 is_fragment rs i p = names_entry rs i.parent && is_secondary i p
 

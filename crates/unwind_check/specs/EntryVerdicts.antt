@@ -1,4 +1,6 @@
 -- What is said of the entries of a table, one by one.
+--
+-- The main definitions: `IsEntryVerdict`, `AreEntryVerdicts`.
 use Rattle.std.specs.Prelude.{◌≡◌, ◌^◌, ◌<◌, List, [], ◌∷◌, IfNone}
 use Rattle.eh_tables.specs.Tables.{Entry}
 use Rattle.unwind_check.specs.declared.rule.EntryVerdict.{EntryVerdict}

@@ -1,4 +1,7 @@
 -- The rules on an entry, each by the boundaries at which it fails.
+--
+-- The main definitions: `HasInstr`, `Fails`, `primary_of`, `IsOwnEpilogue`, `IsLeastFault`,
+-- `KeepsRules`.
 use Rattle.std.specs.Prelude.{◌≡◌, ◌⊎◌, ℕ, ◌+◌, ◌^◌, ◌<◌, ◌≤◌, true, false, List, [], ◌∷◌, length, Option, Some, None}
 use Rattle.flat_memory.specs.Memory.{Memory}
 use Rattle.x64_instr.specs.declared.instruction.Instr.{Instr}
@@ -175,6 +178,9 @@ pub record FailsEpilogue (e : CodeEntry) (at : ℕ) : Type 0 where
 
 -- ---- all rules
 
+-- a rule fails at a boundary, by a clause for each of the seven rules (own; Microsoft x64 ABI,
+-- "Prolog and epilog" and "x64 exception handling"). They are Decode, Chain, Codes, Prologue,
+-- StackWrite, Unsaved and Epilogue, in this order at one boundary.
 abbrev pub Fails : CodeEntry → ℕ → Rule → Type 0
 Fails e at Decode = FailsDecode e at
 Fails e at Chain = (at ≡ e.begin) × (keeps_chain e.ranges e.info e.parents ≡ false)

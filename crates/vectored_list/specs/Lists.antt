@@ -1,4 +1,10 @@
 -- Lists of vectored handlers, in the order in which they are asked (own).
+--
+-- `added`, `removed`: the list of vectored handlers after one was to be added, in front of the
+-- others or behind them, and after one was to be taken out. It is added exactly where it isn't
+-- there yet and fewer than 16 are (`can_be_added`), and taken out exactly where it is there
+-- (`is_listed`); else the list stays as it is (own; Windows headers,
+-- `AddVectoredExceptionHandler`).
 use Rattle.std.specs.Prelude.{ℕ, Bool, true, false, ◌&&◌, ◌||◌, not, nat_eq, nat_lt, if◌then◌else◌, List, [], ◌∷◌, ◌++◌, length}
 use Rattle.vectored_list.specs.declared.TheConstants.{MOST_HANDLERS}
 

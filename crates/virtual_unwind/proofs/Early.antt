@@ -21,10 +21,10 @@ other : (f : ℕ) (plain : Bool) (o : Operation) (w : Width) (to : RegisterOrMem
     → role_of f plain (instrs.Arithmetic o w to (operands.Register r)) ≡ Other
 other f plain o w to r = search rules
 
-other_source : (f : ℕ) (plain : Bool) (o : Operation) (w : Width) (to : Reg) (from : RegisterOrMemory)
-    → role_of f plain (instrs.Arithmetic o w (places.Register to) (source from)) ≡ Other
-other_source f plain o w to (places.Register r) = other f plain o w (places.Register to) r
-other_source f plain o w to (places.Memory a) = search rules
+other_source : (f : ℕ) (p : Bool) (o : Operation) (w : Width) (to : Reg) (from : RegisterOrMemory)
+    → role_of f p (instrs.Arithmetic o w (places.Register to) (source from)) ≡ Other
+other_source f p o w to (places.Register r) = other f p o w (places.Register to) r
+other_source f p o w to (places.Memory a) = search rules
 
 abbrev shown_part : ℕ → Bool → List ℕ → Read Instr → Option Part
 shown_part f first bytes r = part_from f first (item_of bytes
@@ -43,8 +43,9 @@ module _ (f : ℕ) (first : Bool) (bytes : List ℕ) (p : Prefixes) (op : ℕ) w
       → None ≡ shown_part f first bytes (r >>= λ x.
       Some (instrs.Arithmetic o w x.0.0 (operands.Register x.0.1), x.1))
   quiet_rm w o None = refl
-  quiet_rm w o (Some x) = quiet f first bytes (instrs.Arithmetic o w x.0.0 (operands.Register x.0.1))
-      x.1 (λ plain. other f plain o w x.0.0 x.0.1)
+  quiet_rm w o (Some x) =
+      let it = instrs.Arithmetic o w x.0.0 (operands.Register x.0.1) in
+      quiet f first bytes it x.1 (λ plain. other f plain o w x.0.0 x.0.1)
 
   quiet_mr : (w : Width) (o : Operation) (r : Read (RegisterOrMemory × Reg))
       → None ≡ shown_part f first bytes (r >>= λ x.
@@ -63,7 +64,8 @@ module _ (f : ℕ) (first : Bool) (bytes : List ℕ) (p : Prefixes) (op : ℕ) w
 
   quiet_forms : (o : Operation) (rest : List ℕ) (a b : Bool)
       → None ≡ shown_part f first bytes (forms o rest a b)
-  quiet_forms o rest true b = quiet_rm (sized p op) o (rm_and_register p (sized p op) (sized p op) rest)
+  quiet_forms o rest true b =
+      quiet_rm (sized p op) o (rm_and_register p (sized p op) (sized p op) rest)
   quiet_forms o rest false true =
       quiet_mr (sized p op) o (rm_and_register p (sized p op) (sized p op) rest)
   quiet_forms o rest false false = refl
@@ -73,8 +75,8 @@ module _ (f : ℕ) (first : Bool) (bytes : List ℕ) (p : Prefixes) (op : ℕ) w
   quiet_row rest None = refl
   quiet_row rest (Some o) = quiet_forms o rest (op % 8 / 2 == 0) (op % 8 / 2 == 1)
 
-none_prefixed : (b : ℕ) (rest : List ℕ) → b < 64 → b == 0x0F ≡ false
-    → instr (b ∷ rest) ≡ arithmetic_row (record { operand_size = false; has_rex = false; rex = 0 }) b rest
+none_prefixed : (b : ℕ) (rest : List ℕ) → b < 64 → b == 0x0F ≡ false → instr (b ∷ rest)
+    ≡ arithmetic_row (record { operand_size = false; has_rex = false; rex = 0 }) b rest
 unfolding instr after_size after_prefixes row
 none_prefixed b rest low one = search rules
 

@@ -1,4 +1,6 @@
 -- The caller of a frame, by cases: a leaf, the prologue, the epilogue, the body.
+--
+-- The main definition: `caller_of`.
 use Rattle.std.specs.Prelude.{ℕ, ◌+◌, ◌-◌, ◌^◌, ◌%◌, Bool, true, false, not, ◌==◌, ◌&&◌, ◌||◌, nat_lt, nat_le, List, [], ◌∷◌, Option, Some, None, Ok, Err}
 use Rattle.flat_memory.specs.Memory.{Memory}
 use Rattle.pe_image.specs.Image.{Image}
@@ -136,6 +138,8 @@ entry_of t rip = holding (distance t.base rip) t.entries
 unfoldable pub caller_in : Functions → Memory → Context → Answer CallerFrame
 caller_in t m c = of_entry m c (distance t.base c.rip) (entry_of t c.rip) >>= rising c
 
+-- the caller's context by the cases leaf, prologue, epilogue and body, or the first word of the
+-- stack that can't be read, or Backward, where RSP would not rise (own)
 unfoldable pub caller_of : Tables → Memory → Context → Answer CallerFrame
 caller_of t m c = caller_in (functions_of t) m c
 

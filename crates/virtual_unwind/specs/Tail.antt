@@ -1,5 +1,7 @@
 -- The trailing parts of a legal epilogue, as the machine fetches them, and what they do to a
 -- context (Microsoft x64 ABI, "Prolog and epilog").
+--
+-- The main definition: `tail_at`.
 use Rattle.std.specs.Prelude.{◌≡◌, ◌<◌, ℕ, zero, suc, ◌+◌, ◌/◌, ◌%◌, ◌^◌, Bool, true, false, ◌==◌, if◌then◌else◌, List, [], ◌∷◌, Option, Some, None, Ok, slice_index}
 use Rattle.seh_num.specs.declared.width.Width.TheVariants.{W64}
 use Rattle.seh_num.specs.declared.size.TheConstants.{LONGEST_INSTRUCTION}
@@ -111,7 +113,8 @@ tail zero first f m at = None
 tail (suc n) first f m at =
     from_item (λ k. tail n false f m ((at + k) % 2 ^ 64)) f first (fetched_at m at)
 
--- no epilogue is longer than the addresses are many
+-- the rest of a legal epilogue, as it is found at an address: `add rsp` or `lea rsp`, pops, and
+-- `ret` or a jump (Microsoft x64 ABI, "Epilog"). No epilogue is longer than the addresses are many.
 unfoldable pub tail_at : ℕ → Memory → ℕ → Option (List Instr)
 tail_at f m at = tail 0xFFFF_FFFF_FFFF_FFFF true f m at
 

@@ -1,4 +1,6 @@
 -- What undoing unwind codes makes of a context (Microsoft x64 ABI, "Unwind operation code").
+--
+-- The main definition: `undone`.
 use Rattle.std.specs.Prelude.{ℕ, ◌+◌, ◌-◌, ◌*◌, ◌%◌, ◌^◌, Bool, true, false, List, [], ◌∷◌, map, Result, Ok, Err}
 use Rattle.seh_num.specs.declared.width.Width.TheVariants.{W64}
 use Rattle.flat_memory.specs.declared.access.RefusedAccess.{RefusedAccess}
@@ -52,7 +54,9 @@ undone_one m base i u (MachineFrame e) = do
 abbrev pub operations : List UnwindCode → List UnwindOperation
 operations codes = map (λ c. c.operation) codes
 
--- from the last instruction of a prologue to its first
+-- what undoing the unwind codes of an info makes of a context, code by code (Microsoft x64 ABI,
+-- "Unwind procedure", "Unwind operation code"). From the last instruction of a prologue to its
+-- first.
 abbrev pub undone : Memory → ℕ → Info → List UnwindOperation → Undo → Answer Undo
 undone m base i [] u = Ok u
 undone m base i (x ∷ xs) u = undone_one m base i u x >>= undone m base i xs

@@ -1,4 +1,6 @@
 -- What is kept of an instruction.
+--
+-- The main definition: `IsDecoded`.
 use Rattle.std.specs.Prelude.{◌≡◌, ◌<◌, ◌^◌, List, Option, Some}
 use Rattle.std.specs.Option.{ForSome}
 use Rattle.std.specs.List.{All}

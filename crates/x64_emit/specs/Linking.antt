@@ -1,4 +1,6 @@
 -- Where everything is that code refers to.
+--
+-- The main definitions: `links_of`, `stub_of`.
 use Rattle.std.specs.Prelude.{ℕ, ◌+◌, ◌*◌, nat_lt, if◌then◌else◌, List, get_or}
 use Rattle.c_operations.specs.declared.built_in.BuiltIn.{BuiltIn}
 use Rattle.c_operations.specs.declared.built_in.BuiltIn.TheVariants.{Put, Protect, RaiseException, Walk, AddVectored, RemoveVectored}
@@ -46,7 +48,7 @@ thunk_of t Walk = t.walk
 thunk_of t (AddVectored f) = stub_of t.adding f
 thunk_of t (RemoveVectored f) = stub_of t.removing f
 
--- labels past the last instruction are the body's end
+-- the links of a body by the addresses of its labels, of functions, funclets and thunks
 abbrev pub links_of : Addresses → Links
 links_of a = record {
   label = λ l. address_or a.labels l a.end;

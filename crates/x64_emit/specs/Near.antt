@@ -1,4 +1,6 @@
 -- What an instruction of 32-bit displacements reaches.
+--
+-- The main definition: `IsInstructionNear`.
 use Rattle.std.specs.Prelude.{◌≡◌, ℕ, ◌+◌, ◌*◌, ◌^◌, ◌<◌, ◌≤◌, ◌==◌, Bool, true, false, List, Option, Some, None}
 use Rattle.std.specs.List.{AllByRecursion}
 use Rattle.seh_num.specs.declared.limit.TheConstants.{MOST_PARAMETERS}
@@ -76,6 +78,7 @@ abbrev pub IsFieldNear : Field → Type 0
 IsFieldNear (ExceptionInformation k) = k < EXCEPTION_MAXIMUM_PARAMETERS
 IsFieldNear f = Unit {0}
 
+-- what an instruction refers to can be reached by 32 bits
 abbrev pub IsInstructionNear : Layout → Instruction → Type 0
 IsInstructionNear y (instructions.Compute to o first second) =
     IsSlotNear y to × IsSlotNear y first × IsSlotNear y second

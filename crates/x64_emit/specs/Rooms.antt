@@ -1,4 +1,6 @@
 -- How many bytes templates take at most.
+--
+-- The main definitions: `instruction_room`, `code_room`.
 use Rattle.std.specs.Prelude.{ℕ, ◌+◌, List, [], ◌∷◌}
 use Rattle.c_operations.specs.declared.operation.Pure.{Pure}
 use Rattle.c_operations.specs.declared.operation.Pure.TheVariants as pures

@@ -1,5 +1,7 @@
 -- The spelling that is written: REX only where it says something, displacements and immediates of
 -- one byte where that is enough, and no displacement left out.
+--
+-- The main definitions: `chosen`, `is_encodable`.
 use Rattle.std.specs.Prelude.{ℕ, zero, suc, ◌+◌, ◌-◌, ◌*◌, ◌/◌, ◌%◌, Bool, true, false, not, ◌==◌, ◌&&◌, ◌||◌, nat_lt, nat_le, if◌then◌else◌, List, [], ◌∷◌, ◌++◌, None, Some, Option, IsTrue, length}
 use Rattle.seh_num.specs.declared.width.Width.{Width}
 use Rattle.seh_num.specs.declared.width.Width.TheVariants.{W8, W16, W32, W64}
@@ -227,6 +229,9 @@ plain_bytes w op = op ∷ []
 
 -- ---- instructions
 
+-- the one spelling that is written. It has REX only where that says something, but always with an
+-- operand of 8 bits. Displacements and immediates are of one byte where that is enough; jumps and
+-- calls go by 32 bits.
 abbrev pub chosen : Instr → List ℕ
 chosen (instrs.Move w to (operands.Register r)) =
     modrm w (opcodes.One (sized_opcode w 0x88)) (number r) to
@@ -307,6 +312,7 @@ abbrev pub is_target : Target → Bool
 is_target (Relative d) = is_signed W32 W64 d
 is_target (Indirect at) = is_place at
 
+-- some bytes spell i: its widths are those of its row, its numbers fit, and no index is RSP
 abbrev pub is_encodable : Instr → Bool
 is_encodable (instrs.Move w to (operands.Register r)) = is_place to
 is_encodable (instrs.Move w (places.Register r) (operands.Memory m)) = is_place (places.Memory m)

@@ -49,7 +49,7 @@ memory_operand-IsReader p mode low =
     (map-IsReader (displaced mode) (memory (bases.Register (register_of_low_bits p low)) None)
     (displaced-IsReader mode)))
 
-place-IsReader : (p : Prefixes) (modrm : ℕ) → IsReader (place p modrm)
+pub place-IsReader : (p : Prefixes) (modrm : ℕ) → IsReader (place p modrm)
 unfolding place
 place-IsReader p modrm = if-IsReader (eqb (modrm / 64) 3)
     (λ bytes. Some (places.Register (register_of_low_bits p modrm), bytes))

@@ -1,4 +1,6 @@
 -- The instructions by what they are for.
+--
+-- The main definitions: `IsMove`, `IsComputation`, `IsTransfer`.
 use Rattle.x64_instr.specs.declared.instruction.Instr.{Instr}
 use Rattle.x64_instr.specs.declared.instruction.Instr.TheVariants as instrs
 

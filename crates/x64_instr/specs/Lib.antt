@@ -3,3 +3,4 @@ pub mod Registers
 pub mod Reading
 pub mod Operands
 pub mod Spelling
+pub mod Written

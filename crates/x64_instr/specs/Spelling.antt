@@ -1,6 +1,8 @@
 -- How instructions are spelled: an optional 66, an optional REX, the opcode, then ModRM, SIB,
 -- displacement and immediate as the opcode has them (Intel manual, volume 2, chapter 2, and each
 -- instruction's page).
+--
+-- The main definitions: `row`, `plain_row`, `two_byte_row`, `IsEncoding`, `leading`.
 use Rattle.std.specs.Prelude.{◌≡◌, ℕ, ◌-◌, ◌/◌, ◌%◌, Bool, true, false, not, ◌==◌, ◌&&◌, if◌then◌else◌, List, [], Option, Some, None, option_map, length}
 use Rattle.seh_num.specs.declared.width.Width.{Width}
 use Rattle.seh_num.specs.declared.width.Width.TheVariants.{W8, W32, W64}
@@ -308,7 +310,8 @@ instr bytes =
     byte bytes >>= λ b. if b.0 == 0x66 then (byte b.1 >>= λ c. after_size true c.0 c.1)
     else after_size false b.0 b.1
 
--- the bytes spell the instruction
+-- reading the bytes by the table gives i, and nothing is left. No spelling begins another, and each
+-- spells one instruction: laws.
 abbrev pub IsEncoding : Instr → List ℕ → Type 0
 IsEncoding i bytes = instr bytes ≡ Some (i, [])
 

@@ -71,8 +71,10 @@ fn memory_operand(
     Some((memory(base, None, displacement), rest))
 }
 
+/// The r/m operand of a ModRM byte, with SIB and displacement from the bytes after it, and the
+/// bytes after those; none where they end too soon.
 #[tactic(auto, unfolding(crate::specs::Operands::place))]
-fn place(prefixes: Prefixes, modrm: u8, bytes: &[u8]) -> Option<(RegisterOrMemory, &[u8])>
+pub fn place(prefixes: Prefixes, modrm: u8, bytes: &[u8]) -> Option<(RegisterOrMemory, &[u8])>
     ensures { option_map (λ x. (x.0, x.1.now)) result ≡ spec.place prefixes modrm bytes.now }
 {
     if modrm / 64 == 3 {

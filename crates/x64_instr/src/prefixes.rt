@@ -63,7 +63,7 @@ impl Prefixes {
     }
 
     /// The register in the low three bits of ModRM, SIB or the opcode.
-    pub(crate) fn register_of_low_bits(self, byte: u8) -> Reg
+    pub fn register_of_low_bits(self, byte: u8) -> Reg
         ensures { result ≡ spec.register_of_low_bits self byte }
     {
         Reg::of(8 * bit(0, self.rex) + byte % 8)

@@ -1,5 +1,7 @@
 -- What instructions on registers leave, by whole numbers (Intel manual, volume 2, each
 -- instruction's page). RIP is that of the next instruction.
+--
+-- The main definition: `IsFloor`.
 use Rattle.std.specs.Prelude.{◌≡◌, ℕ, ◌+◌, ◌*◌, ◌^◌, ◌<◌, ◌≤◌, Bool, true, not, nat_lt, nat_le, ℤ, pos, ◌+ℤ◌, ◌-ℤ◌, ◌*ℤ◌, ◌≤ℤ◌, ◌<ℤ◌, IsOkAnd}
 use Rattle.seh_num.specs.declared.width.Width.{Width}
 use Rattle.seh_num.specs.Widths.{bytes_of, limit, signed, wrapped}
@@ -88,7 +90,8 @@ MovzxKeepsUnsigned =
     → IsOkAnd (effect s (instrs.Extend Zero w to narrow (places.Register from)))
     (Puts s w to (λ n. n ≡ unsigned_in narrow s from) s.cpu.flags)
 
--- q is the floor of the quotient of z by d
+-- the whole number at or below a quotient and nearest to it; SAR by c leaves that of the signed
+-- quotient by 2 to the c (`SarIsFloor`).
 pub record IsFloor (z : ℤ) (d : ℕ) (q : ℤ) : Type 0 where
   pub at_most : (q *ℤ pos d) ≤ℤ z
   pub next_is_more : z <ℤ ((q +ℤ pos 1) *ℤ pos d)

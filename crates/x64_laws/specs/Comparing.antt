@@ -1,5 +1,7 @@
 -- What each condition says after CMP of two numbers (Intel manual, volume 2, Jcc: "below" and
 -- "above" of unsigned numbers, "less" and "greater" of signed ones).
+--
+-- The main definition: `compares`.
 use Rattle.std.specs.Prelude.{◌≡◌, ℕ, Bool, not, nat_lt, nat_le, nat_eq, int_lt, int_le, pos, ◌-ℤ◌, IsOkAnd}
 use Rattle.seh_num.specs.declared.width.Width.{Width}
 use Rattle.seh_num.specs.declared.width.Width.TheVariants.{W8}
@@ -16,6 +18,9 @@ use Rattle.x64_machine.specs.Conditions.{holds}
 use Rattle.x64_machine.specs.Effect.{State, effect}
 use Rattle.x64_laws.specs.Destinations.{HasRegisters, unsigned_in, Puts}
 
+-- what each condition asks of two numbers, unsigned for "below" and "above", signed for "less" and
+-- "greater". In the state after CMP that is what `holds` asks of the flags (`CmpDecides`; Intel
+-- manual, volume 2, Jcc).
 abbrev pub compares : Condition → Width → ℕ → ℕ → Bool
 compares conditions.Equal w a b = nat_eq a b
 compares conditions.NotEqual w a b = not (nat_eq a b)

@@ -1,5 +1,7 @@
 -- What an instruction leaves that puts its result into a register (Intel manual, volume 1,
 -- "General-Purpose Registers in 64-Bit Mode").
+--
+-- The main definition: `Puts`.
 use Rattle.std.specs.Prelude.{◌≡◌, ◌≢◌, ℕ, length, ℤ}
 use Rattle.seh_num.specs.declared.width.Width.{Width}
 use Rattle.seh_num.specs.Widths.{low, signed}

@@ -1,5 +1,7 @@
 -- What DIV and IDIV leave of the number in RDX and RAX together, and what CDQ and CQO put into RDX
 -- for them (Intel manual, volume 2, each instruction's page).
+--
+-- The main definitions: `unsigned_joined`, `signed_joined`.
 use Rattle.std.specs.Prelude.{◌≡◌, ◌≢◌, ℕ, ◌+◌, ◌*◌, ◌<◌, ◌≤◌, true, false, ℤ, pos, ◌+ℤ◌, ◌*ℤ◌, None, IsOkAnd}
 use Rattle.std.specs.Result.{IsErrOf}
 use Rattle.seh_num.specs.declared.width.Width.{Width}

@@ -1,5 +1,7 @@
 -- Spellings that are read as the instruction that the manual gives them, and that the encoder
 -- doesn't choose (Intel manual, volume 2, each instruction's page; "Instruction Format").
+--
+-- The main definition: `IsOnlyRead`.
 use Rattle.std.specs.Prelude.{◌≡◌, ◌≢◌, ℕ, ◌+◌, ◌*◌, ◌<◌, true, List, [], ◌∷◌, ◌++◌, None}
 use Rattle.seh_num.specs.declared.width.Width.{Width}
 use Rattle.seh_num.specs.declared.width.Width.TheVariants.{W8, W32, W64}

@@ -1,10 +1,13 @@
 -- What conditions ask of the flags (Intel manual, volume 1, appendix B).
+--
+-- The main definition: `holds`.
 use Rattle.std.specs.Prelude.{Bool, not, ◌||◌}
 use Rattle.x64_instr.specs.declared.instruction.Condition.{Condition}
 use Rattle.x64_instr.specs.declared.instruction.Condition.TheVariants as conditions
 use Rattle.x64_machine.specs.declared.cpu.Flags.{Flags}
 use Rattle.x64_machine.specs.Shifts.{differ}
 
+-- what a condition asks of CF, ZF, SF and OF
 abbrev pub holds : Flags → Condition → Bool
 holds f conditions.Overflow = f.overflow
 holds f conditions.NotOverflow = not f.overflow

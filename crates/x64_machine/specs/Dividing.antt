@@ -1,4 +1,6 @@
 -- Division of RDX and RAX together (Intel manual, volume 2, DIV and IDIV).
+--
+-- The main definition: `divided`.
 use Rattle.std.specs.Prelude.{ℕ, ◌+◌, ◌*◌, nat_lt, if◌then◌else◌, ℤ, pos, ◌-ℤ◌, Result, Ok, Err}
 use Rattle.seh_num.specs.declared.width.Width.{Width}
 use Rattle.seh_num.specs.declared.division.DivFault.{DivFault}
@@ -19,7 +21,8 @@ abbrev pub wrapped_both : Width → Result (ℤ × ℤ) DivFault → Result (ℕ
 wrapped_both w (Ok x) = Ok (wrapped w x.0, wrapped w x.1)
 wrapped_both w (Err e) = Err e
 
--- quotient and remainder
+-- quotient towards zero and remainder of RDX and RAX together. By 0 is the fault C0000094, a
+-- quotient that doesn't fit C0000095; a fault changes nothing.
 abbrev pub divided : Division → Width → ℕ → ℕ → Result (ℕ × ℕ) DivFault
 divided Unsigned w n d = divided_unsigned w n d
 divided Signed w n d = wrapped_both w (divided_signed w (signed_double w n) (signed w d))

@@ -1,4 +1,6 @@
 -- What one instruction does (Intel manual, volume 2, each instruction's page).
+--
+-- The main definitions: `effect`, `step`.
 use Rattle.std.specs.Prelude.{◌≡◌, ℕ, ◌+◌, ◌-◌, ◌*◌, ◌%◌, ◌^◌, Bool, true, false, nat_lt, if◌then◌else◌, List, [], Option, Some, None, Result, Ok, Err, slice_index, slice_set, bit_and, bit_or, bit_xor}
 use Rattle.seh_num.specs.declared.width.Width.{Width}
 use Rattle.seh_num.specs.declared.width.Width.TheVariants.{W8, W64}
@@ -273,8 +275,14 @@ call s to = do
   after ← push s s.cpu.rip
   Ok (with_rip after target)
 
--- the effect of an instruction on a state whose RIP is that of the next instruction; INT3 and UD2
--- can't be run
+-- what each instruction does to the registers, the flags and the memory (Intel manual, volume 2,
+-- each instruction's page), by whole numbers. CF is set where the unsigned result doesn't fit, OF
+-- where the signed one doesn't. AND, OR, XOR and TEST clear both; NOT, moves, LEA, SETcc, jumps and
+-- divisions leave the flags. IMUL leaves ZF and SF as they are, and DIV and IDIV all flags (own;
+-- the manual leaves them open). An instruction that reads and writes one place in memory is refused
+-- as a write. CALL reads its target before it stores the return address. INT3 and UD2 can't be run:
+-- the step is Illegal, and RIP stays at them (own). The effect is on a state whose RIP is that
+-- of the next instruction.
 abbrev pub effect : State → Instr → Answer State
 effect s (instrs.Move w to from) = do
   v ← operand s w from
@@ -318,6 +326,9 @@ hosted a None = stops.Illegal
 hosted a (Some services.CSpecificHandler) = stops.Illegal
 hosted a (Some service) = stops.Host a
 
+-- fetch, `leading`, `effect`. In the host's page no instruction is fetched: the services are there
+-- (own). Beside registers and memory a state has the host's list of vectored handlers, by their
+-- addresses, which no step reads or changes.
 unfoldable pub step : State → Answer State
 step s =
     if in_host_page s.cpu.rip then Err (hosted s.cpu.rip (service_at s.cpu.rip))

@@ -1,4 +1,6 @@
 -- Shifts (Intel manual, volume 2, SAL/SAR/SHL/SHR).
+--
+-- The main definitions: `shifted`, `shift_flags`.
 use Rattle.std.specs.Prelude.{ℕ, ◌+◌, ◌-◌, ◌*◌, ◌/◌, ◌%◌, ◌^◌, Bool, true, false, not, ◌==◌, nat_lt, nat_le, nat_eq, if◌then◌else◌}
 use Rattle.seh_num.specs.declared.width.Width.{Width}
 use Rattle.seh_num.specs.declared.width.Width.TheVariants.{W64}

@@ -1,4 +1,8 @@
 -- Memory that is kept in pages, each found by its number: its address divided by 4,096.
+--
+-- What is asked of a memory are three traits: `CodeSpace`, fetches; `ReadSpace`, loads too, as an
+-- unwinder needs; and `AddressSpace`, the machine's stores and `protect`. Each equals its
+-- definition in flat_memory on the memory that it means.
 use Rattle.std.specs.Prelude.{◌≡◌, ℕ, ◌+◌, ◌-◌, ◌*◌, ◌/◌, ◌%◌, ◌^◌, ◌<◌, ◌≤◌, Bool, true, ◌==◌, replicate, ◌&&◌, nat_le, nat_lt, List, length, Option, Some, None, is_some, Result, Ok, Err, slice_index, if◌then◌else◌}
 use Rattle.host_layout.specs.declared.range.TheConstants.{ARENA_START, ARENA_END, PAGE}
 use Rattle.flat_memory.specs.declared.protection.Protection.{Protection}

@@ -1,4 +1,6 @@
 -- Memory as it is mapped by regions.
+--
+-- The main definition: `mapped`.
 use Rattle.std.specs.Prelude.{◌≡◌, ℕ, ◌+◌, ◌%◌, ◌≤◌, ◌<◌, Bool, true, false, ◌&&◌, ◌||◌, nat_le, nat_lt, if◌then◌else◌, List, [], ◌∷◌, length, slice_index, ◌-◌}
 use Rattle.host_layout.specs.declared.range.TheConstants.{ARENA_START, ARENA_END, PAGE}
 use Rattle.flat_memory.specs.declared.protection.Protection.{Protection}
@@ -35,7 +37,8 @@ mapped_over m (r ∷ rs) = mapped_over (with_region m r) rs
 abbrev pub unmapped : Memory
 unmapped = record { protection = λ a. UNMAPPED; byte = λ a. 0 }
 
--- the memory of some regions
+-- the memory of regions of whole pages: zeros with the region's protection, a later region over
+-- those before it; `filled` puts bytes there
 abbrev pub mapped : List Region → Memory
 mapped rs = mapped_over unmapped rs
 

@@ -1,5 +1,9 @@
 -- What operations on memory answer, one after another, and the memory after them, by the definition
 -- of memory alone.
+--
+-- `answer_of`, `memory_after`: what one load, store or `protect` answers, by the definition of
+-- memory alone, and the memory after it; `answers_of`, `memory_after_all`: the same of a list of
+-- them, one after another.
 use Rattle.std.specs.Prelude.{ℕ, List, [], ◌∷◌, Result, Ok, Err, is_some}
 use Rattle.flat_memory.specs.Memory.{Memory, loaded, stored, after_store, rights_asked, protected}
 use Rattle.flat_memory.specs.declared.access.RefusedAccess.{RefusedAccess}

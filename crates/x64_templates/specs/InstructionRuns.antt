@@ -1,4 +1,6 @@
 -- What a run comes to where the template of an instruction is placed.
+--
+-- The main definitions: `IsSpare`, `KeepsArrivals`.
 use Rattle.std.specs.Prelude.{◌≡◌, ℕ, ◌+◌, ◌*◌, ◌^◌, ◌<◌, ◌≤◌, true, ◌⊎◌, None, List, length, get_or}
 use Rattle.flat_memory.specs.Memory.{Memory}
 use Rattle.x64_machine.specs.declared.cpu.Flags.{Flags}

@@ -1,4 +1,6 @@
 -- The prologue of a plan is run, and its frame is there.
+--
+-- The main definition: `MakesFrame`.
 use Rattle.std.specs.Prelude.{◌≡◌, ◌≢◌, ◌⊎◌, ℕ, ◌+◌, ◌-◌, ◌*◌, ◌/◌, ◌<◌, ◌≤◌, Bool, true, false, not, ◌&&◌, nat_le, if◌then◌else◌, List, [], ◌∷◌, length}
 use Rattle.host_layout.specs.declared.range.TheConstants.{PAGE}
 use Rattle.flat_memory.specs.Memory.{Memory}

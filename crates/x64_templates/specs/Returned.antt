@@ -1,4 +1,6 @@
 -- What a call and a return reach.
+--
+-- The main definition: `Returned`.
 use Rattle.std.specs.Prelude.{◌≡◌, ◌≢◌, ℕ, ◌+◌, true, length}
 use Rattle.x64_machine.specs.Effect.{State}
 use Rattle.virtual_unwind.specs.Contexts.{is_nonvolatile}

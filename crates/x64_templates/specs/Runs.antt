@@ -1,4 +1,9 @@
 -- What a run comes to where the code of an operation is placed.
+--
+-- `HasCode`, `Reaches`: the bytes of instructions are in memory at an address; so many turns, each
+-- an instruction, lead from a state to another.
+--
+-- The main definition: `FrameHolds`.
 use Rattle.std.specs.Prelude.{◌≡◌, ◌≢◌, ◌⊎◌, ℕ, zero, suc, ◌+◌, ◌^◌, ◌<◌, Bool, false, List, Option, Some, Ok, Err, length}
 use Rattle.seh_num.specs.declared.event.Code.{Code}
 use Rattle.seh_num.specs.declared.size.TheConstants.{LONGEST_INSTRUCTION}
@@ -79,6 +84,7 @@ pub record FramePlace : Type 0 where
 abbrev pub Roomy : FramePlace → Type 0
 Roomy p = SlotsHaveRoom p.layout p.counts p.sp p.base
 
+-- a frame in memory has the numbers of a body's slots
 abbrev pub FrameHolds : FramePlace → LocalRegisters → Memory → BodyState → Type 0
 FrameHolds p locals m b =
     HoldsBody p.layout p.counts p.reserved p.sp p.base p.arrived locals m b

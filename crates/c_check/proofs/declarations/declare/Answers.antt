@@ -12,7 +12,7 @@ returns-in_ok-name-in-Function c =
       names = named.names;
       bytes = named.bytes;
       functions = c.in_ok-count-in-Function.count;
-      worst = named.worst;
+      faults = named.faults;
     } in
     let t = c.in-Function.returns in
     let n = c.in-Function.n in

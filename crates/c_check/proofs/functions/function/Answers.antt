@@ -25,7 +25,7 @@ returns-clause-added c =
     let returns = c.result_size.ensures in
     let body = trees.statements (map trees.statement c.args.body.now) in
     let done = map checked.statement c.in_ok-made.made.items in
-    let vs = c.body.new.walk.variables.items in
+    let vs = c.body.new.state.variables.items in
     let layout = layout_of vs (checked.statements done) in
     let placed = c.in_ok-placed.ensures in
     let locals = placed.locals ∙ ap (λ k. k ++ base_local layout) (c.in_ok-locals.ensures
@@ -34,7 +34,7 @@ returns-clause-added c =
     c.in_ok-declare_all.ensures.names
     ∙ ap (λ (k : SymbolTable). with_block k block) c.in_ok-open.ensures.opened in
     function_inside c.args.progress.now _ text t c.declare_all.new.names c.body.new.names
-    c.args.returns c.args.name list body _ c.body.new.walk done _ declared
+    c.args.returns c.args.name list body _ c.body.new.state done _ declared
     c.in_ok-sizes_of.ensures c.in_ok-variables_of.ensures refl
     c.in_ok-declare_all.ensures.faults c.in_ok-made.ensures
     (λ i. record {

@@ -14,6 +14,6 @@ loop-x-preserved c =
     c.in_ok-one.ensures.added in (
       c.in_ok-one.ensures.names ∙ c.loop-x.invariant.0,
       functions_on text (scopes_of t) c.args.xs.now c.loop-x.x-index c.x-item.result
-          (least_of c.args.worst) p c.one.new.progress c.loop-x-test.true c.x-item.is one
+          (least_of c.args.faults) p c.one.new.progress c.loop-x-test.true c.x-item.is one
           c.loop-x.invariant.1,
     )

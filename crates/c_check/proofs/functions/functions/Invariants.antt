@@ -5,5 +5,5 @@ use Rattle.c_check.specs.Words.{least_of, scopes_of}
 
 abbrev pub invariant-loop-x : goal.invariant-loop-x
 invariant-loop-x l = (l.names ≡ l.initial.names)
-    × StillFunctions l.text (scopes_of l.initial.names) l.xs l.x-index (least_of l.fn.worst)
+    × StillFunctions l.text (scopes_of l.initial.names) l.xs l.x-index (least_of l.fn.faults)
     l.progress

@@ -12,8 +12,8 @@ loop-i-preserved c =
     let below : c.loop-i.i < length list = omega arith in (
       still_around start t c.parameter.new.names _ one.names c.loop-i.invariant.0,
       parameters_on c.args.text.now list c.loop-i.i _ t.block c.parameter.new.names.block
-          (least_of c.args.worst.now) (least_of c.loop-i.worst)
-          (least_of c.parameter.new.worst) (next_at list c.loop-i.i _ below)
+          (least_of c.args.faults.now) (least_of c.loop-i.faults)
+          (least_of c.parameter.new.faults) (next_at list c.loop-i.i _ below)
           (ap (λ (k : SymbolTable). k.block) one.names) one.faults c.loop-i.invariant.1,
     )
 
@@ -22,5 +22,5 @@ returns-clause-names c =
     let list = c.args.list.now in
     let past : length list ≤ c.loop-i.i = omega arith in
     (parameters_end c.args.text.now list c.loop-i.i c.args.names.now c.loop-i.names
-    (least_of c.args.worst.now) (least_of c.loop-i.worst) past c.loop-i.invariant.0
+    (least_of c.args.faults.now) (least_of c.loop-i.faults) past c.loop-i.invariant.0
     c.loop-i.invariant.1).0

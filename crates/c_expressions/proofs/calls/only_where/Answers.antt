@@ -6,6 +6,6 @@ use Rattle.c_expressions.specs.Words.{least_of, typed_node}
 
 pub returns-clause-faults : goal.returns-clause-faults
 returns-clause-faults c = λ first fs p.
-    refused_kept first (least_of c.args.worst.now) (least_of c.add.new.self) c.args.allowed
+    refused_kept first (least_of c.args.faults.now) (least_of c.add.new.self) c.args.allowed
     c.args.at c.args.fault fs (record { found = option_map typed_node c.args.found; faults = fs })
     c.if-allowed.false p c.add.ensures

@@ -9,7 +9,7 @@ pub returns-in-None-clause-faults : goal.returns-in-None-clause-faults
 returns-in-None-clause-faults c = λ first fs rest p.
     let w = wanted c.args.want in
     let at = start (expression c.args.e.now) in
-    missing_kept first (least_of c.args.worst.now) w at fs rest p
+    missing_kept first (least_of c.args.faults.now) w at fs rest p
     ∙ ap (λ o. kept first (definitions.pass w at fs (option_map typed_node o) rest).faults)
     (sym c.in-None.is)
 
@@ -17,7 +17,7 @@ pub returns-then-fits-clause-faults : goal.returns-then-fits-clause-faults
 returns-then-fits-clause-faults c = λ first fs rest p.
     let w = wanted c.args.want in
     let at = start (expression c.args.e.now) in
-    fits_kept first (least_of c.args.worst.now) w at fs (typed_node c.in-Some.a) rest
+    fits_kept first (least_of c.args.faults.now) w at fs (typed_node c.in-Some.a) rest
     (sym c.fits.ensures ∙ c.if-fits.true) p
     ∙ ap (λ o. kept first (definitions.pass w at fs (option_map typed_node o) rest).faults)
     (sym c.in-Some.is)
@@ -26,9 +26,9 @@ pub returns-else-fits-clause-faults : goal.returns-else-fits-clause-faults
 returns-else-fits-clause-faults c = λ first fs rest p.
     let w = wanted c.args.want in
     let at = start (expression c.args.e.now) in
-    unfit_kept first (least_of c.args.worst.now) (least_of c.add.new.self) w at fs
+    unfit_kept first (least_of c.args.faults.now) (least_of c.add.new.self) w at fs
     (typed_node c.in-Some.a) rest (sym c.fits.ensures ∙ c.if-fits.false) p
-    (c.add.ensures ∙ ap (λ k. kept (least_of c.args.worst.now) (fault_at k TypeClash))
+    (c.add.ensures ∙ ap (λ k. kept (least_of c.args.faults.now) (fault_at k TypeClash))
     c.start.ensures)
     ∙ ap (λ o. kept first (definitions.pass w at fs (option_map typed_node o) rest).faults)
     (sym c.in-Some.is)

@@ -31,7 +31,7 @@ with_second-returns-in-Ok-clause-faults t c =
     let rule = rule_2 c.args.at (rule_of_two c.args.operator) in
     on_ok_weaker c.two.result
     (λ h. λ first fs k. h first (fs ++ jb.faults)
-    (kept_more first (least_of c.args.worst.now) _ fs jb.faults k c.in-Ok.ensures.faults)
+    (kept_more first (least_of c.args.faults.now) _ fs jb.faults k c.in-Ok.ensures.faults)
     ∙ ap (λ o. kept first (rule (fs ++ jb.faults) (option_map typed_node c.args.a) o).faults)
     c.in-Ok.ensures.found) c.two.ensures.faults
 
@@ -72,9 +72,9 @@ several-returns-in_ok-a-in-Index-clause-faults t c =
     ∙ fold-roll-Expr Expression node (Index_F x.array x.at x.index) in
     rw q
     (on_ok_weaker c.with_second.result
-    (λ h. h (least_of c.args.worst.now) ja.faults
+    (λ h. h (least_of c.args.faults.now) ja.faults
     (rw c.deref.ensures at c.in_ok-a-in-Index.ensures.faults)
-    ∙ ap (λ o. kept (least_of c.args.worst.now) (rule o jb.found).faults) left)
+    ∙ ap (λ o. kept (least_of c.args.faults.now) (rule o jb.found).faults) left)
     (rw c.deref-in-Index.ensures at c.with_second.ensures.faults))
 
 pub several-returns-in_ok-a-in-Binary-clause-found :
@@ -114,9 +114,9 @@ several-returns-in_ok-a-in-Binary-clause-faults t c =
     ∙ fold-roll-Expr Expression node (Binary_F x.left x.at x.operator x.right) in
     rw q
     (on_ok_weaker c.with_second-in-Binary.result
-    (λ h. h (least_of c.args.worst.now) ja.faults
+    (λ h. h (least_of c.args.faults.now) ja.faults
     (rw c.deref-in-Binary.ensures at c.in_ok-a-in-Binary.ensures.faults)
-    ∙ ap (λ o. kept (least_of c.args.worst.now) (rule o jb.found).faults) left)
+    ∙ ap (λ o. kept (least_of c.args.faults.now) (rule o jb.found).faults) left)
     (rw c.deref-in-Binary-2.ensures at c.with_second-in-Binary.ensures.faults))
 
 pub several-returns-in_ok-a-in-Comma-clause-found :
@@ -156,9 +156,9 @@ several-returns-in_ok-a-in-Comma-clause-faults t c =
     ∙ fold-roll-Expr Expression node (Comma_F x.left x.at x.right) in
     rw q
     (on_ok_weaker c.with_second-in-Comma.result
-    (λ h. h (least_of c.args.worst.now) ja.faults
+    (λ h. h (least_of c.args.faults.now) ja.faults
     (rw c.deref-in-Comma.ensures at c.in_ok-a-in-Comma.ensures.faults)
-    ∙ ap (λ o. kept (least_of c.args.worst.now) (rule o jb.found).faults) left)
+    ∙ ap (λ o. kept (least_of c.args.faults.now) (rule o jb.found).faults) left)
     (rw c.deref-in-Comma-2.ensures at c.with_second-in-Comma.ensures.faults))
 
 pub conditional_or_assignment-returns-in-Ok-resolve-clause-faults :
@@ -173,7 +173,7 @@ conditional_or_assignment-returns-in-Ok-resolve-clause-faults t c =
     ∙ fold-roll-Expr Expression node (Conditional_F x.condition x.at x.yes x.no) in
     rw q
     (on_ok_weaker c.conditional.result
-    (λ h. three (least_of c.args.worst.now) _ _ _ _
+    (λ h. three (least_of c.args.faults.now) _ _ _ _
     (resolve_expression s (expression x.condition.value))
     (resolve_expression s (expression x.yes.value)) (resolve_expression s (expression x.no.value))
     (rule_3 x.at conditional_of) _ _ _
@@ -213,7 +213,7 @@ call_with-returns-then-same_count-clause-faults t c =
     ≡ true = same_counts s c.args.wants.now c.args.given.now ∙ sym c.same_count.ensures
     ∙ c.if-same_count.true in
     on_ok_weaker c.pass_all.result
-    (λ h. λ u make. h ∙ ap (λ j. kept (least_of c.args.worst.now) j.faults)
+    (λ h. λ u make. h ∙ ap (λ j. kept (least_of c.args.faults.now) j.faults)
     (sym (call_passed c.args.at ws u make args same))) c.pass_all.ensures.faults
 
 pub call_with-returns-clause-found : goal.call_with-returns-clause-found
@@ -234,9 +234,9 @@ call_with-returns-clause-faults t c =
     let differ : nat_eq (length ws) (length args)
     ≡ false = same_counts s c.args.wants.now c.args.given.now ∙ sym c.same_count.ensures
     ∙ c.if-same_count.false in
-    λ u make. kept_more (least_of c.args.worst.now) _ _ (faults_of args)
+    λ u make. kept_more (least_of c.args.faults.now) _ _ (faults_of args)
     (fault_at c.args.at ArgCount) c.in_ok-resolve_all.ensures c.add.ensures
-    ∙ ap (λ j. kept (least_of c.args.worst.now) j.faults)
+    ∙ ap (λ j. kept (least_of c.args.faults.now) j.faults)
     (sym (call_refused c.args.at ws u make args differ))
 
 pub pass_all-loop-e-init : goal.pass_all-loop-e-init
@@ -244,11 +244,11 @@ pass_all-loop-e-init t c =
     let s = names_of c.args.context.now in (
       refl,
       omega arith,
-      subst (λ d. StillToPass s (least_of c.args.worst.now)
+      subst (λ d. StillToPass s (least_of c.args.faults.now)
           (pass_all (map wanted c.args.wants.now) (resolved_all s c.args.given.now)) d
-          (least_of c.args.worst.now) c.args.wants.now c.args.given.now)
+          (least_of c.args.faults.now) c.args.wants.now c.args.given.now)
           (sym c.no_arguments-passed.ensures)
-          (none_passed s (least_of c.args.worst.now) c.args.wants.now c.args.given.now),
+          (none_passed s (least_of c.args.faults.now) c.args.wants.now c.args.given.now),
     )
 
 pub conditional_or_assignment-returns-in_ok-b-in-Assign-clause-faults :
@@ -259,7 +259,7 @@ conditional_or_assignment-returns-in_ok-b-in-Assign-clause-faults t c =
     let s = names_of c.args.context.now in
     let ja = resolve_expression s (expression x.target.value) in
     let jb = resolve_expression s (expression x.value.value) in
-    let first = least_of c.args.worst.now in
+    let first = least_of c.args.faults.now in
     let q : expression c.args.e.now ≡ trees.Assign (expression x.target.value) x.at x.operator
     (expression x.value.value) = ap expression c.in-Assign.is
     ∙ ap expression (rolls-Assign x.target x.at x.operator x.value)
@@ -284,11 +284,11 @@ pass_all-loop-e-preserved t c =
     let ws = c.args.wants.now in
     let es = c.args.given.now in
     let x = c.want_at-want.result in
-    let lw : i < length ws = omega (arith, c.loop-e.invariant.0, c.loop-e.invariant.1, c.if-i-count.false)
-    in (
+    let lw : i < length ws =
+    omega (arith, c.loop-e.invariant.0, c.loop-e.invariant.1, c.if-i-count.false) in (
       ap (λ k. k + 1) c.loop-e.invariant.0,
       omega (arith, lw, c.loop-e.invariant.0),
-      pass_next_to s (least_of c.args.worst.now) (pass_all (map wanted ws) (resolved_all s es)) _ _
+      pass_next_to s (least_of c.args.faults.now) (pass_all (map wanted ws) (resolved_all s es)) _ _
           _ _ _ ws es i x c.e-item.result _ _ c.in_ok-passed.ensures lw
           (c.want_at-want.ensures ∙ ap (λ k. get_or ws k x) c.loop-e.invariant.0) c.loop-e-test.true
           c.e-item.is
@@ -305,8 +305,8 @@ pass_all-returns-then-i-count-clause-found t c =
     let past : length ws ≤ i = omega (arith, c.loop-e.invariant.0, c.if-i-count.true) in
     let done = option_map (λ v. map nodes.expression v.items) c.loop-e.passed in
     fused nodes.arguments (λ v. map nodes.expression v.items) c.loop-e.passed
-    ∙ (all_passed_at s (least_of c.args.worst.now) (pass_all (map wanted ws) (resolved_all s es))
-    done (least_of c.loop-e.worst) ws es i past c.loop-e.invariant.2).0
+    ∙ (all_passed_at s (least_of c.args.faults.now) (pass_all (map wanted ws) (resolved_all s es))
+    done (least_of c.loop-e.faults) ws es i past c.loop-e.invariant.2).0
 
 pub pass_all-returns-clause-found : goal.pass_all-returns-clause-found
 pass_all-returns-clause-found t c =
@@ -318,8 +318,8 @@ pass_all-returns-clause-found t c =
     let past' : length ws ≤ i = omega (arith, past, c.requires) in
     let done = option_map (λ v. map nodes.expression v.items) c.loop-e.passed in
     fused nodes.arguments (λ v. map nodes.expression v.items) c.loop-e.passed
-    ∙ (all_passed_at s (least_of c.args.worst.now) (pass_all (map wanted ws) (resolved_all s es))
-    done (least_of c.loop-e.worst) ws es i past' c.loop-e.invariant.2).0
+    ∙ (all_passed_at s (least_of c.args.faults.now) (pass_all (map wanted ws) (resolved_all s es))
+    done (least_of c.loop-e.faults) ws es i past' c.loop-e.invariant.2).0
 
 pub special_call-returns-in_ok-passed-in-Some-CodeFunction-clause-found :
     goal.special_call-returns-in_ok-passed-in-Some-CodeFunction-clause-found
@@ -339,13 +339,13 @@ pub special_call-returns-in_ok-passed-in-Some-CodeFunction-clause-faults :
 special_call-returns-in_ok-passed-in-Some-CodeFunction-clause-faults t c =
     let s = names_of c.args.context.now in
     let args = resolved_all s c.args.given.now in
-    let first = least_of c.args.worst.now in
+    let first = least_of c.args.faults.now in
     let j = call_with c.args.at [] unsigned (λ es. nodes.ExceptionCode) args in
     let found = c.code_call-found.ensures ∙ c.in_ok-passed-in-Some-CodeFunction.ensures.found
     unsigned (λ es. nodes.ExceptionCode) in
     let so_far = c.in_ok-passed-in-Some-CodeFunction.ensures.faults unsigned
     (λ es. nodes.ExceptionCode) in
-    let told : least_of c.only_where.new.worst
+    let told : least_of c.only_where.new.faults
     ≡ kept first (call s c.args.at (Some CodeFunction) args).faults = allowed_kept s.code
     c.args.at CodeOutsideFilter j _ first _ _ found so_far c.only_where.ensures.faults in
     search (rules, told)
@@ -369,14 +369,14 @@ pub special_call-returns-in_ok-passed-in-Some-AbnormalFunction-clause-faults :
 special_call-returns-in_ok-passed-in-Some-AbnormalFunction-clause-faults t c =
     let s = names_of c.args.context.now in
     let args = resolved_all s c.args.given.now in
-    let first = least_of c.args.worst.now in
+    let first = least_of c.args.faults.now in
     let j = call_with c.args.at [] int (λ es. nodes.AbnormalTermination) args in
     let found = c.abnormal_call-found.ensures
     ∙ c.in_ok-passed-in-Some-AbnormalFunction.ensures.found int
     (λ es. nodes.AbnormalTermination) in
     let so_far = c.in_ok-passed-in-Some-AbnormalFunction.ensures.faults int
     (λ es. nodes.AbnormalTermination) in
-    let told : least_of c.only_where-in-Some-AbnormalFunction.new.worst
+    let told : least_of c.only_where-in-Some-AbnormalFunction.new.faults
     ≡ kept first (call s c.args.at (Some AbnormalFunction) args).faults = allowed_kept s.abnormal
     c.args.at AbnormalOutsideFinally j _ first _ _ found so_far
     c.only_where-in-Some-AbnormalFunction.ensures.faults in
@@ -413,11 +413,11 @@ call_naming-returns-then-has_one_more-clause-faults t c =
     let lt : length c.args.wants.now < length c.args.given.now = omega (arith, count) in
     let last = last_named s c.args.wants.now c.args.given.now c.index-given-count.result lt
     c.index-given-count.is in
-    λ of. kept_more (least_of c.args.worst.now) _ _ (pass_all ws args).faults
+    λ of. kept_more (least_of c.args.faults.now) _ _ (pass_all ws args).faults
     (handler_after ws args).faults c.in_ok-passed.ensures.faults
     (c.in_ok-named.ensures.faults
-    ∙ ap (λ h. kept (least_of c.pass_all.new.worst) h.faults) (sym last))
-    ∙ ap (λ j. kept (least_of c.args.worst.now) j.faults)
+    ∙ ap (λ h. kept (least_of c.pass_all.new.faults) h.faults) (sym last))
+    ∙ ap (λ j. kept (least_of c.args.faults.now) j.faults)
     (sym (naming_passed c.args.at ws of args same))
 
 pub call_naming-returns-clause-found : goal.call_naming-returns-clause-found
@@ -438,7 +438,7 @@ call_naming-returns-clause-faults t c =
     let differ : nat_eq (length ws + 1) (length args)
     ≡ false = one_more s c.args.wants.now c.args.given.now ∙ sym c.has_one_more.ensures
     ∙ c.if-has_one_more.false in
-    λ of. kept_more (least_of c.args.worst.now) _ _ (faults_of args)
+    λ of. kept_more (least_of c.args.faults.now) _ _ (faults_of args)
     (fault_at c.args.at ArgCount) c.in_ok-resolve_all.ensures c.add.ensures
-    ∙ ap (λ j. kept (least_of c.args.worst.now) j.faults)
+    ∙ ap (λ j. kept (least_of c.args.faults.now) j.faults)
     (sym (naming_refused c.args.at ws of args differ))

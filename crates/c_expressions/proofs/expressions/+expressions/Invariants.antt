@@ -8,13 +8,13 @@ use Rattle.c_expressions.specs.Words.{resolved_all, least_of, kept, names_of, wa
 abbrev pub invariant-pass_all-loop-e : goal.invariant-pass_all-loop-e
 invariant-pass_all-loop-e l =
     (l.i ≡ l.e-index) × (l.i ≤ length l.wants)
-    × StillToPass (names_of l.context) (least_of l.initial.worst)
+    × StillToPass (names_of l.context) (least_of l.initial.faults)
     (pass_all (map wanted l.wants) (resolved_all (names_of l.context) l.given))
-    (option_map (λ v. map nodes.expression v.items) l.passed) (least_of l.worst)
+    (option_map (λ v. map nodes.expression v.items) l.passed) (least_of l.faults)
     (drop l.e-index l.wants) (drop l.e-index l.given)
 
 abbrev pub invariant-resolve_all-loop-e : goal.invariant-resolve_all-loop-e
 invariant-resolve_all-loop-e l =
-    kept (least_of l.initial.worst) (faults_of (resolved_all (names_of l.context) l.given))
-    ≡ kept (least_of l.worst) (faults_of (resolved_all (names_of l.context)
+    kept (least_of l.initial.faults) (faults_of (resolved_all (names_of l.context) l.given))
+    ≡ kept (least_of l.faults) (faults_of (resolved_all (names_of l.context)
     (drop l.e-index l.given)))

@@ -7,7 +7,7 @@ use Rattle.c_resolved.specs.Expressions as definitions
 
 pub returns-in-Some : goal.returns-in-Some
 returns-in-Some c = λ first fs p.
-    kept_more first (least_of c.args.worst.now) (least_of c.add.new.self) fs
+    kept_more first (least_of c.args.faults.now) (least_of c.add.new.self) fs
     (fault_at c.args.at TypeClash) p c.add.ensures
     ∙ ap (λ o. kept first (definitions.no_handler c.args.at (record {
       found = option_map typed_node o;

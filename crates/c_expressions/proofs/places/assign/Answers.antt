@@ -8,9 +8,9 @@ pub returns-clause-faults : goal.returns-clause-faults
 returns-clause-faults c = λ first fs p.
     let s = names_of c.args.context.now in
     let e = expression c.args.target.now in
-    refused_kept first (least_of c.args.worst.now) (least_of c.add.new.self) (is_lvalue s e)
+    refused_kept first (least_of c.args.faults.now) (least_of c.add.new.self) (is_lvalue s e)
     (start e) NotLvalue fs (assigning c.args.operator c.args.at fs
     (option_map typed_node c.args.a) (option_map typed_node c.args.b))
     (sym c.is_lvalue.ensures ∙ c.if-is_lvalue.false) p
-    (c.add.ensures ∙ ap (λ k. kept (least_of c.args.worst.now) (fault_at k NotLvalue))
+    (c.add.ensures ∙ ap (λ k. kept (least_of c.args.faults.now) (fault_at k NotLvalue))
     c.start.ensures)

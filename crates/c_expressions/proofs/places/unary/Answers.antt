@@ -9,11 +9,11 @@ pub returns-clause-faults : goal.returns-clause-faults
 returns-clause-faults c = λ first fs p.
     let s = names_of c.args.context.now in
     let e = expression c.args.operand.now in
-    refused_kept first (least_of c.args.worst.now) (least_of c.add.new.self)
+    refused_kept first (least_of c.args.faults.now) (least_of c.add.new.self)
     (operand_is_lvalue c.args.operator s e) (start e) NotLvalue fs
     (rule_1 c.args.at (unary_of c.args.operator) fs (option_map typed_node c.args.a))
     (sym c.operand_is_lvalue.ensures ∙ c.if-operand_is_lvalue.false) p
-    (c.add.ensures ∙ ap (λ k. kept (least_of c.args.worst.now) (fault_at k NotLvalue))
+    (c.add.ensures ∙ ap (λ k. kept (least_of c.args.faults.now) (fault_at k NotLvalue))
     c.start.ensures)
 
 pub returns-then-operand_is_lvalue-clause-found : goal.returns-then-operand_is_lvalue-clause-found

@@ -6,7 +6,7 @@ use Rattle.c_expressions.specs.Words.{least_of, kept, TypeClash, ruled, fault_at
 
 pub returns-in-None-clause-faults : goal.returns-in-None-clause-faults
 returns-in-None-clause-faults c = λ first fs e.
-    kept_more first (least_of c.args.worst.now) (least_of c.add.new.self) fs
+    kept_more first (least_of c.args.faults.now) (least_of c.add.new.self) fs
     (fault_at c.args.at TypeClash) e c.add.ensures
     ∙ ap (λ o. kept first (ruled c.args.at TypeClash fs (option_map typed_node o)).faults)
     (sym c.in-None.is)

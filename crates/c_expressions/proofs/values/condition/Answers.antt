@@ -7,9 +7,9 @@ use Rattle.c_resolved.specs.Statements as definitions
 pub returns-in-Some : goal.returns-in-Some
 returns-in-Some c =
     let a = c.in-Some.a in
-    valued c.args.worst.now c.unless_holds.new.worst c.args.found a c.as_is.result
+    valued c.args.faults.now c.unless_holds.new.faults c.args.found a c.as_is.result
     (definitions.condition c.args.at) (as_is (typed_node a))
     (unless_holds (is_scalar a.«of») c.args.at TypeClash)
     c.in-Some.is c.as_is.ensures (c.unless_holds.ensures
-    ∙ ap (λ b. kept (least_of c.args.worst.now) (unless_holds b c.args.at TypeClash))
+    ∙ ap (λ b. kept (least_of c.args.faults.now) (unless_holds b c.args.at TypeClash))
     c.is_scalar.ensures) (λ fs. refl)

@@ -7,9 +7,9 @@ use Rattle.c_resolved.specs.Statements as definitions
 pub returns-in-Some : goal.returns-in-Some
 returns-in-Some c =
     let a = c.in-Some.a in
-    valued c.args.worst.now c.unless_holds.new.worst c.args.found a c.as_type.result
+    valued c.args.faults.now c.unless_holds.new.faults c.args.found a c.as_type.result
     (definitions.to_type c.args.t c.args.at) (as_type c.args.t (typed_node a))
     (unless_holds (can_become c.args.t (typed_node a)) c.args.at TypeClash)
     c.in-Some.is c.as_type.ensures (c.unless_holds.ensures
-    ∙ ap (λ b. kept (least_of c.args.worst.now) (unless_holds b c.args.at TypeClash))
+    ∙ ap (λ b. kept (least_of c.args.faults.now) (unless_holds b c.args.at TypeClash))
     c.can_become.ensures) (λ fs. refl)

@@ -8,5 +8,5 @@ invariant-loop-local l =
     let start = l.initial.names in
     let a = environment l.env start.around in
     (l.names ≡ with_block start l.names.block)
-    × StillToDeclare a l.base (rest_of a l.base l.locals start.block l.initial.walk)
-    l.initial.walk l.made.items (drop l.local-index l.locals) l.names.block l.walk
+    × StillToDeclare a l.base (rest_of a l.base l.locals start.block l.initial.state)
+    l.initial.state l.made.items (drop l.local-index l.locals) l.names.block l.state

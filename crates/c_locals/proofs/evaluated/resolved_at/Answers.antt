@@ -10,6 +10,6 @@ returns-clause-found c = subst (λ s. IfOk c.resolve.result
 
 pub returns-clause-faults : goal.returns-clause-faults
 returns-clause-faults c = subst (λ s. OnOk c.resolve.result
-    (least_of c.resolve.new.worst ≡ kept (least_of c.args.worst.now)
+    (least_of c.resolve.new.faults ≡ kept (least_of c.args.faults.now)
     (resolve_expression s (expression c.args.e.now)).faults)) c.context.ensures
     c.resolve.ensures.faults

@@ -5,11 +5,11 @@ use Rattle.c_locals.proofs.ValueRules.{nothing_returned, value_returned}
 
 pub returns-then-is_void : goal.returns-then-is_void
 returns-then-is_void c = nothing_returned (environment c.args.env.now c.args.names.now.around)
-    c.args.names.now.block c.args.at (expression c.args.e.now) c.args.worst.now _
+    c.args.names.now.block c.args.at (expression c.args.e.now) c.args.faults.now _
     (sym c.is_void.ensures ∙ c.if-is_void.true) c.in_ok-refused_value.ensures
 
 pub returns : goal.returns
 returns c = value_returned (environment c.args.env.now c.args.names.now.around)
     c.args.names.now.block
-    c.args.at (expression c.args.e.now) c.args.worst.now _ _
+    c.args.at (expression c.args.e.now) c.args.faults.now _ _
     (sym c.is_void.ensures ∙ c.if-is_void.false) c.in_ok-to_type.ensures

@@ -6,7 +6,7 @@ use Rattle.c_resolved.specs.Statements as definitions
 pub returns : goal.returns
 returns c =
     let x = expression c.args.e.now in
-    ruled_at c.args.worst.now _ _ _
+    ruled_at c.args.faults.now _ _ _
     (resolved_at (environment c.args.env.now c.args.names.now.around)
     c.args.names.now.block x) c.to_type.result (definitions.to_type c.args.t)
     c.start.result (start x) c.start.ensures c.in_ok-found.ensures.found

@@ -6,7 +6,7 @@ use Rattle.c_resolved.specs.Statements as definitions
 pub returns : goal.returns
 returns c =
     let x = expression c.args.e.now in
-    ruled_at c.args.worst.now _ _ _
+    ruled_at c.args.faults.now _ _ _
     (filter_resolved_at (environment c.args.env.now c.args.names.now.around)
     c.args.names.now.block x) c.to_answer.result definitions.to_answer c.start.result
     (start x) c.start.ensures c.in_ok-found.ensures.found c.in_ok-found.ensures.faults

@@ -22,10 +22,10 @@ returns c =
     (first_data + length (padded (bytes_in of) file.bytes.items)) g.length = c.meaning_of.ensures
     ∙ ap (λ k. global_entity of (first_data + k) g.length) at in
     let own = initial_value of g.length (option_map trees.initialiser g.initialiser) in
-    let w = least_of c.name.new.file.worst in
+    let w = least_of c.name.new.file.faults in
     on_ok_weaker c.put_initial_value.result
-    (λ h. λ d f. placed text c.args.base g file _ d w (least_of c.unless_holds.new.worst)
-    (least_of c.check_length.new.worst)
+    (λ h. λ d f. placed text c.args.base g file _ d w (least_of c.unless_holds.new.faults)
+    (least_of c.check_length.new.faults)
     (c.in_ok-name.ensures.names ∙ ap (λ e. with_block file.names (with_name block n e)) is)
     (h.0 ∙ ap (λ b. b.items ++ own.bytes) c.in_ok-name.ensures.bytes
     ∙ ap (λ k. k ++ own.bytes) begun)

@@ -2,7 +2,7 @@ use Rattle.std.proofs.Common.{refl}
 use Rattle.std.proofs.lemmas.Result.{err_from_is_err_and}
 use Rattle.c_lex.specs.declared.punctuator.Punctuator.TheVariants as punctuators
 use Rattle.c_syntax.specs.declared.limit.TheConstants.{MOST_LOCALS, MOST_ARRAY_BYTES}
-use Rattle.c_parse.specs.Words.{Left, NoPunctuator, APunctuator, NoBlockItems, HasBlockItems, NoParameters, HasParameters, NoTail, HasTail}
+use Rattle.c_parse.specs.Words.{Remaining, NoPunctuator, APunctuator, NoBlockItems, HasBlockItems, NoParameters, HasParameters, NoTail, HasTail}
 use Rattle.c_parse.proofs.Refusing.{placed_in}
 use Rattle.c_parse.proofs.Bodies.{in_parameters, in_brace, in_body}
 use Rattle.c_parse.proofs.functions.tail.Goals as goal
@@ -23,7 +23,7 @@ returns-in_err-body-clause-refused c =
     let r = c.from_residual-in_err-body in
     let p = err_from_is_err_and r.result r.ensures.1 in
     let k = c.in_ok-parameters in
-    let left : Left =
+    let left : Remaining =
     record { locals = MOST_LOCALS; bytes = MOST_ARRAY_BYTES; funclets = c.args.funclets } in
     rw (p.1, p.2) (placed_in c.in_err-body.field-0.0 (NoBlockItems 65 left) (HasBlockItems 65 left)
     (NoTail c.args.funclets) (HasTail c.args.funclets) c.args.text.now c.in_ok-inner.inner.now

@@ -2,28 +2,30 @@ use Rattle.std.proofs.Common.{◌≤◌, ◌-◌, map, arith}
 use Rattle.std.proofs.lemmas.Result.{err_from_is_err_and}
 use Rattle.c_parse_stmt.specs.Words.{statement, statements, NoBase}
 use Rattle.c_syntax.proofs.Shorter.{item}
-use Rattle.c_parse_stmt.proofs.SecondBlocks.{guards, last_block, guarded_found}
+use Rattle.c_parse_stmt.proofs.SecondBlocks.{guards, last_block, try_statement_found}
 use Rattle.c_parse_stmt.proofs.Guarding.{still, try_body}
 use Rattle.c_parse_stmt.proofs.Held.{none_of, statement_item, block_fails, block_found, start, continues, ends, item_fails}
 use Rattle.c_parse_stmt.proofs.Inside.{opens_head, inner_fails, holds, otherwise_fails, otherwise_found, whole_found}
 use Rattle.c_parse_stmt.proofs.Sequences.{placed, placed_so, found_so}
 use Rattle.c_parse_stmt.proofs.statements.+nested.Goals as goal
 
-pub guarded-returns-in_err-body-clause-refused : goal.guarded-returns-in_err-body-clause-refused
-guarded-returns-in_err-body-clause-refused t c =
+pub try_statement-returns-in_err-body-clause-refused :
+    goal.try_statement-returns-in_err-body-clause-refused
+try_statement-returns-in_err-body-clause-refused t c =
     let p = err_from_is_err_and c.from_residual.result c.from_residual.ensures.1 in
     rw (p.1, p.2) (λ ts h. placed c.in_err-body.field-0.0 _ _ _ _ c.args.text.now c.args.tokens.now
     ts (try_body c.args.room c.args.left c.args.text.now ts c.args.tokens.now c.requires.some h)
     c.in_err-body.ensures.refused)
 
-pub guarded-read_clause-requires : goal.guarded-read_clause-requires
-guarded-read_clause-requires t c =
+pub try_statement-read_clause-requires : goal.try_statement-read_clause-requires
+try_statement-read_clause-requires t c =
     let k = c.in_ok-body in
     still c.args.text.now c.args.room c.args.left k.left (statements (map statement k.body.items))
     c.requires.some k.ensures.taken
 
-pub guarded-returns-in_err-clause-clause-refused : goal.guarded-returns-in_err-clause-clause-refused
-guarded-returns-in_err-clause-clause-refused t c =
+pub try_statement-returns-in_err-clause-clause-refused :
+    goal.try_statement-returns-in_err-clause-clause-refused
+try_statement-returns-in_err-clause-clause-refused t c =
     let r = c.from_residual-in_err-clause in
     let p = err_from_is_err_and r.result r.ensures.1 in
     let k = c.in_ok-body in
@@ -32,8 +34,8 @@ guarded-returns-in_err-clause-clause-refused t c =
     (guards c.args.text.now c.args.room c.args.left k.left ss ts c.args.tokens.now k.following.now
     c.requires.some h k.ensures.found k.ensures.taken))
 
-pub guarded-returns-in-Err-clause-refused : goal.guarded-returns-in-Err-clause-refused
-guarded-returns-in-Err-clause-refused t c =
+pub try_statement-returns-in-Err-clause-refused : goal.try_statement-returns-in-Err-clause-refused
+try_statement-returns-in-Err-clause-refused t c =
     let k = c.in_ok-body in
     let ss = statements (map statement k.body.items) in
     let j = c.in_ok-clause in
@@ -43,13 +45,13 @@ guarded-returns-in-Err-clause-refused t c =
     c.args.tokens.now k.following.now c.requires.some h k.ensures.found k.ensures.taken)
     j.ensures.found) c.in-Err.ensures.refused
 
-pub guarded-returns-in-Ok-clause-found : goal.guarded-returns-in-Ok-clause-found
-guarded-returns-in-Ok-clause-found t c =
+pub try_statement-returns-in-Ok-clause-found : goal.try_statement-returns-in-Ok-clause-found
+try_statement-returns-in-Ok-clause-found t c =
     let k = c.in_ok-body in
     let ss = statements (map statement k.body.items) in
     let j = c.in_ok-clause in
     let q = c.in-Ok in
-    λ ts h. rw c.try_of.ensures (guarded_found c.args.room c.args.left k.left j.left q.left ss
+    λ ts h. rw c.try_of.ensures (try_statement_found c.args.room c.args.left k.left j.left q.left ss
     (statements (map statement q.last.items)) j.clause c.args.text.now ts k.following.now
     j.following.now q.rest.now (guards c.args.text.now c.args.room c.args.left k.left ss ts
     c.args.tokens.now k.following.now c.requires.some h k.ensures.found k.ensures.taken)

@@ -5,8 +5,8 @@ use Rattle.c_parse_stmt.proofs.statements.+nested.Given as goal
 abbrev pub decreases-inside : goal.decreases-inside
 decreases-inside l = 4 * l.room + 2
 
-abbrev pub decreases-guarded : goal.decreases-guarded
-decreases-guarded l = 4 * l.room + 2
+abbrev pub decreases-try_statement : goal.decreases-try_statement
+decreases-try_statement l = 4 * l.room + 2
 
 abbrev pub decreases-statement : goal.decreases-statement
 decreases-statement l = 4 * l.room + 3

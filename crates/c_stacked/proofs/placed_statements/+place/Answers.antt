@@ -81,14 +81,15 @@ place_try-returns t c =
           w.place_statements-in-TryExcept.ensures)
       | place_try-in-TryFinally w ↦ ap statement w.t-13-is
           ∙ try_finally_placed l w.in-TryFinally.body w.place_statements-in-TryFinally.new.stmts
-          w.in-TryFinally.number w.in-TryFinally.last
+          w.in-TryFinally.number w.in-TryFinally.finally_block
           w.place_statements-in-TryFinally-2.new.stmts s (was ∙ w.in-TryFinally.is)
           (w.place_statements-in-TryFinally.auto.stmts ∙ w.deref_mut-in-TryFinally.ensures.len)
           (all_placed_at l w.deref_mut-in-TryFinally.result.now w.in-TryFinally.body.items
           w.place_statements-in-TryFinally.new.stmts w.deref_mut-in-TryFinally.ensures.value
           w.place_statements-in-TryFinally.ensures)
           (w.place_statements-in-TryFinally-2.auto.stmts ∙ w.deref_mut-in-TryFinally-2.ensures.len)
-          (all_placed_at l w.deref_mut-in-TryFinally-2.result.now w.in-TryFinally.last.items
+          (all_placed_at l w.deref_mut-in-TryFinally-2.result.now
+          w.in-TryFinally.finally_block.items
           w.place_statements-in-TryFinally-2.new.stmts w.deref_mut-in-TryFinally-2.ensures.value
           w.place_statements-in-TryFinally-2.ensures)
     ]

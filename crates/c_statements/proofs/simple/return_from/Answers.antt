@@ -15,7 +15,7 @@ returns c =
       counts = refl;
       block = refl;
       faults =
-          kept_more (least_of a.walk.now.worst) _ _
+          kept_more (least_of a.state.now.faults) _ _
           (jump (reach a.env.now.function) JumpOutOfFinally a.at)
           (returned (environment a.env.now a.names.now.around) a.names.now.block a.at
           (option_map expression a.e.now)).faults c.jump.ensures v.faults;

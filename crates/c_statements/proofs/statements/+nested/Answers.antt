@@ -2,11 +2,11 @@ use Rattle.std.proofs.Common.{◌≤◌, [], ◌∷◌, length, map, refl, ap, s
 use Rattle.std.proofs.lemmas.Result.{IfOk-weaker}
 use Rattle.std.specs.Prelude.{option_map}
 use Rattle.c_checked.specs.Statement as checked
-use Rattle.c_statements.specs.Words.{SymbolTable, Walk, MakesPart, MakesBlock, environment, numbering, resolved_at, in_body, in_handler, in_last, Numbering, ResolvedStatements, inside, resolve_statement, resolve_statements, expression, statement, statements}
+use Rattle.c_statements.specs.Words.{SymbolTable, FunctionState, MakesPart, MakesBlock, environment, numbering, resolved_at, in_body, in_handler, in_finally, Numbering, ResolvedStatements, inside, resolve_statement, resolve_statements, expression, statement, statements}
 use Rattle.c_resolved.specs.Statements as definitions
 use Rattle.c_statements.proofs.Going.{resolved_from, goes, gone}
 use Rattle.c_statements.proofs.Guarded.{for_is, ends_as_before, except_is, finally_is}
-use Rattle.c_statements.proofs.Parts.{one_is, part_in, part_is, block_in, block_is, governed_in, governed_is, if_else_is}
+use Rattle.c_statements.proofs.Parts.{one_is, part_in, part_is, block_in, block_is, condition_and_body_in, condition_and_body_is, if_else_is}
 use Rattle.c_statements.proofs.Trees as read
 use Rattle.c_statements.proofs.statements.+nested.Goals as goal
 use Rattle.c_syntax.specs.Statement as trees
@@ -14,32 +14,33 @@ use Rattle.c_syntax.specs.Statement as trees
 pub part-returns : goal.part-returns
 part-returns _ c =
     part_is c.args.env.now c.args.names.now c.open.new.self c.statement.new.names
-    c.close.new.self c.args.walk.now c.statement.new.walk c.in_ok-made.made.items _
+    c.close.new.self c.args.state.now c.statement.new.state c.in_ok-made.made.items _
     (statement c.args.s.now) c.in_ok-open.ensures.opened c.in_ok-made.ensures c.close.ensures
     (ap checked.statement c.in_ok-new.ensures.ok ∙ c.only.ensures)
 
 pub items-returns : goal.items-returns
 items-returns _ c =
     block_is c.args.env.now c.args.names.now c.open.new.self c.statements.new.names
-    c.close.new.self c.args.walk.now c.statements.new.walk c.in_ok-made.made.items
+    c.close.new.self c.args.state.now c.statements.new.state c.in_ok-made.made.items
     (statements (map statement c.args.list.now)) c.in_ok-open.ensures.opened c.in_ok-made.ensures
     c.close.ensures
 
-pub governed-returns-in-Ok : goal.governed-returns-in-Ok
-governed-returns-in-Ok _ c =
+pub condition_and_body-returns-in-Ok : goal.condition_and_body-returns-in-Ok
+condition_and_body-returns-in-Ok _ c =
     let t = c.args.names.now in
-    let w = c.args.walk.now in
-    let first : Walk = record {
+    let w = c.args.state.now in
+    let first : FunctionState = record {
       sizes = w.sizes;
       variables = w.variables;
       number = w.number;
-      worst = c.condition.new.worst;
+      faults = c.condition.new.faults;
     } in
     let f : Numbering → ResolvedStatements = λ n. resolve_statement (statement c.args.s.now)
     (environment c.args.inner.now (t.block ∷ t.around)) [] n in
     let v = definitions.condition c.args.at (resolved_at (environment c.args.env.now t.around)
     t.block (expression c.args.e.now)) in
-    governed_is t c.part.new.names w first c.part.new.walk c.in_ok-value.value c.in-Ok.made.value v
+    condition_and_body_is t c.part.new.names w first c.part.new.state c.in_ok-value.value
+    c.in-Ok.made.value v
     f c.in_ok-value.ensures.value c.in_ok-value.ensures.faults refl c.in-Ok.ensures
 
 pub for_loop-returns-in-Ok-part-clause-names : goal.for_loop-returns-in-Ok-part-clause-names
@@ -50,22 +51,22 @@ for_loop-returns-in-Ok-part-clause-names _ c =
 
 pub for_loop-returns-in-Ok-part-clause-made : goal.for_loop-returns-in-Ok-part-clause-made
 for_loop-returns-in-Ok-part-clause-made _ c =
-    let w = c.args.walk.now in
-    let w1 = c.for_initialiser.new.walk in
-    let w2 : Walk = record {
+    let w = c.args.state.now in
+    let w1 = c.for_initialiser.new.state in
+    let w2 : FunctionState = record {
       sizes = w1.sizes;
       variables = w1.variables;
       number = w1.number;
-      worst = c.condition_or_none.new.worst;
+      faults = c.condition_or_none.new.faults;
     } in
-    let w3 : Walk = record {
+    let w3 : FunctionState = record {
       sizes = w1.sizes;
       variables = w1.variables;
       number = w1.number;
-      worst = c.any_or_none.new.worst;
+      faults = c.any_or_none.new.faults;
     } in
     for_is c.args.env.now c.in_loop.result c.args.names.now c.open.new.self
-    c.for_initialiser.new.names c.part.new.names w w1 w2 w3 c.part.new.walk
+    c.for_initialiser.new.names c.part.new.names w w1 w2 w3 c.part.new.state
     c.in_ok-beginning.beginning c.in-Ok.value c.in-Ok-any_or_none.after c.in-Ok-part.made.value
     c.for_of.result c.args.at (trees.first c.args.first.now)
     (option_map expression c.args.condition.now)
@@ -77,11 +78,11 @@ pub with_parts-returns-in-Ok : goal.with_parts-returns-in-Ok
 with_parts-returns-in-Ok _ c =
     let x = c.in-If in
     let y = c.in-Some in
-    let w = c.args.walk.now in
-    let w1 = c.governed.new.walk in
-    let w2 = c.part.new.walk in
+    let w = c.args.state.now in
+    let w1 = c.condition_and_body.new.state in
+    let w2 = c.part.new.state in
     let t = c.args.names.now in
-    let t1 = c.governed.new.names in
+    let t1 = c.condition_and_body.new.names in
     let t2 = c.part.new.names in
     let a = environment c.args.env.now t.around in
     let here = inside a t.block in
@@ -89,7 +90,7 @@ with_parts-returns-in-Ok _ c =
     let o = c.in-Ok in
     let made = c.if_else_of.result in
     let v = definitions.condition x.at (resolved_at a t.block (expression x.condition)) in
-    let m = governed_in t t1 w w1 k.value k.then.value v (statement c.deref.result.now)
+    let m = condition_and_body_in t t1 w w1 k.value k.then.value v (statement c.deref.result.now)
     (statement x.then.value) here here (numbering w)
     (ap statement c.deref.ensures) refl k.ensures in
     let n0 = subst (λ (q : SymbolTable). MakesPart q t2 w1 w2 o.otherwise.value (resolve_statement
@@ -113,7 +114,7 @@ statement-returns-in-Break _ c =
     let t = c.args.names.now in
     IfOk-weaker c.one-in-Break.result _ _
     (λ list q.
-    one_is t t c.args.walk.now c.break_from.new.walk c.break_from.result
+    one_is t t c.args.state.now c.break_from.new.state c.break_from.result
     (map checked.statement list.items) (statement c.args.s.now) (trees.Break c.in-Break.at)
     (environment c.args.env.now t.around) (ap statement c.in-Break.is ∙ read.break_is c.in-Break.at)
     refl (c.break_from.ensures t.around t.block) q) c.one-in-Break.ensures
@@ -123,7 +124,7 @@ statement-returns-in-Continue _ c =
     let t = c.args.names.now in
     IfOk-weaker c.one-in-Continue.result _ _
     (λ list q.
-    one_is t t c.args.walk.now c.continue_from.new.walk c.continue_from.result
+    one_is t t c.args.state.now c.continue_from.new.state c.continue_from.result
     (map checked.statement list.items) (statement c.args.s.now) (trees.Continue c.in-Continue.at)
     (environment c.args.env.now t.around) (ap statement c.in-Continue.is
     ∙ read.continue_is c.in-Continue.at)
@@ -134,31 +135,31 @@ statement-returns-in-Leave _ c =
     let t = c.args.names.now in
     IfOk-weaker c.one-in-Leave.result _ _
     (λ list q.
-    one_is t t c.args.walk.now c.leave_from.new.walk c.leave_from.result
+    one_is t t c.args.state.now c.leave_from.new.state c.leave_from.result
     (map checked.statement list.items) (statement c.args.s.now) (trees.Leave c.in-Leave.at)
     (environment c.args.env.now t.around) (ap statement c.in-Leave.is ∙ read.leave_is c.in-Leave.at)
     refl (c.leave_from.ensures t.around t.block) q) c.one-in-Leave.ensures
 
-pub guarded-returns-in-Ok-items : goal.guarded-returns-in-Ok-items
-guarded-returns-in-Ok-items _ c =
+pub try_statement-returns-in-Ok-items : goal.try_statement-returns-in-Ok-items
+try_statement-returns-in-Ok-items _ c =
     let x = c.in-TryExcept in
-    let w = c.args.walk.now in
-    let w1 : Walk = record {
+    let w = c.args.state.now in
+    let w1 : FunctionState = record {
       sizes = w.sizes;
       variables = w.variables;
       number = w.number;
-      worst = c.filter_value.new.worst;
+      faults = c.filter_value.new.faults;
     } in
-    let w2 = c.items.new.walk in
-    let w3 = c.numbered.new.walk in
-    let w4 = c.items-in-Ok.new.walk in
+    let w2 = c.items.new.state in
+    let w3 = c.numbered.new.state in
+    let w4 = c.items-in-Ok.new.state in
     let t = c.args.names.now in
     let a = environment c.args.env.now t.around in
     let here = inside a t.block in
     let f = c.in_ok-filter-in-Ok in
     let vs = c.in-Ok in
     let ks = c.in-Ok-items in
-    let q = c.in_ok-asked-in-TryExcept in
+    let q = c.in_ok-answer-in-TryExcept in
     let t1 = c.items.new.names in
     let t2 = c.items-in-Ok.new.names in
     let m = block_in t t1 w1 w2 vs.body.items c.deref.result.now x.body.items
@@ -178,45 +179,49 @@ guarded-returns-in-Ok-items _ c =
     one_is t t2 w w4 c.except_of.result (map checked.statement list.items) (statement c.args.s.now)
     (trees.TryExcept body x.at (expression x.filter) handler) a
     (ap statement x.is ∙ read.try_except_is x.body x.at x.filter x.handler) k.names
-    (except_is t t1 t2 t.block w w1 w2 w3 w4 q.asked f.filter vs.body.items ks.handler.items
+    (except_is t t1 t2 t.block w w1 w2 w3 w4 q.answer f.filter vs.body.items ks.handler.items
     c.except_of.result a body x.at (expression x.filter) handler refl q.ensures m f.ensures.filter
     f.ensures.counts f.ensures.faults k c.except_of.ensures) h)
     c.one.ensures
 
-pub guarded-returns-in_ok-last-in-TryFinally : goal.guarded-returns-in_ok-last-in-TryFinally
-guarded-returns-in_ok-last-in-TryFinally _ c =
+pub try_statement-returns-in_ok-finally_block-in-TryFinally :
+    goal.try_statement-returns-in_ok-finally_block-in-TryFinally
+try_statement-returns-in_ok-finally_block-in-TryFinally _ c =
     let x = c.in-TryFinally in
-    let w = c.args.walk.now in
-    let w1 = c.items-in-TryFinally.new.walk in
+    let w = c.args.state.now in
+    let w1 = c.items-in-TryFinally.new.state in
     let w2 = c.next_number.new.self in
-    let w3 = c.items-in-TryFinally-2.new.walk in
+    let w3 = c.items-in-TryFinally-2.new.state in
     let t = c.args.names.now in
     let a = environment c.args.env.now t.around in
     let here = inside a t.block in
     let n = c.in_ok-number-in-TryFinally in
     let vs = c.in_ok-body-in-TryFinally in
-    let ks = c.in_ok-last-in-TryFinally in
+    let ks = c.in_ok-finally_block-in-TryFinally in
     let t1 = c.items-in-TryFinally.new.names in
     let t2 = c.items-in-TryFinally-2.new.names in
     let m = block_in t t1 w w1 vs.body.items c.deref-in-TryFinally.result.now x.body.items
     (environment c.in_body-in-TryFinally.result (t.block ∷ t.around)) (in_body here) (numbering w)
     c.deref-in-TryFinally.ensures.value (c.in_body-in-TryFinally.ensures (t.block ∷ t.around))
     vs.ensures in
-    let k0 = subst (λ (q : SymbolTable). MakesBlock q t2 w2 w3 ks.last.items (resolve_statements
+    let k0 = subst (λ (q : SymbolTable). MakesBlock q t2 w2 w3 ks.finally_block.items
+    (resolve_statements
     (statements (map statement c.deref-in-TryFinally-2.result.now))
-    (environment c.in_last.result (q.block ∷ q.around)) [] (numbering w2))) vs.ensures.names
+    (environment c.in_finally.result (q.block ∷ q.around)) [] (numbering w2))) vs.ensures.names
     ks.ensures in
-    let k = block_in t t2 w2 w3 ks.last.items c.deref-in-TryFinally-2.result.now x.last.items
-    (environment c.in_last.result (t.block ∷ t.around)) (in_last here) (numbering w2)
-    c.deref-in-TryFinally-2.ensures.value (c.in_last.ensures (t.block ∷ t.around)) k0 in
+    let k = block_in t t2 w2 w3 ks.finally_block.items c.deref-in-TryFinally-2.result.now
+    x.finally_block.items
+    (environment c.in_finally.result (t.block ∷ t.around)) (in_finally here) (numbering w2)
+    c.deref-in-TryFinally-2.ensures.value (c.in_finally.ensures (t.block ∷ t.around)) k0 in
     let body = statements (map statement x.body.items) in
-    let last = statements (map statement x.last.items) in
+    let last = statements (map statement x.finally_block.items) in
     IfOk-weaker c.one-in-TryFinally.result _ _
     (λ list h.
     one_is t t2 w w3 c.finally_of.result (map checked.statement list.items) (statement c.args.s.now)
     (trees.TryFinally body x.at last) a (ap statement x.is
-    ∙ read.try_finally_is x.body x.at x.last) k.names
-    (finally_is t t1 t2 t.block w w1 w2 w3 vs.body.items ks.last.items n.number c.finally_of.result
+    ∙ read.try_finally_is x.body x.at x.finally_block) k.names
+    (finally_is t t1 t2 t.block w w1 w2 w3 vs.body.items ks.finally_block.items n.number
+    c.finally_of.result
     a body x.at last m n.ensures.number n.ensures.counts n.ensures.faults k c.finally_of.ensures) h)
     c.one-in-TryFinally.ensures
 
@@ -225,9 +230,9 @@ statements-loop-s-preserved _ c =
     let s = c.loop-s in
     let list = c.args.list.now in
     let t = c.args.names.now in
-    let w = c.args.walk.now in
-    goes c.args.env.now list s.s-index c.s-item.result t s.names c.statement.new.names w s.walk
-    c.statement.new.walk s.made.items c.append.new.self.items c.in_ok-more.more.items
+    let w = c.args.state.now in
+    goes c.args.env.now list s.s-index c.s-item.result t s.names c.statement.new.names w s.state
+    c.statement.new.state s.made.items c.append.new.self.items c.in_ok-more.more.items
     (resolved_from (environment c.args.env.now t.around) list t.block (numbering w))
     c.loop-s-test.true c.s-item.is c.in_ok-append.ensures.items
     c.in_ok-more.ensures s.invariant.0 s.invariant.1
@@ -237,8 +242,8 @@ statements-returns _ c =
     let s = c.loop-s in
     let list = c.args.list.now in
     let t = c.args.names.now in
-    let w = c.args.walk.now in
+    let w = c.args.state.now in
     let a = environment c.args.env.now t.around in
     let past : length list ≤ s.s-index = omega (arith, c.loop-s-test.false) in
-    gone a list s.s-index t s.names w s.walk s.made.items
+    gone a list s.s-index t s.names w s.state s.made.items
     (resolved_from a list t.block (numbering w)) past s.invariant.0 s.invariant.1

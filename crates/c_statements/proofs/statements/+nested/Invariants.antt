@@ -8,5 +8,5 @@ invariant-statements-loop-s l =
     let start = l.initial.names in
     let a = environment l.env start.around in
     (l.names ≡ with_block start l.names.block)
-    × Going a (drop l.s-index l.list) l.names.block l.initial.walk l.walk l.made.items
-    (resolved_from a l.list start.block (numbering l.initial.walk))
+    × Going a (drop l.s-index l.list) l.names.block l.initial.state l.state l.made.items
+    (resolved_from a l.list start.block (numbering l.initial.state))

@@ -11,19 +11,19 @@ use Rattle.image_link.proofs.Nearness.{routines_near}
 use Rattle.image_link.proofs.Images.{has_places, has_names, linked_is}
 use Rattle.image_link.proofs.link.compile_program.Goals as goal
 
-pub image_of-requires-clause-imports : goal.image_of-requires-clause-imports
-image_of-requires-clause-imports c =
+pub image_of_routines-requires-clause-imports : goal.image_of_routines-requires-clause-imports
+image_of_routines-requires-clause-imports c =
     subst AreFew (sym (c.deref.ensures.value ∙ c.in_ok-imports.ensures))
     (services_few (linear_program c.args.program.now))
 
-pub image_of-requires-clause-near : goal.image_of-requires-clause-near
-image_of-requires-clause-near c =
+pub image_of_routines-requires-clause-near : goal.image_of_routines-requires-clause-near
+image_of_routines-requires-clause-near c =
     subst (λ (rs : List RoutineView). AllByRecursion IsRoutineNear rs)
     (sym (c.deref-3.ensures.value ∙ c.in_ok-routines.ensures))
     (routines_near (linear_program c.args.program.now) c.requires)
 
-pub image_of-requires-clause-places : goal.image_of-requires-clause-places
-image_of-requires-clause-places c =
+pub image_of_routines-requires-clause-places : goal.image_of_routines-requires-clause-places
+image_of_routines-requires-clause-places c =
     let p = linear_program c.args.program.now in
     let n = c.len-functions.ensures in
     subst (λ (rs : List RoutineView). HasPlaces rs c.len-functions.result p.main)
@@ -40,8 +40,8 @@ named_is : (p : LinearProgram) (walks : Bool) (fs all : List IrFunction)
 named_is p walks fs all named w e is same =
     same ∙ (λ i. named_if (w i) ((ap (map linear_function) e ∙ is) i))
 
-pub image_of-requires-clause-names : goal.image_of-requires-clause-names
-image_of-requires-clause-names c =
+pub image_of_routines-requires-clause-names : goal.image_of_routines-requires-clause-names
+image_of_routines-requires-clause-names c =
     let p = linear_program c.args.program.now in
     subst (λ (rs : List RoutineView). HasNames rs (map linear_function c.named_if.result.now))
     (sym (c.deref-3.ensures.value ∙ c.in_ok-routines.ensures))

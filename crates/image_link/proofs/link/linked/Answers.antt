@@ -1,6 +1,6 @@
 use Rattle.std.proofs.Common.{◌≡◌, ℕ, ◌+◌, ◌-◌, ◌++◌, List, length, get_or, map, take, sym, ap, subst, ◌∙◌, arith}
 use Rattle.image_link.specs.Text as texts
-use Rattle.image_link.specs.Words.{linear_function, ImportedService, Blocks, ImageContents, CanBeImage, SiteView, first, first_cold, first_routine_at, total, image_of, places_from, parts_of, function_rows, all_part_rows}
+use Rattle.image_link.specs.Words.{linear_function, ImportedService, HandlerBlocks, ImageContents, CanBeImage, SiteView, first, first_cold, first_routine_at, total, image_of_routines, places_from, parts_of, function_rows, all_part_rows}
 use Rattle.std.proofs.lemmas.List.{length-map}
 use Rattle.image_link.proofs.Bounds.{count_small}
 use Rattle.image_link.proofs.Images.{if_ok, there, past, is_site_near, image_is, is_program, no_routine}
@@ -9,7 +9,7 @@ use Rattle.image_link.proofs.link.linked.Goals as goal
 
 -- the addresses that routines refer to, with the blocks as they are defined
 with_blocks : (s : SiteView) (imports : List ImportedService) (text rdata : ℕ)
-    (functions funclets : List ℕ) (b of : Blocks)
+    (functions funclets : List ℕ) (b of : HandlerBlocks)
     → s
     ≡ record {
       imports = imports;
@@ -198,5 +198,5 @@ returns c =
       pdata = c.in_ok-tables.tables.pdata.items;
       names = c.in_ok-names.names.items;
     })
-    (λ (x : ImageContents). x ≡ image_of imports g rs c.args.functions c.args.main named)
+    (λ (x : ImageContents). x ≡ image_of_routines imports g rs c.args.functions c.args.main named)
     c.image_with.result (λ x e. e ∙ same) c.image_with.ensures

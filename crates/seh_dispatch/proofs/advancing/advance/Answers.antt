@@ -1,5 +1,5 @@
 use Rattle.std.proofs.Common.{◌≡◌, sym, ap, subst, ◌∙◌}
-use Rattle.seh_dispatch.specs.Words.{Machine, functions_of, State, state, state_of, step, shown_in, turn, after, left}
+use Rattle.seh_dispatch.specs.Words.{HostedProcessor, functions_of, State, state, state_of, step, shown_in, turn, after, left}
 use Rattle.seh_dispatch.proofs.TurnOutcomes.{left_over}
 use Rattle.seh_dispatch.proofs.QuietTurns.{kept_state, quiet_turn, coherent_after}
 use Rattle.seh_dispatch.proofs.advancing.advance.Goals as goal
@@ -11,7 +11,7 @@ returns-then-step g c =
     let h = c.args.machine.now in
     let m = g.S.CodeSpace.memory c.args.space.now in
     let cpu = c.step.new.cpu in
-    let new : Machine = record h { cpu = cpu } in
+    let new : HostedProcessor = record h { cpu = cpu } in
     let n = g.S.CodeSpace.memory c.step.new.space in
     let quiet = quiet_turn t fs h cpu m n (sym c.if-step.true ∙ c.step.ensures.answer)
     c.step.ensures.cpu c.step.ensures.memory in

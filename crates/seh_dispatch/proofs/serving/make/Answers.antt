@@ -1,6 +1,6 @@
 use Rattle.std.proofs.Common.{ap, ◌∙◌}
 use Rattle.host_model.specs.HostStep.{served}
-use Rattle.seh_dispatch.specs.Words.{Machine, functions_of, state_of}
+use Rattle.seh_dispatch.specs.Words.{HostedProcessor, functions_of, state_of}
 use Rattle.seh_num.specs.declared.end.RunEnd.TheVariants as ends
 use Rattle.seh_dispatch.specs.declared.outcome.TurnOutcome.TheVariants as outcomes
 use Rattle.seh_dispatch.proofs.StepTurns.{fault_turned, service_turned, guard_turned}
@@ -21,7 +21,7 @@ pub returns-in-Host : goal.returns-in-Host
 returns-in-Host g c =
     let t = functions_of c.args.tables.now in
     let n = g.S.CodeSpace.memory c.step.new.space in
-    let new : Machine = record c.args.machine.now { cpu = c.step.new.cpu } in
+    let new : HostedProcessor = record c.args.machine.now { cpu = c.step.new.cpu } in
     c.serve.ensures
     ∙ ap (served t (state_of new n)) c.at.ensures
     ∙ service_turned t c.args.machine.now c.step.new.cpu (g.S.CodeSpace.memory c.args.space.now) n
@@ -30,7 +30,7 @@ returns-in-Host g c =
 pub returns-in-Guard : goal.returns-in-Guard
 returns-in-Guard g c =
     let t = functions_of c.args.tables.now in
-    let new : Machine = record c.args.machine.now { cpu = c.step.new.cpu } in
+    let new : HostedProcessor = record c.args.machine.now { cpu = c.step.new.cpu } in
     all_told_turn t new (g.S.CodeSpace.memory c.step.new.space) c.all_told-in-Guard.result
     (outcomes.Ends (ends.StackLimit c.in-Guard.address)) _ c.all_told-in-Guard.ensures
     (guard_turned t c.args.machine.now (g.S.CodeSpace.memory c.args.space.now) c.in-Guard.address

@@ -17,9 +17,10 @@ pub try_funclets-returns-in_ok-push-in-TryFinally :
     goal.try_funclets-returns-in_ok-push-in-TryFinally
 try_funclets-returns-in_ok-push-in-TryFinally t c =
     let body = tree.statements (map tree.statement c.in-TryFinally.body.items) in
-    let last = tree.statements (map tree.statement c.in-TryFinally.last.items) in
+    let last = tree.statements (map tree.statement c.in-TryFinally.finally_block.items) in
     let is = ap tree.statement c.in-TryFinally.is
-    ∙ trees.try_finally_is c.in-TryFinally.body c.in-TryFinally.number c.in-TryFinally.last in
+    ∙ trees.try_finally_is c.in-TryFinally.body c.in-TryFinally.number
+    c.in-TryFinally.finally_block in
     let scope = c.in_ok-inner-in-TryFinally.ensures in
     on_ok_weaker c.statements_funclets-in-TryFinally-2.result
     (λ h. finally_appended c.args.owner _ c.args.names _ body last c.in-TryFinally.number _ _ _ _

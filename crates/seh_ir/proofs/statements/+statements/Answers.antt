@@ -159,7 +159,8 @@ pub other_statement-returns-in-TryFinally : goal.other_statement-returns-in-TryF
 other_statement-returns-in-TryFinally t c =
     let old = c.args.code.now.items in
     let is = ap tree.statement c.in-TryFinally.is
-    ∙ trees.try_finally_is c.in-TryFinally.body c.in-TryFinally.number c.in-TryFinally.last in
+    ∙ trees.try_finally_is c.in-TryFinally.body c.in-TryFinally.number
+    c.in-TryFinally.finally_block in
     on_ok_weaker c.try_finally.result
     (λ h rest p.
     let made = (rw c.deref-in-TryFinally.ensures.value at h) rest

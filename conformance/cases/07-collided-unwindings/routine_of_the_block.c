@@ -1,0 +1,23 @@
+// The exception may come from a routine that the block calls; its own __finally block runs first.
+// Microsoft x64 ABI, "x64 exception handling", Language-specific handler.
+void thrower(void) {
+  __try {
+    RaiseException(0xE0000002, 0, 0, 0);
+  } __finally {
+    put(2);
+  }
+}
+int main(void) {
+  __try {
+    __try {
+      RaiseException(0xE0000001, 0, 0, 0);
+    } __finally {
+      put(1);
+      thrower();
+      put(11);
+    }
+  } __except (1) {
+    put(GetExceptionCode() == 0xE0000002);
+  }
+  return 0;
+}

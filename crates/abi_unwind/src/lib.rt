@@ -1,0 +1,11 @@
+//! The caller of a frame as Windows' own unwinder finds it (Microsoft x64 ABI, "Unwind procedure"
+//! and "Unwind helpers for MASM").
+//!
+//! It differs from crate virtual_unwind, which follows this project's profile of that procedure: the
+//! epilogue is looked for before the prologue, more ends of epilogues are known, and XMM6 to XMM15
+//! are restored. Begin with `specs/Caller.antt`; `specs/Tail.antt` has the epilogues.
+#![tactic(auto)]
+
+pub mod context;
+pub mod laws;
+pub mod tail;

@@ -1,0 +1,16 @@
+pub mod Instructions
+pub mod Rows
+pub mod PlainRows
+pub mod ModRmRows
+pub mod MoreRows
+pub mod ImmediateRows
+pub mod GroupRows
+pub mod ArithmeticRows
+pub mod GroupOneRows
+pub mod MultiplyRows
+pub mod ShiftRows
+pub mod TwoByteRows
+pub mod EachRow
+pub mod Assembled
+pub mod Within
+pub mod MeasuredLaw

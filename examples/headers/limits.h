@@ -1,0 +1,2 @@
+/* Names of <limits.h>, as far as they are known. */
+#include <winseh.h>

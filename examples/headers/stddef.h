@@ -1,0 +1,2 @@
+/* Names of <stddef.h>, as far as they are known. */
+#include <winseh.h>

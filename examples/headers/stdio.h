@@ -1,0 +1,2 @@
+/* Names of <stdio.h>, as far as they are known. */
+#include <winseh.h>

@@ -1,0 +1,2 @@
+/* Names of <stdlib.h>, as far as they are known. */
+#include <winseh.h>

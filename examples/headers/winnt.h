@@ -1,0 +1,2 @@
+/* Names of <winnt.h>, as far as they are known. */
+#include <winseh.h>
