@@ -5,4 +5,5 @@ pub mod Known
 pub mod Opened
 pub mod RangesHeld
 pub mod Rests
+pub mod Validated
 pub mod ViewsMade

@@ -6,6 +6,7 @@ pub mod Statuses
 pub mod Openings
 pub mod Callers
 pub mod Views
+pub mod Validations
 pub mod Walks
 pub mod Answers
 pub mod Scopes

@@ -6,18 +6,20 @@ ghost use Rattle.seh_c.specs.Callers.{unwound, found_in};
 ghost use Rattle.seh_c.specs.Scopes.{scopes_in, ScopeAnswers};
 ghost use Rattle.seh_c.specs.Shapes as spec;
 ghost use Rattle.seh_c.specs.Statuses.{ok};
+ghost use Rattle.seh_c.specs.Validations.{VerdictAnswers};
 ghost use Rattle.seh_c.specs.Views as views;
 ghost use Rattle.seh_c.specs.Walks.{walked_in};
 
 use crate::c_types::{
-    SehContext, SehFrame, SehFunction, SehRange, SehScope, SehStatus, SehView, c_frame,
-    machine_context,
+    SehContext, SehFrame, SehFunction, SehRange, SehScope, SehStatus, SehVerdict, SehView, c_frame,
+    layout_of, machine_context,
 };
 use crate::finding::find;
 use crate::opening::open_view;
 use crate::refusal::{NO_FUNCTION, OK, status_of};
 use crate::scopes::find_scopes;
 use crate::unwinding::unwind;
+use crate::validating::{c_verdict, validate};
 use crate::walking::walk_image;
 use std::alloc::Global;
 
@@ -138,5 +140,28 @@ pub extern "C" fn seh_scopes(
             *count = 0;
             status_of(refusal)
         }
+    }
+}
+
+/// Whether the code of an image keeps its unwind information. `probe` has the bytes of the stack
+/// probe, `__chkstk`.
+#[tactic(auto, using(crate::proofs::Validated::gives_verdict, crate::proofs::Validated::gives_none))]
+#[unsafe(no_mangle)]
+pub extern "C" fn seh_validate(
+    alloc: Global,
+    bytes: &[u8],
+    mapped: bool,
+    probe: &[u8],
+    verdict: &mut SehVerdict,
+) -> SehStatus
+    ensures { VerdictAnswers (spec.layout_of mapped) bytes.now probe.now verdict.old verdict.new
+        result }
+{
+    match validate(alloc, layout_of(mapped), bytes, probe) {
+        Ok(found) => {
+            *verdict = c_verdict(found);
+            OK
+        }
+        Err(refusal) => status_of(refusal),
     }
 }

@@ -34,11 +34,7 @@ fn find_within(
 
 /// An entry whose range covers an address.
 #[tactic(auto, using(crate::proofs::Opened::gives_then, crate::proofs::Opened::gives_is, crate::proofs::Known::view_known))]
-pub fn find(
-    alloc: Global,
-    view: &SehView<'_>,
-    rva: u32,
-) -> Result<Option<SehFunction>, Refusal>
+pub fn find(alloc: Global, view: &SehView<'_>, rva: u32) -> Result<Option<SehFunction>, Refusal>
     ensures found { IfOk result (λ o. IfSome o (λ f. views.IsFunctionOf view.now rva f)) }
     ensures exact { views.IsViewOf view.now
         → Gives result (spec.found_in (layout view.now) view.now.bytes.now rva) }

@@ -17,4 +17,5 @@ mod refusal;
 mod scopes;
 mod snapshot;
 mod unwinding;
+mod validating;
 mod walking;

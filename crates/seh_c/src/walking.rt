@@ -7,9 +7,7 @@ ghost use Rattle.seh_c.specs.Shapes.{layout};
 ghost use Rattle.seh_c.specs.Views as views;
 ghost use Rattle.seh_c.specs.Walks as spec;
 
-use crate::c_types::{
-    SehFrame, SehRange, SehStatus, SehView, c_frame, index_of, layout_of_view,
-};
+use crate::c_types::{SehFrame, SehRange, SehStatus, SehView, c_frame, index_of, layout_of_view};
 use crate::opening::{open, unchecked_table_of};
 use crate::ranges::check_ranges;
 use crate::refusal::{MORE, OK, Refusal, status_of};
