@@ -182,7 +182,7 @@ static double time_of(bool (*call)(void), int count)
     return least * 1000 / count;
 }
 
-static double deep(int depth)
+__attribute__((noinline)) static double deep(int depth)
 {
     double found = depth ? deep(depth - 1) : time_of(traces, DEPTH);
 
@@ -217,11 +217,12 @@ int main(void)
         times[2][k] = time_of(unwinds, FRAMES);
         times[3][k] = time_of(walks, FRAMES);
     }
-    printf("%d entries, ns                    without an index, with %d numbers\n", FUNCTIONS, NUMBERS);
+    printf("%-40s %8s %8s\n", "10,000 entries; ns", "no index", "1,024");
     print("seh_open", times[0][0], times[0][1]);
     print("seh_find_function", times[1][0], times[1][1]);
     print("seh_unwind", times[2][0], times[2][1]);
     print("seh_walk, a frame", times[3][0], times[3][1]);
-    printf("%-40s %8.0f\n", "_Unwind_Backtrace of libgcc, a frame", deep(DEPTH));
-    return wrong != 0;
+    times[0][0] = deep(DEPTH);
+    printf("%-40s %8.0f\n", "_Unwind_Backtrace of libgcc, a frame", times[0][0]);
+    return wrong != 0 || times[0][0] < 0;
 }

@@ -37,10 +37,21 @@ module _ (t : Tables) (rva : ℕ) where
   found k e row h = record { index = k; row = row; read = sym h }
 
   module _ (m : Memory) (c : Context) where
-    pub then_step : (o : Option Entry) → Ok o ≡ of_table (entry_covering t rva)
+    then_step : (o : Option Entry) → Ok o ≡ of_table (entry_covering t rva)
         → step_by m c rva o ≡ step_at t rva m c
     then_step o h = ap (λ (r : Answer (Option Entry)). r >>= step_by m c rva) h
 
-    pub no_step : (e : Refusal) → Err e ≡ of_table (entry_covering t rva)
+    no_step : (e : Refusal) → Err e ≡ of_table (entry_covering t rva)
         → Err e ≡ step_at t rva m c
     no_step e h = ap (λ (r : Answer (Option Entry)). r >>= step_by m c rva) h
+
+    pub step_none : None ≡ index_from 0 rva t.ranges → step_by m c rva None ≡ step_at t rva m c
+    step_none h = then_step None (none h)
+
+    pub step_one : (k : ℕ) (e : Entry) → Some k ≡ index_from 0 rva t.ranges → Ok e ≡ entry_at t k
+        → step_by m c rva (Some e) ≡ step_at t rva m c
+    step_one k e h r = then_step (Some e) (one k e h r)
+
+    pub step_refused : (k : ℕ) (x : TableErr) → Some k ≡ index_from 0 rva t.ranges
+        → Err x ≡ entry_at t k → Err (refusals.Table x) ≡ step_at t rva m c
+    step_refused k x h r = no_step (refusals.Table x) (refused k x h r)

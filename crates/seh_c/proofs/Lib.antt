@@ -2,6 +2,7 @@ pub mod Asked
 pub mod Coded
 pub mod FramesMore
 pub mod Known
+pub mod ModulesMore
 pub mod Opened
 pub mod RangesHeld
 pub mod Rests

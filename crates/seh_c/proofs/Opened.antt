@@ -1,5 +1,5 @@
 -- What is refused before a call's own work.
-use Rattle.std.proofs.Common.{◌≡◌, ℕ, List, Result, Ok, Err, refl, sym, ap, ◌∙◌}
+use Rattle.std.proofs.Common.{◌≡◌, ℕ, List, Result, Ok, Err, refl, sym, ap, subst, ◌∙◌}
 use Rattle.seh_num.specs.Answers.{◌>>=◌}
 use Rattle.pe_image.specs.Answer.{Refuses}
 use Rattle.pe_image.specs.Image.{Image}
@@ -64,6 +64,11 @@ gives_is (Err (refusals.Unwinding x)) given h = sym h
 pub gives_after : {A B : Type 0} (x : A) (r : Answer A) (f : A → Answer B) (given : Answer B)
     → r ≡ Ok x → given ≡ f x → Gives given (r >>= f)
 gives_after x r f given was is = gives_is given (r >>= f) (is ∙ sym (ap (λ a. a >>= f) was))
+
+-- what comes first passes
+pub gives_passed : {A B : Type 0} (c : Answer B) (x : B) (r given : Answer A) → Ok x ≡ c
+    → Gives r given → Gives r (c >>= λ _. given)
+gives_passed {B = B} c x r given h g = subst (λ (a : Answer B). Gives r (a >>= λ _. given)) h g
 
 -- and nothing is written then
 pub gives_no_walk : {A : Type 0} (e : Refusal) (r : Answer A) (f : A → Answer Walked)

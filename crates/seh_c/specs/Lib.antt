@@ -8,5 +8,6 @@ pub mod Callers
 pub mod Views
 pub mod Validations
 pub mod Walks
+pub mod Modules
 pub mod Answers
 pub mod Scopes

@@ -9,7 +9,7 @@ use Rattle.virtual_unwind.specs.declared.refusal.UnwindErr.TheVariants.{Unreadab
 use Rattle.seh_c.specs.declared.c_types.SehStatus.{SehStatus}
 use Rattle.seh_c.specs.declared.refusal.Refusal.{Refusal}
 use Rattle.seh_c.specs.declared.refusal.Refusal.TheVariants.{Range, NoMemory, Image, Table, Unwinding}
-use Rattle.seh_c.specs.declared.codes.TheConstants.{OK, BAD_RANGES, NO_MEMORY, MORE, NO_FUNCTION, IMAGE_TRUNCATED, IMAGE_NOT_PE, IMAGE_MACHINE, IMAGE_MAGIC, IMAGE_LAYOUT, IMAGE_IMPORT, TABLE_TRUNCATED, TABLE_MISALIGNED, TABLE_EMPTY_RANGE, TABLE_UNSORTED, TABLE_VERSION, TABLE_FLAGS, TABLE_OPERATION, TABLE_CODE_ORDER, TABLE_CHAIN, TABLE_SCOPE, UNREADABLE, BACKWARD}
+use Rattle.seh_c.specs.declared.codes.TheConstants.{OK, BAD_RANGES, NO_MEMORY, MORE, NO_FUNCTION, END, UNKNOWN_CODE, IMAGE_TRUNCATED, IMAGE_NOT_PE, IMAGE_MACHINE, IMAGE_MAGIC, IMAGE_LAYOUT, IMAGE_IMPORT, TABLE_TRUNCATED, TABLE_MISALIGNED, TABLE_EMPTY_RANGE, TABLE_UNSORTED, TABLE_VERSION, TABLE_FLAGS, TABLE_OPERATION, TABLE_CODE_ORDER, TABLE_CHAIN, TABLE_SCOPE, UNREADABLE, BACKWARD}
 
 abbrev pub status : ℕ → ℕ → ℕ → SehStatus
 status code at more = record { code = code; at = at; more = more }
@@ -24,6 +24,18 @@ no_function = status NO_FUNCTION 0 0
 -- the array of frames is full, and RIP still lies in the image
 abbrev pub more : SehStatus
 more = status MORE 0 0
+
+-- memory is wanting
+abbrev pub no_memory : SehStatus
+no_memory = status NO_MEMORY 0 0
+
+-- RIP is 0
+abbrev pub end_of_stack : SehStatus
+end_of_stack = status END 0 0
+
+-- RIP lies in no module
+abbrev pub unknown_code : ℕ → SehStatus
+unknown_code rip = status UNKNOWN_CODE rip 0
 
 abbrev pub image_status : ImageErr → SehStatus
 image_status (images.Truncated at) = status IMAGE_TRUNCATED at 0

@@ -15,6 +15,12 @@ pub const MORE: u32 = 3;
 /// No entry of the function table covers the address.
 pub const NO_FUNCTION: u32 = 4;
 
+/// RIP is 0: the stack ends.
+pub const END: u32 = 5;
+
+/// RIP lies in no module.
+pub const UNKNOWN_CODE: u32 = 6;
+
 /// A header passes the end of the bytes.
 pub const IMAGE_TRUNCATED: u32 = 16;
 

@@ -11,7 +11,7 @@ ghost use Rattle.seh_c.specs.Views as views;
 ghost use Rattle.seh_c.specs.Walks.{walked_in};
 
 use crate::c_types::{
-    SehContext, SehFrame, SehFunction, SehRange, SehScope, SehStatus, SehVerdict, SehView, c_frame,
+    SehContext, SehFrame, SehFunction, SehRange, SehScope, SehStatus, SehView, c_frame,
     layout_of, machine_context,
 };
 use crate::finding::find;

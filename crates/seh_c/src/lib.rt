@@ -11,6 +11,7 @@ mod c_types;
 mod codes;
 mod exports;
 mod finding;
+mod modules;
 mod opening;
 mod ranges;
 mod refusal;

@@ -59,6 +59,20 @@ pub const NO_MEMORY: SehStatus = SehStatus {
     more: 0,
 };
 
+/// RIP is 0.
+pub const END_OF_STACK: SehStatus = SehStatus {
+    code: codes::END,
+    at: 0,
+    more: 0,
+};
+
+/// RIP lies in no module.
+pub fn unknown_code(rip: u64) -> SehStatus
+    ensures { result ≡ spec.unknown_code rip }
+{
+    status(codes::UNKNOWN_CODE, rip, 0)
+}
+
 fn image_status(e: ImageErr) -> SehStatus
     ensures { result ≡ spec.image_status e }
 {

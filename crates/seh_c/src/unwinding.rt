@@ -104,7 +104,7 @@ fn step_by<S: ReadSpace>(
 }
 
 /// A frame of an image that lies at `base`.
-#[tactic(auto, using(crate::proofs::Asked::then_step, crate::proofs::Asked::no_step))]
+#[tactic(auto, using(crate::proofs::Asked::step_none, crate::proofs::Asked::step_one, crate::proofs::Asked::step_refused))]
 pub fn next_step<S: ReadSpace>(
     tables: &Tables<'_, '_>,
     index: &Index<'_>,
@@ -116,9 +116,12 @@ pub fn next_step<S: ReadSpace>(
         → result ≡ spec.step_in tables.now base (S.memory space.now) context.now }
 {
     let rva = context.rip.wrapping_sub(base);
-    match entry_at(tables, index, rva) {
-        Ok(entry) => step_by(space, entry.as_ref(), rva, context),
-        Err(e) => Err(e),
+    let Some(number) = index.covering(tables, rva) else {
+        return step_by(space, None, rva, context);
+    };
+    match tables.entry(number) {
+        Ok(entry) => step_by(space, Some(&entry), rva, context),
+        Err(e) => Err(Refusal::Table(e)),
     }
 }
 
@@ -144,8 +147,26 @@ fn unwind_within(
     }
 }
 
-/// One virtual unwind.
+/// A frame of the image of a view.
 #[tactic(auto, using(crate::proofs::Opened::gives_then, crate::proofs::Opened::gives_is, crate::proofs::Known::view_known))]
+pub fn step_from(
+    alloc: Global,
+    view: &SehView<'_>,
+    ranges: &[SehRange<'_>],
+    context: &Context,
+) -> Result<Step, Refusal>
+    requires { AreInOrder ranges.now }
+    ensures { views.IsViewOf view.now → Gives result (spec.step_from (layout view.now)
+        view.now.bytes.now view.now.base ranges.now context.now) }
+{
+    match open(alloc, layout_of_view(view), view.bytes) {
+        Ok(image) => unwind_within(&image, view, ranges, context),
+        Err(e) => Err(e),
+    }
+}
+
+/// One virtual unwind.
+#[tactic(auto, using(crate::proofs::Opened::gives_then, crate::proofs::Opened::gives_passed))]
 pub fn unwind(
     alloc: Global,
     view: &SehView<'_>,
@@ -155,11 +176,8 @@ pub fn unwind(
     ensures { views.IsViewOf view.now → Gives result (spec.unwound (layout view.now)
         view.now.bytes.now view.now.base ranges.now context.now) }
 {
-    if let Err(e) = check_ranges(ranges) {
-        return Err(e);
-    }
-    match open(alloc, layout_of_view(view), view.bytes) {
-        Ok(image) => unwind_within(&image, view, ranges, context),
+    match check_ranges(ranges) {
+        Ok(()) => step_from(alloc, view, ranges, context),
         Err(e) => Err(e),
     }
 }
