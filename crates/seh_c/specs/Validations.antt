@@ -11,13 +11,13 @@ use Rattle.unwind_check.specs.declared.rule.Rule.{Rule}
 use Rattle.unwind_check.specs.declared.rule.Rule.TheVariants as rules
 use Rattle.unwind_check.specs.declared.rule.Verdict.{Verdict}
 use Rattle.unwind_check.specs.declared.rule.Verdict.TheVariants.{Yes, No}
-use Rattle.seh_c.specs.declared.c_types.SehStatus.{SehStatus}
-use Rattle.seh_c.specs.declared.c_types.SehVerdict.{SehVerdict}
-use Rattle.seh_c.specs.declared.codes.TheConstants.{RULE_NONE, RULE_DECODE, RULE_CHAIN, RULE_CODES, RULE_PROLOGUE, RULE_STACK_WRITE, RULE_UNSAVED, RULE_EPILOGUE}
-use Rattle.seh_c.specs.declared.refusal.Refusal.{Refusal}
-use Rattle.seh_c.specs.declared.refusal.Refusal.TheVariants as refusals
-use Rattle.seh_c.specs.Openings.{Gives, opened_whole}
-use Rattle.seh_c.specs.Statuses.{ok, refusal_status}
+use Rattle.seh_views.specs.declared.c_types.SehStatus.{SehStatus}
+use Rattle.seh_views.specs.declared.c_types.SehVerdict.{SehVerdict}
+use Rattle.seh_views.specs.declared.codes.TheConstants.{RULE_NONE, RULE_DECODE, RULE_CHAIN, RULE_CODES, RULE_PROLOGUE, RULE_STACK_WRITE, RULE_UNSAVED, RULE_EPILOGUE}
+use Rattle.seh_views.specs.declared.refusal.Refusal.{Refusal}
+use Rattle.seh_views.specs.declared.refusal.Refusal.TheVariants as refusals
+use Rattle.seh_views.specs.Openings.{Gives, opened_whole}
+use Rattle.seh_views.specs.Statuses.{ok, refusal_status}
 
 abbrev pub rule_code : Rule → ℕ
 rule_code rules.Decode = RULE_DECODE

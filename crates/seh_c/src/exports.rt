@@ -1,31 +1,33 @@
 //! What C calls. `include/seh.h` says what a caller owes to each call.
 
 ghost use Rattle.std.specs.Prelude.{◌≡◌};
-ghost use Rattle.seh_c.specs.Answers.{Answers, WalkAnswers, FunctionAnswers};
-ghost use Rattle.seh_c.specs.Callers.{unwound, found_in};
-ghost use Rattle.seh_c.specs.Scopes.{scopes_in, ScopeAnswers};
-ghost use Rattle.seh_c.specs.Shapes as spec;
-ghost use Rattle.seh_c.specs.Statuses.{ok};
+ghost use Rattle.seh_c.specs.Answers.{Answers, WalkAnswers, FunctionAnswers, ScopeAnswers};
+ghost use Rattle.seh_views.specs.Callers.{unwound, found_in};
+ghost use Rattle.seh_views.specs.Modules.{AreViews, StackWalked};
+ghost use Rattle.seh_views.specs.Scopes.{scopes_in};
+ghost use Rattle.seh_views.specs.Shapes as spec;
+ghost use Rattle.seh_views.specs.Statuses.{ok};
 ghost use Rattle.seh_c.specs.Validations.{VerdictAnswers};
-ghost use Rattle.seh_c.specs.Views as views;
-ghost use Rattle.seh_c.specs.Walks.{walked_in};
+ghost use Rattle.seh_views.specs.Views as views;
+ghost use Rattle.seh_views.specs.Walks.{walked_in};
 
-use crate::c_types::{
+use crate::validating::{c_verdict, validate};
+use seh_views::c_types::{
     SehContext, SehFrame, SehFunction, SehRange, SehScope, SehStatus, SehVerdict, SehView, c_frame,
     layout_of, machine_context,
 };
-use crate::finding::find;
-use crate::opening::open_view;
-use crate::refusal::{NO_FUNCTION, OK, status_of};
-use crate::scopes::find_scopes;
-use crate::unwinding::unwind;
-use crate::validating::{c_verdict, validate};
-use crate::walking::walk_image;
+use seh_views::finding::find;
+use seh_views::modules::walk_stack;
+use seh_views::opening::open_view;
+use seh_views::refusal::{NO_FUNCTION, OK, status_of};
+use seh_views::scopes::find_scopes;
+use seh_views::unwinding::unwind;
+use seh_views::walking::walk_image;
 use std::alloc::Global;
 
 /// Opens an image that lies at `base`: its headers, its sections, and the order of its function
-/// table, of which it fills an index. The bytes are those of its file, or where `mapped` those of the
-/// memory into which a loader mapped it.
+/// table, of which it fills an index. The bytes are those of its file, or where `mapped` those of
+/// the memory into which a loader mapped it.
 #[unsafe(no_mangle)]
 pub extern "C" fn seh_open<'a>(
     alloc: Global,
@@ -94,6 +96,25 @@ pub extern "C" fn seh_walk(
             status_of(refusal)
         }
     }
+}
+
+/// The frames from a context on, as far as RIP lies in one of the images and `frames` has room.
+#[unsafe(no_mangle)]
+pub extern "C" fn seh_walk_modules(
+    alloc: Global,
+    views: &[SehView<'_>],
+    ranges: &[SehRange<'_>],
+    context: &SehContext,
+    frames: &mut [SehFrame],
+    count: &mut u64,
+) -> SehStatus
+    ensures { AreViews views.now → StackWalked views.now ranges.now
+        (spec.machine_context context.now) frames.old frames.new
+        (record { count = count.new; status = result }) }
+{
+    let walk = walk_stack(alloc, views, ranges, &machine_context(context), frames);
+    *count = walk.count;
+    walk.status
 }
 
 /// The entry of the function table whose range covers an address, relative to the image base.

@@ -1,0 +1,57 @@
+-- The entry that a look-up asks, and the frame by it.
+use Rattle.std.proofs.Common.{◌≡◌, ℕ, Option, Some, None, Ok, Err, sym, ap, ◌∙◌}
+use Rattle.seh_num.specs.Answers.{◌>>=◌}
+use Rattle.flat_memory.specs.Memory.{Memory}
+use Rattle.x64_machine.specs.declared.context.Context.{Context}
+use Rattle.eh_tables.specs.declared.refusal.TableErr.{TableErr}
+use Rattle.eh_tables.specs.Answer.{Table}
+use Rattle.eh_tables.specs.Covering.{index_from, entry_asked, entry_covering}
+use Rattle.eh_tables.specs.Tables.{Entry, Tables, entry_at}
+use Rattle.eh_index.specs.Indexes.{IsRowFor}
+use Rattle.seh_views.specs.declared.refusal.Refusal.{Refusal}
+use Rattle.seh_views.specs.declared.refusal.Refusal.TheVariants as refusals
+use Rattle.seh_views.specs.Callers.{step_by, step_at}
+use Rattle.seh_views.specs.Openings.{Answer, of_table}
+use Rattle.seh_views.specs.Views.{IsFound}
+
+module _ (t : Tables) (rva : ℕ) where
+  abbrev asked : Option ℕ → Answer (Option Entry)
+  asked o = of_table (entry_asked t o)
+
+  abbrev read : Table Entry → Answer (Option Entry)
+  read r = of_table (r >>= λ e. Ok (Some e))
+
+  pub none : None ≡ index_from 0 rva t.ranges → Ok None ≡ of_table (entry_covering t rva)
+  none h = ap asked h
+
+  pub one : (k : ℕ) (e : Entry) → Some k ≡ index_from 0 rva t.ranges → Ok e ≡ entry_at t k
+      → Ok (Some e) ≡ of_table (entry_covering t rva)
+  one k e h r = ap read r ∙ ap asked h
+
+  pub refused : (k : ℕ) (x : TableErr) → Some k ≡ index_from 0 rva t.ranges
+      → Err x ≡ entry_at t k → Err (refusals.Table x) ≡ of_table (entry_covering t rva)
+  refused k x h r = ap read r ∙ ap asked h
+
+  pub found : (k : ℕ) (e : Entry) → IsRowFor rva t.ranges k → Ok e ≡ entry_at t k
+      → IsFound t rva e
+  found k e row h = record { index = k; row = row; read = sym h }
+
+  module _ (m : Memory) (c : Context) where
+    then_step : (o : Option Entry) → Ok o ≡ of_table (entry_covering t rva)
+        → step_by m c rva o ≡ step_at t rva m c
+    then_step o h = ap (λ (r : Answer (Option Entry)). r >>= step_by m c rva) h
+
+    no_step : (e : Refusal) → Err e ≡ of_table (entry_covering t rva)
+        → Err e ≡ step_at t rva m c
+    no_step e h = ap (λ (r : Answer (Option Entry)). r >>= step_by m c rva) h
+
+    pub step_none : None ≡ index_from 0 rva t.ranges → step_by m c rva None ≡ step_at t rva m c
+    step_none h = then_step None (none h)
+
+    pub step_one : (k : ℕ) (e : Entry) → Some k ≡ index_from 0 rva t.ranges → Ok e ≡ entry_at t k
+        → step_by m c rva (Some e) ≡ step_at t rva m c
+    step_one k e h r = then_step (Some e) (one k e h r)
+
+    pub step_refused : (k : ℕ) (x : TableErr) → Some k ≡ index_from 0 rva t.ranges
+        → Err x ≡ entry_at t k → Err (refusals.Table x) ≡ step_at t rva m c
+    step_refused k x h r = no_step (refusals.Table x) (refused k x h r)
