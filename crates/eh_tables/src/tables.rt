@@ -115,8 +115,9 @@ impl<'image, 'bytes> Tables<'image, 'bytes> {
         }
     }
 
-    /// The unwind info of an entry, read alone.
-    pub(crate) fn own_info(&self, index: u64) -> Result<Info<'bytes>, TableErr>
+    /// The unwind info of an entry, read alone: neither the entry's range nor the infos that it is
+    /// chained to are checked. It is refused as by [`Tables::entry`].
+    pub fn own_info(&self, index: u64) -> Result<Info<'bytes>, TableErr>
         requires { index < length self.now.ranges }
         ensures { result ≡ info self.now.image index
             (slice_index_or self.now.ranges index spec.no_range).unwind_info }

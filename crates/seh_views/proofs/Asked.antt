@@ -1,18 +1,18 @@
 -- The entry that a look-up asks, and the frame by it.
-use Rattle.std.proofs.Common.{◌≡◌, ℕ, Option, Some, None, Ok, Err, sym, ap, ◌∙◌}
+use Rattle.std.proofs.Common.{◌≡◌, ℕ, Option, Some, None, Ok, Err, refl, sym, ap, ◌∙◌}
 use Rattle.seh_num.specs.Answers.{◌>>=◌}
 use Rattle.flat_memory.specs.Memory.{Memory}
 use Rattle.x64_machine.specs.declared.context.Context.{Context}
 use Rattle.eh_tables.specs.declared.refusal.TableErr.{TableErr}
 use Rattle.eh_tables.specs.Answer.{Table}
-use Rattle.eh_tables.specs.Covering.{index_from, entry_asked, entry_covering}
+use Rattle.eh_tables.specs.declared.lookup.FunctionEntry.{FunctionEntry}
+use Rattle.eh_tables.specs.Covering.{index_from, entry_asked, entry_covering, unchained}
 use Rattle.eh_tables.specs.Tables.{Entry, Tables, entry_at}
-use Rattle.eh_index.specs.Indexes.{IsRowFor}
 use Rattle.seh_views.specs.declared.refusal.Refusal.{Refusal}
 use Rattle.seh_views.specs.declared.refusal.Refusal.TheVariants as refusals
-use Rattle.seh_views.specs.Callers.{step_by, step_at}
+use Rattle.seh_views.specs.declared.unwinding.Step.{Step}
+use Rattle.seh_views.specs.Callers.{step_by, step_at, step_numbered}
 use Rattle.seh_views.specs.Openings.{Answer, of_table}
-use Rattle.seh_views.specs.Views.{IsFound}
 
 module _ (t : Tables) (rva : ℕ) where
   abbrev asked : Option ℕ → Answer (Option Entry)
@@ -32,10 +32,6 @@ module _ (t : Tables) (rva : ℕ) where
       → Err x ≡ entry_at t k → Err (refusals.Table x) ≡ of_table (entry_covering t rva)
   refused k x h r = ap read r ∙ ap asked h
 
-  pub found : (k : ℕ) (e : Entry) → IsRowFor rva t.ranges k → Ok e ≡ entry_at t k
-      → IsFound t rva e
-  found k e row h = record { index = k; row = row; read = sym h }
-
   module _ (m : Memory) (c : Context) where
     then_step : (o : Option Entry) → Ok o ≡ of_table (entry_covering t rva)
         → step_by m c rva o ≡ step_at t rva m c
@@ -48,10 +44,30 @@ module _ (t : Tables) (rva : ℕ) where
     pub step_none : None ≡ index_from 0 rva t.ranges → step_by m c rva None ≡ step_at t rva m c
     step_none h = then_step None (none h)
 
-    pub step_one : (k : ℕ) (e : Entry) → Some k ≡ index_from 0 rva t.ranges → Ok e ≡ entry_at t k
+    step_one : (k : ℕ) (e : Entry) → Some k ≡ index_from 0 rva t.ranges → Ok e ≡ entry_at t k
         → step_by m c rva (Some e) ≡ step_at t rva m c
     step_one k e h r = then_step (Some e) (one k e h r)
 
-    pub step_refused : (k : ℕ) (x : TableErr) → Some k ≡ index_from 0 rva t.ranges
+    step_refused : (k : ℕ) (x : TableErr) → Some k ≡ index_from 0 rva t.ranges
         → Err x ≡ entry_at t k → Err (refusals.Table x) ≡ step_at t rva m c
     step_refused k x h r = no_step (refusals.Table x) (refused k x h r)
+
+    abbrev by_entry : Table Entry → Answer Step
+    by_entry r = of_table r >>= λ e. step_by m c rva (Some e)
+
+    pub step_some : (k : ℕ) → Some k ≡ index_from 0 rva t.ranges
+        → step_numbered t rva m c k ≡ step_at t rva m c
+    step_some k h = go (entry_at t k) refl
+      where
+        go : (r : Table Entry) → entry_at t k ≡ r → step_numbered t rva m c k ≡ step_at t rva m c
+        go (Ok e) is = ap by_entry is ∙ step_one k e h (sym is)
+        go (Err x) is = ap by_entry is ∙ step_refused k x h (sym is)
+
+    -- by an entry's own info
+    pub lone_step : (k : ℕ) (f : FunctionEntry) → Ok (unchained f) ≡ entry_at t k
+        → step_by m c rva (Some (unchained f)) ≡ step_numbered t rva m c k
+    lone_step k f is = ap by_entry is
+
+    pub lone_refused : (k : ℕ) (x : TableErr) → Err x ≡ entry_at t k
+        → Err (refusals.Table x) ≡ step_numbered t rva m c k
+    lone_refused k x is = ap by_entry is

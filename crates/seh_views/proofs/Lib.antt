@@ -1,4 +1,6 @@
+pub mod Alone
 pub mod Asked
+pub mod Found
 pub mod FramesMore
 pub mod Known
 pub mod ModulesMore

@@ -11,7 +11,7 @@ use Rattle.x64_machine.specs.declared.context.Context.{Context}
 use Rattle.pe_image.specs.declared.image_layout.ImageLayout.{ImageLayout}
 use Rattle.pe_image.specs.Image.{Image}
 use Rattle.eh_tables.specs.Covering.{entry_covering}
-use Rattle.eh_tables.specs.Tables.{Entry, Tables}
+use Rattle.eh_tables.specs.Tables.{Entry, Tables, entry_at}
 use Rattle.virtual_unwind.specs.declared.frame.Caller.{Caller}
 use Rattle.virtual_unwind.specs.CallerOf.{distance, of_entry, rising}
 use Rattle.virtual_unwind.specs.Shown.{shown}
@@ -41,6 +41,12 @@ abbrev pub step_by : Memory → Context → ℕ → Option Entry → Answer Step
 step_by m c rva o = do
   f ← of_unwinding (shown (of_entry m c rva o >>= rising c))
   Ok (step_of o f)
+
+-- by the entry of a number
+abbrev pub step_numbered : Tables → ℕ → Memory → Context → ℕ → Answer Step
+step_numbered t rva m c k = do
+  e ← of_table (entry_at t k)
+  step_by m c rva (Some e)
 
 -- at an address relative to the image base
 abbrev pub step_at : Tables → ℕ → Memory → Context → Answer Step
@@ -72,11 +78,20 @@ unwound layout bytes base ranges c = do
 
 -- ---- the entry of an address
 
+abbrev pub function_numbered : Tables → ℕ → Answer SehFunction
+function_numbered t k = do
+  e ← of_table (entry_at t k)
+  Ok (c_function e)
+
+abbrev pub found_at : Tables → ℕ → Answer (Option SehFunction)
+found_at t rva = do
+  o ← of_table (entry_covering t rva)
+  Ok (option_map c_function o)
+
 abbrev pub found_within : Image → ℕ → Answer (Option SehFunction)
 found_within image rva = do
   t ← table_of image
-  o ← of_table (entry_covering t rva)
-  Ok (option_map c_function o)
+  found_at t rva
 
 abbrev pub found_in : ImageLayout → List ℕ → ℕ → Answer (Option SehFunction)
 found_in layout bytes rva = do

@@ -74,14 +74,17 @@ pub record IsFound (t : Tables) (rva : ℕ) (e : Entry) : Type 0 where
   pub row : IsRowFor rva t.ranges index
   pub read : entry_at t index ≡ Ok e
 
+pub record IsFunctionAt (t : Tables) (rva : ℕ) (f : SehFunction) : Type 0 where
+  pub entry : Entry
+  pub found : IsFound t rva entry
+  pub is : f ≡ c_function entry
+
 -- of the function table of an image
 pub record IsFunctionIn (image : Image) (rva : ℕ) (f : SehFunction) : Type 0 where
   pub tables : Tables
   pub stored : directory image ≡ Ok tables.ranges
   pub of_image : tables.image ≡ image
-  pub entry : Entry
-  pub found : IsFound tables rva entry
-  pub is : f ≡ c_function entry
+  pub function : IsFunctionAt tables rva f
 
 -- of the bytes of a view: what `seh_find_function` writes, whatever the view holds
 pub record IsFunctionOf (v : SehView) (rva : ℕ) (f : SehFunction) : Type 0 where

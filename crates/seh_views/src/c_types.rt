@@ -6,7 +6,7 @@ ghost use Rattle.seh_views.specs.Shapes.{layout};
 
 use crate::unwinding::Step;
 use eh_index::Index;
-use eh_tables::{Entry, ScopeRecord};
+use eh_tables::{Info, RuntimeFunction, ScopeRecord};
 use pe_image::ImageLayout;
 use x64_machine::context::Context;
 
@@ -219,18 +219,18 @@ pub fn c_frame(module_index: u64, step: &Step) -> SehFrame
     }
 }
 
-pub fn c_function(entry: &Entry<'_>) -> SehFunction
-    ensures { result ≡ spec.c_function entry.now }
+/// An entry by its parts.
+pub fn c_function(range: RuntimeFunction, info: &Info<'_>, parents: &[Info<'_>]) -> SehFunction
+    ensures { result ≡ spec.c_function
+        (record { range = range; info = info.now; parents = parents.now }) }
 {
-    let range = entry.range();
-    let info = entry.info();
     let handler = info.handler();
     SehFunction {
         begin: range.begin,
         end: range.end,
         unwind_info: range.unwind_info,
         handler: handler.unwrap_or(0),
-        parents: (entry.parents().len() % 0x1_0000_0000) as u32,
+        parents: (parents.len() % 0x1_0000_0000) as u32,
         prologue_size: info.prologue_size(),
         frame_register: info.frame_register(),
         frame_offset: info.frame_offset(),

@@ -1,6 +1,6 @@
 //! One virtual unwind.
 
-ghost use Rattle.std.specs.Prelude.{◌≡◌, option_map, IfOk, IfSome};
+ghost use Rattle.std.specs.Prelude.{◌≡◌, ◌<◌, length, option_map, IfOk, IfSome};
 ghost use Rattle.eh_index.specs.Ordered.{IsOrdered};
 ghost use Rattle.eh_tables.specs.Covering.{RangesAscend, entry_covering};
 ghost use Rattle.seh_views.specs.Callers as spec;
@@ -10,6 +10,7 @@ ghost use Rattle.seh_views.specs.Shapes.{layout};
 ghost use Rattle.seh_views.specs.Views as views;
 
 use crate::c_types::{SehRange, SehView, index_of, layout_of_view};
+use crate::entries::lone_function;
 use crate::opening::{open, unchecked_table_of};
 use crate::ranges::check_ranges;
 use crate::refusal::Refusal;
@@ -19,7 +20,7 @@ use eh_tables::{Entry, Tables};
 use pe_image::ImageView;
 use std::alloc::Global;
 use virtual_unwind::frame::Caller;
-use virtual_unwind::unwinding::caller_by_entry;
+use virtual_unwind::unwinding::{caller_by_entry, caller_by_function};
 use x64_machine::context::Context;
 use x64_memory::space::ReadSpace;
 
@@ -44,27 +45,6 @@ pub fn checked_entry_at<'bytes>(
     match tables.entry_covering(rva) {
         Ok(entry) => Ok(entry),
         Err(e) => Err(Refusal::Table(e)),
-    }
-}
-
-/// An entry whose range covers an address. In a table whose ranges ascend, by its index, none is
-/// answered where none does.
-#[tactic(auto, using(crate::proofs::Asked::none, crate::proofs::Asked::one, crate::proofs::Asked::refused, crate::proofs::Asked::found))]
-pub fn entry_at<'bytes>(
-    tables: &Tables<'_, 'bytes>,
-    index: &Index<'_>,
-    rva: u64,
-) -> Result<Option<Entry<'bytes>>, Refusal>
-    ensures found { IfOk result (λ o. IfSome o (λ e. views.IsFound tables.now rva e)) }
-    ensures exact { IsOrdered tables.now.ranges index.now
-        → result ≡ of_table (entry_covering tables.now rva) }
-{
-    match index.covering(tables, rva) {
-        None => Ok(None),
-        Some(number) => match tables.entry(number) {
-            Ok(entry) => Ok(Some(entry)),
-            Err(e) => Err(Refusal::Table(e)),
-        },
     }
 }
 
@@ -103,8 +83,52 @@ fn step_by<S: ReadSpace>(
     }
 }
 
+/// The frame of an entry that is read whole.
+fn step_of_entry<S: ReadSpace>(
+    tables: &Tables<'_, '_>,
+    space: &S,
+    number: u64,
+    rva: u64,
+    context: &Context,
+) -> Result<Step, Refusal>
+    requires { number < length tables.now.ranges }
+    ensures { result ≡ spec.step_numbered tables.now rva (S.memory space.now) context.now number }
+{
+    match tables.entry(number) {
+        Ok(entry) => step_by(space, Some(&entry), rva, context),
+        Err(e) => Err(Refusal::Table(e)),
+    }
+}
+
+/// The frame of an entry. Where the entry is chained to none, its own info alone is read.
+#[tactic(auto, using(crate::proofs::Asked::lone_step, crate::proofs::Asked::lone_refused))]
+fn step_of_number<S: ReadSpace>(
+    tables: &Tables<'_, '_>,
+    space: &S,
+    number: u64,
+    rva: u64,
+    context: &Context,
+) -> Result<Step, Refusal>
+    requires { number < length tables.now.ranges }
+    ensures { result ≡ spec.step_numbered tables.now rva (S.memory space.now) context.now number }
+{
+    let function = match lone_function(tables, number) {
+        Ok(Some(function)) => function,
+        Ok(None) => return step_of_entry(tables, space, number, rva, context),
+        Err(e) => return Err(Refusal::Table(e)),
+    };
+    match caller_by_function(space, &function, rva, context) {
+        Ok(caller) => Ok(Step {
+            begin: function.range.begin,
+            end: function.range.end,
+            caller,
+        }),
+        Err(e) => Err(Refusal::Unwinding(e)),
+    }
+}
+
 /// A frame of an image that lies at `base`.
-#[tactic(auto, using(crate::proofs::Asked::step_none, crate::proofs::Asked::step_one, crate::proofs::Asked::step_refused))]
+#[tactic(auto, using(crate::proofs::Asked::step_none, crate::proofs::Asked::step_some))]
 pub fn next_step<S: ReadSpace>(
     tables: &Tables<'_, '_>,
     index: &Index<'_>,
@@ -116,12 +140,9 @@ pub fn next_step<S: ReadSpace>(
         → result ≡ spec.step_in tables.now base (S.memory space.now) context.now }
 {
     let rva = context.rip.wrapping_sub(base);
-    let Some(number) = index.covering(tables, rva) else {
-        return step_by(space, None, rva, context);
-    };
-    match tables.entry(number) {
-        Ok(entry) => step_by(space, Some(&entry), rva, context),
-        Err(e) => Err(Refusal::Table(e)),
+    match index.covering(tables, rva) {
+        None => step_by(space, None, rva, context),
+        Some(number) => step_of_number(tables, space, number, rva, context),
     }
 }
 
