@@ -1,4 +1,3 @@
-pub mod Alone
 pub mod Asked
 pub mod Found
 pub mod FramesMore

@@ -8,10 +8,9 @@ ghost use Rattle.seh_views.specs.Shapes.{layout};
 ghost use Rattle.seh_views.specs.Views as views;
 
 use crate::c_types::{SehFunction, SehView, c_function, index_of, layout_of_view};
-use crate::entries::lone_function;
 use crate::opening::{open, unchecked_table_of};
 use crate::refusal::Refusal;
-use eh_index::Index;
+use eh_index::{Index, lone_function};
 use eh_tables::Tables;
 use pe_image::ImageView;
 use std::alloc::Global;

@@ -9,7 +9,6 @@
 
 pub mod c_types;
 pub mod codes;
-mod entries;
 pub mod finding;
 pub mod modules;
 pub mod opening;
