@@ -9,7 +9,7 @@ use Rattle.seh_views.specs.declared.c_types.SehFunction.{SehFunction}
 use Rattle.seh_views.specs.declared.c_types.SehScope.{SehScope}
 use Rattle.seh_views.specs.declared.c_types.SehStatus.{SehStatus}
 use Rattle.seh_views.specs.declared.refusal.Refusal.TheVariants as refusals
-use Rattle.seh_views.specs.declared.unwinding.Step.{Step}
+use Rattle.seh_views.specs.declared.step.Step.{Step}
 use Rattle.seh_views.specs.Openings.{Answer}
 use Rattle.seh_views.specs.Scopes.{Filled}
 use Rattle.seh_views.specs.Shapes.{c_frame}

@@ -65,7 +65,7 @@ pub record GivesNone (layout : ImageLayout) (bytes : List ℕ) (old new : SehVer
   pub status : given ≡ refusal_status refusal
   pub kept : new ≡ old
 
--- what `seh_validate` returns and writes: the verdict, by `IsImageVerdict` on the image that the
+-- what `seh_check` returns and writes: the verdict, by `IsImageVerdict` on the image that the
 -- bytes are read as (`IsValidated`), or why there is none, with nothing written (`IsUnvalidated`)
 abbrev pub VerdictAnswers : ImageLayout → List ℕ → List ℕ → SehVerdict → SehVerdict → SehStatus
     → Type 0

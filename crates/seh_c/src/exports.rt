@@ -14,7 +14,7 @@ ghost use Rattle.seh_views.specs.Walks.{walked_in};
 use crate::validating::{c_verdict, validate};
 use seh_views::c_types::{
     SehContext, SehFrame, SehFunction, SehRange, SehScope, SehStatus, SehVerdict, SehView, c_frame,
-    layout_of, machine_context,
+    layout_of_view,
 };
 use seh_views::finding::find;
 use seh_views::modules::walk_stack;
@@ -58,11 +58,11 @@ pub extern "C" fn seh_unwind(
     frame: &mut SehFrame,
 ) -> SehStatus
     ensures { views.IsViewOf view.now → Answers
-        (unwound (spec.layout view.now) view.now.bytes.now view.now.base ranges.now
-        (spec.machine_context context.now))
+        (unwound (spec.is_own view.now) (spec.layout view.now) view.now.bytes.now view.now.base ranges.now
+        context.now)
         frame.old frame.new result }
 {
-    match unwind(alloc, view, ranges, &machine_context(context)) {
+    match unwind(alloc, view, ranges, context) {
         Ok(step) => {
             *frame = c_frame(0, &step);
             OK
@@ -82,11 +82,11 @@ pub extern "C" fn seh_walk(
     count: &mut u64,
 ) -> SehStatus
     ensures { views.IsViewOf view.now → WalkAnswers
-        (walked_in (spec.layout view.now) view.now.bytes.now view.now.base ranges.now
-        (spec.machine_context context.now) frames.old)
+        (walked_in (spec.is_own view.now) (spec.layout view.now) view.now.bytes.now view.now.base ranges.now
+        context.now frames.old)
         frames.old frames.new count.new result }
 {
-    match walk_image(alloc, view, ranges, &machine_context(context), frames) {
+    match walk_image(alloc, view, ranges, context, frames) {
         Ok(walk) => {
             *count = walk.count;
             walk.status
@@ -109,10 +109,10 @@ pub extern "C" fn seh_walk_modules(
     count: &mut u64,
 ) -> SehStatus
     ensures { AreViews views.now → StackWalked views.now ranges.now
-        (spec.machine_context context.now) frames.old frames.new
+        context.now frames.old frames.new
         (record { count = count.new; status = result }) }
 {
-    let walk = walk_stack(alloc, views, ranges, &machine_context(context), frames);
+    let walk = walk_stack(alloc, views, ranges, context, frames);
     *count = walk.count;
     walk.status
 }
@@ -168,17 +168,16 @@ pub extern "C" fn seh_scopes(
 /// probe, `__chkstk`.
 #[tactic(auto, using(crate::proofs::Validated::gives_verdict, crate::proofs::Validated::gives_none))]
 #[unsafe(no_mangle)]
-pub extern "C" fn seh_validate(
+pub extern "C" fn seh_check(
     alloc: Global,
-    bytes: &[u8],
-    mapped: bool,
+    view: &SehView<'_>,
     probe: &[u8],
     verdict: &mut SehVerdict,
 ) -> SehStatus
-    ensures { VerdictAnswers (spec.layout_of mapped) bytes.now probe.now verdict.old verdict.new
-        result }
+    ensures { VerdictAnswers (spec.layout view.now) view.now.bytes.now probe.now verdict.old
+        verdict.new result }
 {
-    match validate(alloc, layout_of(mapped), bytes, probe) {
+    match validate(alloc, layout_of_view(view), view.bytes, probe) {
         Ok(found) => {
             *verdict = c_verdict(found);
             OK

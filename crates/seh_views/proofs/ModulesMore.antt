@@ -1,14 +1,14 @@
 -- One frame of a walk through modules.
 use Rattle.std.proofs.Common.{◌≡◌, ℕ, zero, suc, ◌+◌, ◌-◌, ◌<◌, ◌≤◌, Bool, true, false, List, [], ◌∷◌, length, drop, get_or, Option, Some, None, Ok, Err, refl, sym, ap, subst, ◌∙◌, inl, inr, arith, set}
 use Rattle.std.proofs.lemmas.List.{drop_all}
-use Rattle.x64_machine.specs.declared.context.Context.{Context}
+use Rattle.seh_views.specs.declared.c_types.SehContext.{SehContext}
 use Rattle.seh_views.specs.declared.c_types.SehFrame.{SehFrame}
 use Rattle.seh_views.specs.declared.c_types.SehRange.{SehRange}
 use Rattle.seh_views.specs.declared.c_types.SehStatus.{SehStatus}
 use Rattle.seh_views.specs.declared.c_types.SehView.{SehView}
 use Rattle.seh_views.specs.declared.refusal.Refusal.{Refusal}
 use Rattle.seh_views.specs.declared.refusal.Refusal.TheVariants as refusals
-use Rattle.seh_views.specs.declared.unwinding.Step.{Step}
+use Rattle.seh_views.specs.declared.step.Step.{Step}
 use Rattle.seh_views.specs.declared.walking.Walk.{Walk}
 use Rattle.seh_views.specs.Modules.{AreViews, has_code, first_has, first_from, index_or, module_of, module_step, first_step, outside, end_in, with_step, by_module, modules_from, walk_modules, Unfinished, ModulesWalked}
 use Rattle.seh_views.specs.Openings.{Answer, Gives}
@@ -25,13 +25,13 @@ has_at rip m [] d lt = absurd (omega arith)
 has_at rip zero (v ∷ vs) d lt = refl
 has_at rip (suc m) (v ∷ vs) d lt = has_at rip m vs d (omega arith)
 
-step_at : (ranges : List SehRange) (c : Context) (m : ℕ) (vs : List SehView) (d : SehView)
+step_at : (ranges : List SehRange) (c : SehContext) (m : ℕ) (vs : List SehView) (d : SehView)
     → m < length vs → first_step ranges c (drop m vs) ≡ module_step ranges c (get_or vs m d)
 step_at ranges c m [] d lt = absurd (omega arith)
 step_at ranges c zero (v ∷ vs) d lt = refl
 step_at ranges c (suc m) (v ∷ vs) d lt = step_at ranges c m vs d (omega arith)
 
-pub step_gives : (ranges : List SehRange) (c : Context) (m : ℕ) (vs : List SehView) (d : SehView)
+pub step_gives : (ranges : List SehRange) (c : SehContext) (m : ℕ) (vs : List SehView) (d : SehView)
     (r : Answer Step) → m < length vs → AreViews vs
     → (IsViewOf (get_or vs m d) → Gives r (module_step ranges c (get_or vs m d)))
     → Gives r (first_step ranges c (drop m vs))
@@ -53,7 +53,7 @@ module _ (vs : List SehView) (last rip : ℕ) where
 
 -- ---- the frames
 
-module _ (vs : List SehView) (ranges : List SehRange) (k last : ℕ) (c : Context)
+module _ (vs : List SehView) (ranges : List SehRange) (k last : ℕ) (c : SehContext)
     (fs : List SehFrame) where
   abbrev from : ℕ → Walked
   from n = modules_from vs ranges n k last c fs
@@ -81,14 +81,14 @@ module _ (vs : List SehView) (ranges : List SehRange) (k last : ℕ) (c : Contex
         ∙ ap (frame_by j m) is
 
     pub frame_more : (s : Step) → first_step ranges c (drop m vs) ≡ Ok s
-        → modules_from vs ranges j (k + 1) m s.caller.context (set fs k (c_frame m s)) ≡ from n
+        → modules_from vs ranges j (k + 1) m s.caller (set fs k (c_frame m s)) ≡ from n
     frame_more s is = sym (one (Ok s) is)
 
     refused_more : (x : Refusal) → first_step ranges c (drop m vs) ≡ Err x
         → ended fs k (refusal_status x) ≡ from n
     refused_more x is = sym (one (Err x) is)
 
-    by_status : (x : Refusal) (c0 : Context) (old : List SehFrame) (w : Walk)
+    by_status : (x : Refusal) (c0 : SehContext) (old : List SehFrame) (w : Walk)
         → first_step ranges c (drop m vs) ≡ Err x → w.count ≡ k → w.status ≡ refusal_status x
         → from n ≡ walk_modules vs ranges c0 old
         → walked_of fs w ≡ walk_modules vs ranges c0 old
@@ -97,7 +97,7 @@ module _ (vs : List SehView) (ranges : List SehRange) (k last : ℕ) (c : Contex
         ∙ refused_more x is ∙ whole
 
     -- a frame that is refused, or for which memory is wanting
-    pub ends : (x : Refusal) (c0 : Context) (old : List SehFrame) (w : Walk)
+    pub ends : (x : Refusal) (c0 : SehContext) (old : List SehFrame) (w : Walk)
         → Gives (Err x) (first_step ranges c (drop m vs)) → w.count ≡ k
         → w.status ≡ refusal_status x → n ≡ length old - k
         → from n ≡ walk_modules vs ranges c0 old → ModulesWalked vs ranges c0 old fs w

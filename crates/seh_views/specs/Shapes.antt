@@ -1,6 +1,8 @@
 -- What crosses to C, and what it stands for.
-use Rattle.std.specs.Prelude.{ℕ, ◌==◌, not, ◌%◌, ◌^◌, length, Bool, true, false, is_some, Option, Some, None, [], ◌∷◌, slice_index}
+use Rattle.std.specs.Prelude.{ℕ, ◌==◌, not, ◌%◌, ◌^◌, length, Bool, true, false, is_some, Option, Some, None, List, [], ◌∷◌, slice_index}
 use Rattle.x64_machine.specs.declared.context.Context.{Context}
+use Rattle.abi_unwind.specs.declared.context.AbiContext.{AbiContext}
+use Rattle.seh_views.specs.declared.c_types.TheConstants.{PROFILE_OWN}
 use Rattle.eh_index.specs.declared.lookup.Index.{Index}
 use Rattle.eh_tables.specs.Tables.{Entry}
 use Rattle.seh_views.specs.declared.c_types.SehContext.{SehContext}
@@ -11,7 +13,7 @@ use Rattle.eh_tables.specs.declared.scope.ScopeRecord.{ScopeRecord}
 use Rattle.pe_image.specs.declared.image_layout.ImageLayout.{ImageLayout}
 use Rattle.pe_image.specs.declared.image_layout.ImageLayout.TheVariants.{File, Mapped}
 use Rattle.seh_views.specs.declared.c_types.SehFrame.{SehFrame}
-use Rattle.seh_views.specs.declared.unwinding.Step.{Step}
+use Rattle.seh_views.specs.declared.step.Step.{Step}
 
 -- whether a loader mapped the image
 abbrev pub layout_of : Bool → ImageLayout
@@ -21,6 +23,10 @@ layout_of false = File
 -- of the bytes of a view
 abbrev pub layout : SehView → ImageLayout
 layout v = layout_of (not (v.mapped == 0))
+
+-- whether frames of a view are found by the project's own profile
+abbrev pub is_own : SehView → Bool
+is_own v = v.options % 2 == PROFILE_OWN
 
 abbrev pub index_of : SehView → Index
 index_of v = record { first = v.index; shift = v.shift }
@@ -32,8 +38,11 @@ machine_context c =
       kept = c.rsp ∷ c.rbx ∷ c.rbp ∷ c.rsi ∷ c.rdi ∷ c.r12 ∷ c.r13 ∷ c.r14 ∷ c.r15 ∷ [];
     }
 
-abbrev pub c_context : Context → SehContext
-c_context c =
+abbrev pub abi_context : SehContext → AbiContext
+abi_context c = record { general = machine_context c; vectors = c.vectors }
+
+abbrev pub c_context : Context → List ℕ → ℕ → SehContext
+c_context c vectors has_vectors =
     record {
       rip = c.rip;
       rsp = slice_index c.kept 0;
@@ -45,6 +54,8 @@ c_context c =
       r13 = slice_index c.kept 6;
       r14 = slice_index c.kept 7;
       r15 = slice_index c.kept 8;
+      vectors = vectors;
+      has_vectors = has_vectors;
     }
 
 abbrev pub or_zero : Option ℕ → ℕ
@@ -54,14 +65,14 @@ or_zero (Some n) = n
 abbrev pub c_frame : ℕ → Step → SehFrame
 c_frame index s =
     record {
-      caller = c_context s.caller.context;
-      establisher = s.caller.frame;
+      caller = s.caller;
+      establisher = s.establisher;
       module_index = index;
       begin = s.begin;
       end = s.end;
-      handler = or_zero s.caller.handler;
-      has_handler = is_some s.caller.handler;
-      in_body = s.caller.in_body;
+      handler = or_zero s.handler;
+      has_handler = is_some s.handler;
+      in_body = s.in_body;
     }
 
 abbrev pub c_function : Entry → SehFunction

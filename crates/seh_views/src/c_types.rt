@@ -4,7 +4,8 @@ ghost use Rattle.std.specs.Prelude.{◌≡◌};
 ghost use Rattle.seh_views.specs.Shapes as spec;
 ghost use Rattle.seh_views.specs.Shapes.{layout};
 
-use crate::unwinding::Step;
+use crate::step::Step;
+use abi_unwind::context::{AbiContext, NONVOLATILE_VECTORS};
 use eh_index::Index;
 use eh_tables::{Info, RuntimeFunction, ScopeRecord};
 use pe_image::ImageLayout;
@@ -33,7 +34,12 @@ pub struct SehView<'a> {
     pub shift: u32,
     /// Not 0: the bytes are memory into which a loader mapped it; else its file.
     pub mapped: u32,
+    /// Of the sum of `PROFILE_OWN` and others.
+    pub options: u32,
 }
+
+/// Frames are found by the project's own profile of the unwind procedure, and not as Windows does.
+pub const PROFILE_OWN: u32 = 1;
 
 /// Bytes of memory from an address on.
 #[repr(C)]
@@ -45,7 +51,7 @@ pub struct SehRange<'a> {
     pub bytes: &'a [u8],
 }
 
-/// The registers that a caller can rely on.
+/// The registers that a caller can rely on (Microsoft x64 ABI, "Caller/callee saved registers").
 #[repr(C)]
 #[derive(Clone, Copy, Debug, PartialEq, Eq)]
 pub struct SehContext {
@@ -59,6 +65,10 @@ pub struct SehContext {
     pub r13: u64,
     pub r14: u64,
     pub r15: u64,
+    /// XMM6 to XMM15.
+    pub vectors: [u128; NONVOLATILE_VECTORS],
+    /// Not 0: the vector registers count; else they hold no more than what was passed.
+    pub has_vectors: u32,
 }
 
 /// A frame, and its caller's registers.
@@ -79,7 +89,7 @@ pub struct SehFrame {
     pub handler: u32,
     /// Whether there is one, which may then be asked.
     pub has_handler: bool,
-    /// Whether RIP is in the body of an entry.
+    /// By the project's own profile, whether RIP is in the body of an entry.
     pub in_body: bool,
 }
 
@@ -155,6 +165,13 @@ pub fn layout_of_view(view: &SehView<'_>) -> ImageLayout
     layout_of(view.mapped != 0)
 }
 
+/// Whether frames of a view are found by the project's own profile.
+pub fn is_own(view: &SehView<'_>) -> bool
+    ensures { result ≡ spec.is_own view.now }
+{
+    view.options % 2 == PROFILE_OWN
+}
+
 /// The index of a view.
 pub fn index_of<'a>(view: &SehView<'a>) -> Index<'a>
     ensures { result ≡ spec.index_of view.now }
@@ -165,6 +182,7 @@ pub fn index_of<'a>(view: &SehView<'a>) -> Index<'a>
     }
 }
 
+/// Registers of C, but for the vector registers.
 pub fn machine_context(context: &SehContext) -> Context
     ensures { result ≡ spec.machine_context context.now }
 {
@@ -184,8 +202,23 @@ pub fn machine_context(context: &SehContext) -> Context
     }
 }
 
-fn c_context(context: &Context) -> SehContext
-    ensures { result ≡ spec.c_context context.now }
+/// The same with the vector registers.
+pub fn abi_context(context: &SehContext) -> AbiContext
+    ensures { result ≡ spec.abi_context context.now }
+{
+    AbiContext {
+        general: machine_context(context),
+        vectors: context.vectors,
+    }
+}
+
+/// Registers, as C sees them.
+pub fn c_context(
+    context: &Context,
+    vectors: [u128; NONVOLATILE_VECTORS],
+    has_vectors: u32,
+) -> SehContext
+    ensures { result ≡ spec.c_context context.now vectors has_vectors }
 {
     let kept = &context.kept;
     SehContext {
@@ -199,6 +232,8 @@ fn c_context(context: &Context) -> SehContext
         r13: kept[6],
         r14: kept[7],
         r15: kept[8],
+        vectors,
+        has_vectors,
     }
 }
 
@@ -206,16 +241,15 @@ fn c_context(context: &Context) -> SehContext
 pub fn c_frame(module_index: u64, step: &Step) -> SehFrame
     ensures { result ≡ spec.c_frame module_index step.now }
 {
-    let caller = &step.caller;
     SehFrame {
-        caller: c_context(&caller.context),
-        establisher: caller.frame,
+        caller: step.caller,
+        establisher: step.establisher,
         module_index,
         begin: step.begin,
         end: step.end,
-        handler: caller.handler.unwrap_or(0),
-        has_handler: caller.handler.is_some(),
-        in_body: caller.in_body,
+        handler: step.handler.unwrap_or(0),
+        has_handler: step.handler.is_some(),
+        in_body: step.in_body,
     }
 }
 

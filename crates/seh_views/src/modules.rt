@@ -5,13 +5,13 @@ ghost use Rattle.seh_views.specs.Modules as spec;
 ghost use Rattle.seh_views.specs.Openings.{Gives};
 ghost use Rattle.seh_views.specs.Ranges.{AreInOrder};
 
-use crate::c_types::{SehFrame, SehRange, SehStatus, SehView, c_frame};
+use crate::c_types::{SehContext, SehFrame, SehRange, SehStatus, SehView, c_frame};
 use crate::ranges::check_ranges;
 use crate::refusal::{END_OF_STACK, MORE, Refusal, status_of, unknown_code};
-use crate::unwinding::{Step, step_from};
+use crate::step::Step;
+use crate::unwinding::rising_from;
 use crate::walking::Walk;
 use std::alloc::Global;
-use x64_machine::context::Context;
 
 fn has_code(rip: u64, view: &SehView<'_>) -> bool
     ensures { result ≡ spec.has_code rip view.now }
@@ -74,14 +74,14 @@ fn module_step(
     views: &[SehView<'_>],
     number: usize,
     ranges: &[SehRange<'_>],
-    context: &Context,
+    context: &SehContext,
 ) -> Result<Step, Refusal>
     requires order { AreInOrder ranges.now }
     requires within { number < length views.now }
     ensures { spec.AreViews views.now → Gives result
         (spec.first_step ranges.now context.now (drop number views.now)) }
 {
-    step_from(alloc, &views[number], ranges, context)
+    rising_from(alloc, &views[number], ranges, context)
 }
 
 /// Writes the frames from a context on, as far as RIP lies in a module and there is room.
@@ -89,7 +89,7 @@ fn walk_modules(
     alloc: Global,
     views: &[SehView<'_>],
     ranges: &[SehRange<'_>],
-    context: &Context,
+    context: &SehContext,
     frames: &mut [SehFrame],
 ) -> Walk
     requires { AreInOrder ranges.now }
@@ -109,7 +109,7 @@ fn walk_modules(
         match module_step(alloc, views, number, ranges, &here) {
             Ok(found) => {
                 frames[k] = c_frame(number as u64, &found);
-                here = found.caller.context;
+                here = found.caller;
                 last = number;
             }
             Err(e) => {
@@ -131,7 +131,7 @@ pub fn walk_stack(
     alloc: Global,
     views: &[SehView<'_>],
     ranges: &[SehRange<'_>],
-    context: &Context,
+    context: &SehContext,
     frames: &mut [SehFrame],
 ) -> Walk
     ensures { spec.AreViews views.now → spec.StackWalked views.now ranges.now context.now

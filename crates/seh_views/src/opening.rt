@@ -138,6 +138,7 @@ fn view_of<'a>(
         functions: tables.len(),
         shift,
         mapped: form_of(mapped),
+        options: 0,
     })
 }
 

@@ -1,14 +1,15 @@
 //! The scope records of an entry that hold an address.
 
 ghost use Rattle.std.specs.Prelude.{◌≡◌};
+ghost use Rattle.eh_tables.specs.Covering.{RangesAscend, entry_covering};
+ghost use Rattle.seh_views.specs.Openings.{of_table};
 ghost use Rattle.seh_views.specs.Scopes as spec;
 ghost use Rattle.seh_views.specs.Shapes.{layout};
 
 use crate::c_types::{SehScope, SehStatus, SehView, c_scope, layout_of_view};
 use crate::opening::{open_with_imports, table_of};
 use crate::refusal::{MORE, NO_FUNCTION, OK, Refusal};
-use crate::unwinding::checked_entry_at;
-use eh_tables::{ScopeRecord, Scopes};
+use eh_tables::{Entry, ScopeRecord, Scopes, Tables};
 use pe_image::ImageView;
 use std::alloc::Global;
 
@@ -45,6 +46,20 @@ fn fill(records: Scopes<'_>, rva: u32, scopes: &mut [SehScope]) -> Filled
     Filled {
         count: count as u64,
         status: OK,
+    }
+}
+
+/// The entry whose range covers an address, in a table whose ranges ascend.
+fn checked_entry_at<'bytes>(
+    tables: &Tables<'_, 'bytes>,
+    rva: u64,
+) -> Result<Option<Entry<'bytes>>, Refusal>
+    requires { RangesAscend tables.now.ranges }
+    ensures { result ≡ of_table (entry_covering tables.now rva) }
+{
+    match tables.entry_covering(rva) {
+        Ok(entry) => Ok(entry),
+        Err(e) => Err(Refusal::Table(e)),
     }
 }
 

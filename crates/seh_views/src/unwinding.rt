@@ -2,6 +2,7 @@
 
 ghost use Rattle.std.specs.Prelude.{◌≡◌};
 ghost use Rattle.eh_index.specs.Ordered.{IsOrdered};
+ghost use Rattle.seh_num.specs.Answers as answers;
 ghost use Rattle.seh_views.specs.Callers as spec;
 ghost use Rattle.seh_views.specs.Openings.{Gives};
 ghost use Rattle.seh_views.specs.Ranges.{AreInOrder};
@@ -18,7 +19,7 @@ use crate::step::{Step, abi_answer, leaf_answer};
 use abi_unwind::each::abi_caller_numbered;
 use abi_unwind::unwinding::leaf;
 use eh_index::Index;
-use eh_tables::{ScopeRecord, Tables};
+use eh_tables::Tables;
 use pe_image::ImageView;
 use std::alloc::Global;
 use virtual_unwind::UnwindErr;
@@ -67,13 +68,32 @@ pub fn next_step<S: ReadSpace>(
 }
 
 /// A frame in a walk, which goes up the stack.
-pub fn rising(context: &SehContext, step: Step) -> Result<Step, Refusal>
+fn rising(context: &SehContext, step: Step) -> Result<Step, Refusal>
     ensures { result ≡ spec.risen context.now step }
 {
     if context.rsp < step.caller.rsp {
         Ok(step)
     } else {
         Err(Refusal::Unwinding(UnwindErr::Backward { rsp: context.rsp }))
+    }
+}
+
+/// A frame in a walk.
+pub fn rising_step<S: ReadSpace>(
+    own: bool,
+    tables: &Tables<'_, '_>,
+    index: &Index<'_>,
+    base: u64,
+    space: &S,
+    context: &SehContext,
+) -> Result<Step, Refusal>
+    ensures { IsOrdered tables.now.ranges index.now → result ≡ (answers.◌>>=◌
+        (spec.step_in own tables.now base (S.memory space.now) context.now)
+        (spec.risen context.now)) }
+{
+    match next_step(own, tables, index, base, space, context) {
+        Ok(step) => rising(context, step),
+        Err(e) => Err(e),
     }
 }
 
@@ -102,7 +122,7 @@ fn unwind_within(
 
 /// A frame of the image of a view.
 #[tactic(auto, using(crate::proofs::Opened::gives_then, crate::proofs::Opened::gives_is, crate::proofs::Known::view_known))]
-pub fn step_from(
+fn step_from(
     alloc: Global,
     view: &SehView<'_>,
     ranges: &[SehRange<'_>],
@@ -114,6 +134,25 @@ pub fn step_from(
 {
     match open(alloc, layout_of_view(view), view.bytes) {
         Ok(image) => unwind_within(&image, view, ranges, context),
+        Err(e) => Err(e),
+    }
+}
+
+/// The same in a walk.
+#[tactic(auto, using(crate::proofs::Opened::gives_then, crate::proofs::Opened::gives_after))]
+pub fn rising_from(
+    alloc: Global,
+    view: &SehView<'_>,
+    ranges: &[SehRange<'_>],
+    context: &SehContext,
+) -> Result<Step, Refusal>
+    requires { AreInOrder ranges.now }
+    ensures { views.IsViewOf view.now → Gives result (answers.◌>>=◌ (spec.step_from
+        (is_own view.now) (layout view.now) view.now.bytes.now view.now.base ranges.now context.now)
+        (spec.risen context.now)) }
+{
+    match step_from(alloc, view, ranges, context) {
+        Ok(step) => rising(context, step),
         Err(e) => Err(e),
     }
 }

@@ -38,7 +38,7 @@ loop-k-preserved c =
     record {
       room = search rules;
       rest = λ up. ap (λ (f : SehFrame). modules_from vs rs j (l.k + 1) m
-          c.in-Ok.found.caller.context (set l.frames l.k f)) c.c_frame.ensures
+          c.in-Ok.found.caller (set l.frames l.k f)) c.c_frame.ensures
           ∙ frame_more vs rs l.k l.last l.here l.frames n j m (omega arith)
           c.in-Some.ensures.value c.in-Ok.found (c.in-Ok.ensures up)
           ∙ l.invariant.rest up;

@@ -10,6 +10,6 @@ invariant-loop-k g l =
     record {
       room : length l.frames ≡ length l.fn.frames;
       rest : IsOrdered t.ranges l.index
-          → walk_from t l.base m l.size (length l.fn.frames - l.k) l.k l.here l.frames
-          ≡ walk t l.base m l.size l.context l.fn.frames;
+          → walk_from l.own t l.base m l.size (length l.fn.frames - l.k) l.k l.here l.frames
+          ≡ walk l.own t l.base m l.size l.context l.fn.frames;
     }
