@@ -51,10 +51,7 @@
 #include <stdint.h>
 
 #ifdef __cplusplus
-#define SEH_ALIGNED(bytes) alignas(bytes)
 extern "C" {
-#else
-#define SEH_ALIGNED(bytes) _Alignas(bytes)
 #endif
 
 /* The version of what is declared here. It grows where a declaration changes. */
@@ -119,8 +116,7 @@ typedef struct seh_range {
 
 /* A vector register of sixteen bytes, the low eight first. */
 typedef struct seh_vector {
-    SEH_ALIGNED(16) uint64_t low;
-    uint64_t high;
+    uint64_t low, high;
 } seh_vector;
 
 /* RIP, RSP, the other nonvolatile integer registers, and XMM6 to XMM15 (Microsoft x64 ABI,

@@ -31,7 +31,7 @@ use Rattle.seh_views.specs.declared.refusal.Refusal.TheVariants as refusals
 use Rattle.seh_views.specs.declared.step.Step.{Step}
 use Rattle.seh_views.specs.Openings.{Answer, of_table, of_unwinding, opened, table_of}
 use Rattle.seh_views.specs.Ranges.{ranges_checked}
-use Rattle.seh_views.specs.Shapes.{abi_context, c_context, c_function, machine_context}
+use Rattle.seh_views.specs.Shapes.{abi_context, c_context, c_function, halves, machine_context}
 use Rattle.seh_views.specs.Snapshot.{snapshot}
 
 -- ---- one virtual unwind by the project's own profile, `caller_of`
@@ -87,7 +87,7 @@ abi_step r c f =
       establisher = f.frame;
       handler = handler_rva f.handler;
       in_body = false;
-      caller = c_context f.context.general f.context.vectors c.has_vectors;
+      caller = c_context f.context.general (halves f.context.vectors) c.has_vectors;
     }
 
 abbrev pub abi_answer : RuntimeFunction → SehContext → Result AbiCaller EntryErr → Answer Step

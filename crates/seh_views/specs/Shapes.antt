@@ -1,5 +1,5 @@
 -- What crosses to C, and what it stands for.
-use Rattle.std.specs.Prelude.{ℕ, ◌==◌, not, ◌%◌, ◌^◌, length, Bool, true, false, is_some, Option, Some, None, List, [], ◌∷◌, slice_index}
+use Rattle.std.specs.Prelude.{ℕ, ◌==◌, not, ◌+◌, ◌*◌, ◌/◌, ◌%◌, ◌^◌, length, Bool, true, false, is_some, Option, Some, None, List, [], ◌∷◌, slice_index}
 use Rattle.x64_machine.specs.declared.context.Context.{Context}
 use Rattle.abi_unwind.specs.declared.context.AbiContext.{AbiContext}
 use Rattle.seh_views.specs.declared.c_types.TheConstants.{PROFILE_OWN}
@@ -38,8 +38,29 @@ machine_context c =
       kept = c.rsp ∷ c.rbx ∷ c.rbp ∷ c.rsi ∷ c.rdi ∷ c.r12 ∷ c.r13 ∷ c.r14 ∷ c.r15 ∷ [];
     }
 
+-- a vector register by its halves, of which the low one comes first
+abbrev pub whole : List ℕ → ℕ → ℕ
+whole halves k = slice_index halves (2 * k) + 2 ^ 64 * slice_index halves (2 * k + 1)
+
+abbrev pub wholes : (ℕ → ℕ) → List ℕ
+wholes v = v 0 ∷ v 1 ∷ v 2 ∷ v 3 ∷ v 4 ∷ v 5 ∷ v 6 ∷ v 7 ∷ v 8 ∷ v 9 ∷ []
+
+abbrev pub low : ℕ → ℕ
+low v = v % 2 ^ 64
+
+abbrev pub high : ℕ → ℕ
+high v = v / 2 ^ 64
+
+abbrev pub in_halves : List ℕ → ℕ → List ℕ → List ℕ
+in_halves vs k others = low (slice_index vs k) ∷ high (slice_index vs k) ∷ others
+
+abbrev pub halves : List ℕ → List ℕ
+halves vs =
+    in_halves vs 0 (in_halves vs 1 (in_halves vs 2 (in_halves vs 3 (in_halves vs 4
+    (in_halves vs 5 (in_halves vs 6 (in_halves vs 7 (in_halves vs 8 (in_halves vs 9 [])))))))))
+
 abbrev pub abi_context : SehContext → AbiContext
-abi_context c = record { general = machine_context c; vectors = c.vectors }
+abi_context c = record { general = machine_context c; vectors = wholes (whole c.vectors) }
 
 abbrev pub c_context : Context → List ℕ → ℕ → SehContext
 c_context c vectors has_vectors =

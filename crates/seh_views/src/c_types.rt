@@ -1,6 +1,6 @@
 //! What crosses to C.
 
-ghost use Rattle.std.specs.Prelude.{◌≡◌};
+ghost use Rattle.std.specs.Prelude.{◌≡◌, ◌<◌};
 ghost use Rattle.seh_views.specs.Shapes as spec;
 ghost use Rattle.seh_views.specs.Shapes.{layout};
 
@@ -51,6 +51,9 @@ pub struct SehRange<'a> {
     pub bytes: &'a [u8],
 }
 
+/// How many numbers of eight bytes XMM6 to XMM15 are.
+pub const VECTOR_HALVES: usize = 2 * NONVOLATILE_VECTORS;
+
 /// The registers that a caller can rely on (Microsoft x64 ABI, "Caller/callee saved registers").
 #[repr(C)]
 #[derive(Clone, Copy, Debug, PartialEq, Eq)]
@@ -65,8 +68,8 @@ pub struct SehContext {
     pub r13: u64,
     pub r14: u64,
     pub r15: u64,
-    /// XMM6 to XMM15.
-    pub vectors: [u128; NONVOLATILE_VECTORS],
+    /// XMM6 to XMM15, of each the low eight bytes first.
+    pub vectors: [u64; VECTOR_HALVES],
     /// Not 0: the vector registers count; else they hold no more than what was passed.
     pub has_vectors: u32,
 }
@@ -202,20 +205,81 @@ pub fn machine_context(context: &SehContext) -> Context
     }
 }
 
+/// A vector register by its halves.
+fn whole(halves: &[u64; VECTOR_HALVES], number: usize) -> u128
+    requires { number < NONVOLATILE_VECTORS }
+    ensures { result ≡ spec.whole halves.now number }
+{
+    let high = halves[2 * number + 1] as u128;
+    halves[2 * number] as u128 + 0x1_0000_0000_0000_0000 * high
+}
+
 /// The same with the vector registers.
 pub fn abi_context(context: &SehContext) -> AbiContext
     ensures { result ≡ spec.abi_context context.now }
 {
+    let halves = &context.vectors;
     AbiContext {
         general: machine_context(context),
-        vectors: context.vectors,
+        vectors: [
+            whole(halves, 0),
+            whole(halves, 1),
+            whole(halves, 2),
+            whole(halves, 3),
+            whole(halves, 4),
+            whole(halves, 5),
+            whole(halves, 6),
+            whole(halves, 7),
+            whole(halves, 8),
+            whole(halves, 9),
+        ],
     }
+}
+
+fn low(vector: u128) -> u64
+    ensures { result ≡ spec.low vector }
+{
+    (vector % 0x1_0000_0000_0000_0000) as u64
+}
+
+fn high(vector: u128) -> u64
+    ensures { result ≡ spec.high vector }
+{
+    (vector / 0x1_0000_0000_0000_0000) as u64
+}
+
+/// The halves of vector registers.
+pub fn halves(vectors: &[u128; NONVOLATILE_VECTORS]) -> [u64; VECTOR_HALVES]
+    ensures { result ≡ spec.halves vectors.now }
+{
+    [
+        low(vectors[0]),
+        high(vectors[0]),
+        low(vectors[1]),
+        high(vectors[1]),
+        low(vectors[2]),
+        high(vectors[2]),
+        low(vectors[3]),
+        high(vectors[3]),
+        low(vectors[4]),
+        high(vectors[4]),
+        low(vectors[5]),
+        high(vectors[5]),
+        low(vectors[6]),
+        high(vectors[6]),
+        low(vectors[7]),
+        high(vectors[7]),
+        low(vectors[8]),
+        high(vectors[8]),
+        low(vectors[9]),
+        high(vectors[9]),
+    ]
 }
 
 /// Registers, as C sees them.
 pub fn c_context(
     context: &Context,
-    vectors: [u128; NONVOLATILE_VECTORS],
+    vectors: [u64; VECTOR_HALVES],
     has_vectors: u32,
 ) -> SehContext
     ensures { result ≡ spec.c_context context.now vectors has_vectors }

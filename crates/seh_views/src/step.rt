@@ -3,7 +3,7 @@
 ghost use Rattle.std.specs.Prelude.{◌≡◌, option_map};
 ghost use Rattle.seh_views.specs.Callers as spec;
 
-use crate::c_types::{SehContext, c_context};
+use crate::c_types::{SehContext, c_context, halves};
 use crate::refusal::Refusal;
 use abi_unwind::each::EntryErr;
 use abi_unwind::frame::AbiCaller;
@@ -63,7 +63,7 @@ fn abi_step(range: RuntimeFunction, context: &SehContext, caller: &AbiCaller) ->
             None => None,
         },
         in_body: false,
-        caller: c_context(&after.general, after.vectors, context.has_vectors),
+        caller: c_context(&after.general, halves(&after.vectors), context.has_vectors),
     }
 }
 
