@@ -54,12 +54,12 @@ high v = v / 2 ^ 64
 abbrev pub in_halves : List ℕ → ℕ → List ℕ → List ℕ
 in_halves vs k others = low (slice_index vs k) ∷ high (slice_index vs k) ∷ others
 
-abbrev pub halves : List ℕ → List ℕ
+unfoldable pub halves : List ℕ → List ℕ
 halves vs =
     in_halves vs 0 (in_halves vs 1 (in_halves vs 2 (in_halves vs 3 (in_halves vs 4
     (in_halves vs 5 (in_halves vs 6 (in_halves vs 7 (in_halves vs 8 (in_halves vs 9 [])))))))))
 
-abbrev pub abi_context : SehContext → AbiContext
+unfoldable pub abi_context : SehContext → AbiContext
 abi_context c = record { general = machine_context c; vectors = wholes (whole c.vectors) }
 
 abbrev pub c_context : Context → List ℕ → ℕ → SehContext

@@ -215,6 +215,7 @@ fn whole(halves: &[u64; VECTOR_HALVES], number: usize) -> u128
 }
 
 /// The same with the vector registers.
+#[tactic(auto, unfolding(crate::specs::Shapes::abi_context))]
 pub fn abi_context(context: &SehContext) -> AbiContext
     ensures { result ≡ spec.abi_context context.now }
 {
@@ -249,6 +250,7 @@ fn high(vector: u128) -> u64
 }
 
 /// The halves of vector registers.
+#[tactic(auto, unfolding(crate::specs::Shapes::halves))]
 pub fn halves(vectors: &[u128; NONVOLATILE_VECTORS]) -> [u64; VECTOR_HALVES]
     ensures { result ≡ spec.halves vectors.now }
 {
