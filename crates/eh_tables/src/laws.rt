@@ -1,5 +1,6 @@
-//! What is written is read again.
+//! What is written is read again, and what is read alike.
 
+ghost use Rattle.eh_tables.specs.EitherEntries.{ReadsVersion1Alike};
 ghost use Rattle.eh_tables.specs.ReadAgain.{InfoIsReadAgain, ScopeRecordsAreReadAgain, RangesAreReadAgain, TableIsReadAgain};
 
 /// What `write_unwind`, `write_scopes` and `write_pdata` append is read again as the same values,
@@ -10,4 +11,9 @@ pub fn read_again()
     ensures scopes { ScopeRecordsAreReadAgain }
     ensures ranges { RangesAreReadAgain }
     ensures table { TableIsReadAgain }
+{}
+
+/// An entry whose infos have version 1 is read alike where version 2 is read too.
+pub fn version_1_alike()
+    ensures { ReadsVersion1Alike }
 {}
