@@ -21,8 +21,8 @@ use Rattle.host_model.specs.HostStep.{Host, Live, Ended, back, returned, returni
 use Rattle.x64_decoded.specs.Fixed.{KeepsFixed}
 use Rattle.x64_decoded.proofs.Keeping.{keeps_same, protect_keeps}
 use Rattle.x64_decoded.proofs.Effects.{steps_keep}
-use Rattle.host_fixed.specs.Laws.{TurnsKeepFixed, HostsKeepFixed}
-use Rattle.host_fixed.proofs.Dispatching.{Keeps, raised_keeps, locally_keeps, filter_keeps, finally_keeps, vectored_keeps}
+use Rattle.host_model.specs.FixedLaws.{TurnsKeepFixed, HostsKeepFixed}
+use Rattle.host_model.proofs.FixedDispatching.{Keeps, raised_keeps, locally_keeps, filter_keeps, finally_keeps, vectored_keeps}
 
 returned_keeps : (s : State) (x : Result ℕ RefusedAccess) (go : State → Turn)
     → ((a : ℕ) → Keeps s.memory (go (back s a))) → Keeps s.memory (returned s x go)

@@ -3,7 +3,7 @@ use Rattle.std.proofs.Common.{ℕ, zero, suc, Bool, true, false, cond, List, [],
 use Rattle.std.specs.Int.{bytes_low_first}
 use Rattle.std.specs.List.{flat_map}
 use Rattle.pe_image.specs.Numbers.{u16, u32, u64, zeros}
-use Rattle.image_octets.specs.OctetLaws.{AreOctets}
+use Rattle.image_tables.specs.OctetLaws.{AreOctets}
 
 -- ---- lists
 

@@ -8,8 +8,8 @@ use Rattle.c_syntax.specs.Program.{Initialiser, Single, Several, Global, Externa
 use Rattle.c_resolved.specs.Layout.{stored_bytes}
 use Rattle.c_resolved.specs.Program.{constant_value, bytes_of_number, bytes_of_all, filled, initial_value, padded, File, with_global, with_globals, with_external_declaration, file_of, empty_file}
 use Rattle.c_resolved.specs.Types.{bytes_in}
-use Rattle.image_octets.specs.OctetLaws.{AreOctets, ResolvedAreOctets}
-use Rattle.image_octets.proofs.Octets.{joined, taken, repeated}
+use Rattle.image_tables.specs.OctetLaws.{AreOctets, ResolvedAreOctets}
+use Rattle.image_tables.proofs.Octets.{joined, taken, repeated}
 
 number_octets : (n v : ℕ) → AreOctets (bytes_of_number n v)
 number_octets zero v = tt

@@ -7,8 +7,8 @@ use Rattle.pe_image.specs.declared.layout.TheConstants.{DIRECTORY_SIZE, DOS_HEAD
 use Rattle.pe_image.specs.declared.directory.DataDirectory.{DataDirectory}
 use Rattle.pe_write.specs.declared.header.TheConstants.{DOS_FIELDS_SIZE, FILE_ALIGNMENT, IMAGE_DIRECTORY_ENTRY_IAT, IMAGE_SUBSYSTEM_WINDOWS_CUI, OPTIONAL_HEADER_SIZE, RELOCATION_FIELDS_SIZE, SECTION_TABLE_SIZE, SIZE_OF_HEADERS, STACK_FIELDS_SIZE, SYMBOL_FIELDS_SIZE, VERSION_FIELDS_SIZE}
 use Rattle.pe_write.specs.Written.{SectionParts, ImageParts, PlacedSection, pages, raw_size, placed, end_of, code_size, data_size, code_base, dos_header, characteristics, file_header, standard_fields, windows_fields, directory_entry, empty_directories, directories, section_fields, section_header, section_table, table_of, raw_data, written}
-use Rattle.image_octets.specs.OctetLaws.{AreOctets}
-use Rattle.image_octets.proofs.Octets.{joined, two_bytes, four_bytes, eight_bytes, zero_bytes}
+use Rattle.image_tables.specs.OctetLaws.{AreOctets}
+use Rattle.image_tables.proofs.Octets.{joined, two_bytes, four_bytes, eight_bytes, zero_bytes}
 
 -- ---- the headers
 

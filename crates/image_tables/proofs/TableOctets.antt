@@ -6,8 +6,8 @@ use Rattle.eh_tables.specs.declared.range.RuntimeFunction.{RuntimeFunction}
 use Rattle.eh_tables.specs.declared.scope.ScopeRecord.{ScopeRecord}
 use Rattle.eh_tables.specs.declared.unwind_info.Trailer.{Trailer}
 use Rattle.eh_tables.specs.declared.unwind_info.Trailer.TheVariants.{Nothing, Handler, Parent}
-use Rattle.image_octets.specs.OctetLaws.{AreOctets}
-use Rattle.image_octets.proofs.Octets.{joined, mapped, four_bytes}
+use Rattle.image_tables.specs.OctetLaws.{AreOctets}
+use Rattle.image_tables.proofs.Octets.{joined, mapped, four_bytes}
 
 range_octets : (r : RuntimeFunction) → AreOctets (range_bytes r)
 range_octets r = joined (u32 r.begin ++ u32 r.end) (u32 r.unwind_info)

@@ -15,10 +15,10 @@ use Rattle.pe_write.specs.NameTable.{NameRow}
 use Rattle.pe_write.specs.Program.{ImageContents, sizes_of, rdata_at, names_section, if_named, parts_of}
 use Rattle.pe_write.specs.Program as programs
 use Rattle.pe_write.specs.Written.{SectionParts, written}
-use Rattle.image_octets.specs.OctetLaws.{AreOctets}
-use Rattle.image_octets.proofs.Octets.{joined, mapped, four_bytes, eight_bytes, zero_bytes}
-use Rattle.image_octets.proofs.WrittenOctets.{HasOctets, written_octets}
-use Rattle.image_octets.proofs.NameOctets.{HasOctetName, name_table_octets}
+use Rattle.image_tables.specs.OctetLaws.{AreOctets}
+use Rattle.image_tables.proofs.Octets.{joined, mapped, four_bytes, eight_bytes, zero_bytes}
+use Rattle.image_tables.proofs.WrittenOctets.{HasOctets, written_octets}
+use Rattle.image_tables.proofs.NameOctets.{HasOctetName, name_table_octets}
 
 -- ---- constants
 

@@ -18,9 +18,9 @@ use Rattle.frame_layout.proofs.Codes.{codes_few, codes_short, codes_offsets}
 use Rattle.eh_tables.specs.declared.code.UnwindCode.{UnwindCode}
 use Rattle.eh_tables.specs.declared.code.UnwindOperation.{UnwindOperation}
 use Rattle.eh_tables.specs.declared.code.UnwindOperation.TheVariants.{Push, Allocate, SetFrame, Save, SaveVector, MachineFrame}
-use Rattle.image_octets.specs.OctetLaws.{AreOctets}
-use Rattle.image_octets.proofs.Octets.{joined, repeated, two_bytes, four_bytes}
-use Rattle.image_octets.proofs.TableOctets.{trailer_octets}
+use Rattle.image_tables.specs.OctetLaws.{AreOctets}
+use Rattle.image_tables.proofs.Octets.{joined, repeated, two_bytes, four_bytes}
+use Rattle.image_tables.proofs.TableOctets.{trailer_octets}
 
 -- ---- the code of the allocation
 

@@ -23,8 +23,8 @@ use Rattle.x64_instr.specs.declared.instruction.Instr.TheVariants as instrs
 use Rattle.x64_instr.specs.declared.instruction.Operation.TheVariants as operations
 use Rattle.x64_instr.specs.declared.instruction.Unary.{Unary}
 use Rattle.x64_instr.specs.declared.instruction.Unary.TheVariants as unaries
-use Rattle.image_octets.specs.OctetLaws.{AreOctets}
-use Rattle.image_octets.proofs.Octets.{joined, either, mapped}
+use Rattle.image_tables.specs.OctetLaws.{AreOctets}
+use Rattle.image_tables.proofs.Octets.{joined, either, mapped}
 use Rattle.template_code.specs.Bytes.{spelled}
 
 little_octets : (n v : ℕ) → AreOctets (little n v)

@@ -25,13 +25,13 @@ use Rattle.image_link.specs.Linked.{first, first_cold, site, xdata_begin, linked
 use Rattle.image_link.specs.Services.{services_of, calls_walk}
 use Rattle.image_link.specs.Walks.{named_if, named_functions, IsName, IsNamed, function_rows, part_rows, all_part_rows, cold_rows}
 use Rattle.linear_code.specs.Program.{LinearFunction, LinearFunclet, LinearProgram}
-use Rattle.image_octets.specs.OctetLaws.{AreOctets, LinkedAreOctets}
-use Rattle.image_octets.proofs.Octets.{joined, mapped}
-use Rattle.image_octets.proofs.InstructionOctets.{spelled_octets}
-use Rattle.image_octets.proofs.TableOctets.{table_octets, scope_octets}
-use Rattle.image_octets.proofs.InfoOctets.{info_octets, chained_octets}
-use Rattle.image_octets.proofs.NameOctets.{HasOctetName}
-use Rattle.image_octets.proofs.ProgramOctets.{program_octets}
+use Rattle.image_tables.specs.OctetLaws.{AreOctets, LinkedAreOctets}
+use Rattle.image_tables.proofs.Octets.{joined, mapped}
+use Rattle.image_tables.proofs.InstructionOctets.{spelled_octets}
+use Rattle.image_tables.proofs.TableOctets.{table_octets, scope_octets}
+use Rattle.image_tables.proofs.InfoOctets.{info_octets, chained_octets}
+use Rattle.image_tables.proofs.NameOctets.{HasOctetName}
+use Rattle.image_tables.proofs.ProgramOctets.{program_octets}
 
 -- ---- code
 

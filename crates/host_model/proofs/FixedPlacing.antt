@@ -6,7 +6,7 @@ use Rattle.seh_records.specs.declared.layout.TheConstants.{MARK_AT, PLACED_SIZE}
 use Rattle.seh_records.specs.Words.{with_block, block_byte}
 use Rattle.seh_records.specs.Record.{misplaced, placed, return_address_at, words}
 use Rattle.x64_decoded.proofs.Keeping.{passed}
-use Rattle.host_fixed.specs.Laws.{PlacingKeepsFixed}
+use Rattle.host_model.specs.FixedLaws.{PlacingKeepsFixed}
 
 -- where no place is refused, the record doesn't pass the last address, and may be written
 pub record MayPlace (m : Memory) (at : ℕ) : Type 0 where

@@ -3,8 +3,8 @@ use Rattle.std.proofs.Common.{ℕ, ◌+◌, List, [], ◌∷◌, ◌++◌, lengt
 use Rattle.std.specs.List.{AllByRecursion}
 use Rattle.pe_image.specs.Numbers.{u32}
 use Rattle.pe_write.specs.NameTable.{NameRow, names_offset, row_bytes, rows_bytes, names_bytes, counted_bytes, name_table_bytes}
-use Rattle.image_octets.specs.OctetLaws.{AreOctets}
-use Rattle.image_octets.proofs.Octets.{joined, four_bytes}
+use Rattle.image_tables.specs.OctetLaws.{AreOctets}
+use Rattle.image_tables.proofs.Octets.{joined, four_bytes}
 
 abbrev pub HasOctetName : NameRow → Type 0
 HasOctetName r = AreOctets r.name

@@ -27,7 +27,7 @@ use Rattle.host_model.specs.Turns.{Turn, Continues, Ends, with_event}
 use Rattle.host_model.specs.Dispatch.{after_placing, if_placed, land, by_purpose, after_unwind, unwinds_on, accepting, accepted, after_search, searches_on, raising, raised, new_record, place_of, to_target, unwound_locally, again, searching, asks_at, asks_on, continued, if_finally, jumping, asked_row, by_sign, by_answer, answered, if_searching, filter_returned, if_unwinding, finally_returned, by_vectored_answer, if_vectored, vectored_returned, eax, entered, in_hand}
 use Rattle.x64_decoded.specs.Fixed.{KeepsFixed}
 use Rattle.x64_decoded.proofs.Keeping.{keeps_same, keeps_then, stores_keep}
-use Rattle.host_fixed.proofs.Placing.{placing_keeps}
+use Rattle.host_model.proofs.FixedPlacing.{placing_keeps}
 
 -- the memory of a turn that continues
 abbrev pub Keeps : Memory → Turn → Type 0
