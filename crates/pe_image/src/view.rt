@@ -14,14 +14,14 @@ use crate::image_layout::ImageLayout;
 use crate::import::stored;
 use crate::import_check::check_imports;
 use crate::imports::{Imports, bound_names};
-use crate::layout::{IMAGE_DIRECTORY_ENTRY_EXCEPTION, IMAGE_DIRECTORY_ENTRY_IMPORT, SEHNAME_NAME};
-use crate::name_table::{NameErr, NameTable};
+use crate::layout::{IMAGE_DIRECTORY_ENTRY_EXCEPTION, IMAGE_DIRECTORY_ENTRY_IMPORT};
+use crate::name_table::{NameErr, NameTable, first_rows};
 use crate::reading::{
     check_headers, directory, entry_point, image_base, image_end, image_size, section_count,
     sections_at,
 };
 use crate::refusal::ImageErr;
-use crate::section::{SectionView, section_named, stored_from};
+use crate::section::{SectionView, stored_from};
 use crate::table::sections;
 use std::alloc::Global;
 use std::collections::BTreeMap;
@@ -38,6 +38,8 @@ pub struct ImageView<'a> {
     exceptions: DataDirectory,
     name_ends: BTreeMap<u64, u64>,
     names: BTreeMap<u64, &'a [u8]>,
+    /// The first row of each number in the table of names.
+    first_rows: BTreeMap<u32, u32>,
 }
 
 impl<'a> Model for ImageView<'a> {
@@ -45,9 +47,11 @@ impl<'a> Model for ImageView<'a> {
     ghost use Rattle.std.specs.Ordering.{nat_cmp};
     ghost use Rattle.std.specs.BTreeMap.{get};
     ghost use Rattle.pe_image.specs.Bound.{bound_name};
-    ghost use Rattle.pe_image.specs.Image.{Image, AreAscending};
+    ghost use Rattle.pe_image.specs.Image.{Image, AreAscending, section_named};
     ghost use Rattle.pe_image.specs.Imports.{imports_in, or_none};
+    ghost use Rattle.pe_image.specs.NameRows.{AreFirstRows, names_in, rows_read};
     ghost use Rattle.pe_image.specs.Names.{AreEnds};
+    ghost use Rattle.pe_image.specs.declared.layout.TheConstants.{SEHNAME_NAME};
 
     ghost Value = { Image };
 
@@ -64,7 +68,9 @@ impl<'a> Model for ImageView<'a> {
         × (IsOk (imports_in v.sections.items v.import_directory))
         × (AreEnds v.sections.items v.name_ends)
         × ((slot : ℕ) → option_map (λ b. b.now) (get nat_cmp v.names slot)
-        ≡ bound_name slot (or_none (imports_in v.sections.items v.import_directory))) };
+        ≡ bound_name slot (or_none (imports_in v.sections.items v.import_directory)))
+        × (AreFirstRows v.first_rows
+        (rows_read (names_in (section_named SEHNAME_NAME v.sections.items)))) };
 }
 
 impl<'a> ImageView<'a> {
@@ -128,6 +134,7 @@ impl<'a> ImageView<'a> {
         let name_ends = check_imports(alloc, &sections, import_directory)?;
         let imports = Imports::new(&sections, &name_ends, import_directory);
         let names = bound_names(alloc, imports)?;
+        let first_rows = first_rows(alloc, &sections)?;
         Ok(ImageView {
             base: image_base(bytes),
             entry: entry_point(bytes),
@@ -137,6 +144,7 @@ impl<'a> ImageView<'a> {
             exceptions: directory(bytes, IMAGE_DIRECTORY_ENTRY_EXCEPTION),
             name_ends,
             names,
+            first_rows,
         })
     }
 
@@ -191,14 +199,11 @@ impl<'a> ImageView<'a> {
     /// image without such a section has none. Of a mapped image all of the section's size is read,
     /// as of each of its sections.
     #[tactic(auto, unfolding(crate::specs::NameRows::names_of))]
-    pub fn names(&self) -> Result<NameTable<'a>, NameErr>
+    pub fn names(&self) -> Result<NameTable<'_>, NameErr>
         ensures rows { IfOk result (λ t. names_of self.now ≡ Ok t) }
         ensures refusal { IfErr result (λ e. names_of self.now ≡ Err e) }
     {
-        match section_named(&self.sections, SEHNAME_NAME) {
-            Some(section) => NameTable::read(section),
-            None => Ok(NameTable::empty()),
-        }
+        NameTable::in_sections(&self.sections, &self.first_rows)
     }
 
     /// Where the function table lies.
