@@ -311,7 +311,7 @@ pub fn first_rows(
 #[derive(Drop)]
 pub struct NameTable<'a> {
     rows: NameRows<'a>,
-    /// The first row of each number, if the image that was read has found them.
+    /// The first row of each number, if they were found.
     first_rows: Option<&'a BTreeMap<u32, u32>>,
 }
 
@@ -354,23 +354,20 @@ impl<'a> NameTable<'a> {
         }
     }
 
-    /// The table in an image's sections, with the first row of each number.
+    /// The table in an image's sections, with the first row of each number if they were found.
     pub(crate) fn in_sections(
         sections: &[SectionView<'a>],
-        first_rows: &'a BTreeMap<u32, u32>,
+        first_rows: Option<&'a BTreeMap<u32, u32>>,
     ) -> Result<NameTable<'a>, NameErr>
-        requires { spec.AreFirstRows first_rows.now
-            (spec.rows_read (spec.names_in (section_named SEHNAME_NAME sections.now))) }
+        requires { IfSome first_rows (λ m. spec.AreFirstRows m.now
+            (spec.rows_read (spec.names_in (section_named SEHNAME_NAME sections.now)))) }
         ensures rows { IfOk result
             (λ t. spec.names_in (section_named SEHNAME_NAME sections.now) ≡ Ok t) }
         ensures refusal { IfErr result
             (λ e. spec.names_in (section_named SEHNAME_NAME sections.now) ≡ Err e) }
     {
         match NameRows::in_sections(sections) {
-            Ok(rows) => Ok(NameTable {
-                rows,
-                first_rows: Some(first_rows),
-            }),
+            Ok(rows) => Ok(NameTable { rows, first_rows }),
             Err(e) => Err(e),
         }
     }
@@ -393,8 +390,8 @@ impl<'a> NameTable<'a> {
         self.rows.row(rva)
     }
 
-    /// The name of the function of a number: that of the first row with the number. An image that
-    /// was read has a map of these rows. In a table of a section alone they are looked through.
+    /// The name of the function of a number: that of the first row with the number. An image in a
+    /// file has a map of these rows. In another table the rows are looked through.
     pub fn name(&self, number: u32) -> Option<&'a [u8]>
         ensures { option_map (λ b. b.now) result ≡ spec.name_of number self.now }
     {

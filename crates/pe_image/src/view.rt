@@ -23,7 +23,7 @@ use crate::reading::{
 use crate::refusal::ImageErr;
 use crate::section::{SectionView, stored_from};
 use crate::table::sections;
-use std::alloc::Global;
+use std::alloc::{AllocError, Global};
 use std::collections::BTreeMap;
 use std::marker::Model;
 
@@ -38,12 +38,12 @@ pub struct ImageView<'a> {
     exceptions: DataDirectory,
     name_ends: BTreeMap<u64, u64>,
     names: BTreeMap<u64, &'a [u8]>,
-    /// The first row of each number in the table of names.
-    first_rows: BTreeMap<u32, u32>,
+    /// The first row of each number in the table of names, if they were found.
+    first_rows: Option<BTreeMap<u32, u32>>,
 }
 
 impl<'a> Model for ImageView<'a> {
-    ghost use Rattle.std.specs.Prelude.{◌≡◌, ℕ, IsOk, option_map};
+    ghost use Rattle.std.specs.Prelude.{◌≡◌, ℕ, IsOk, IfSome, option_map};
     ghost use Rattle.std.specs.Ordering.{nat_cmp};
     ghost use Rattle.std.specs.BTreeMap.{get};
     ghost use Rattle.pe_image.specs.Bound.{bound_name};
@@ -69,8 +69,8 @@ impl<'a> Model for ImageView<'a> {
         × (AreEnds v.sections.items v.name_ends)
         × ((slot : ℕ) → option_map (λ b. b.now) (get nat_cmp v.names slot)
         ≡ bound_name slot (or_none (imports_in v.sections.items v.import_directory)))
-        × (AreFirstRows v.first_rows
-        (rows_read (names_in (section_named SEHNAME_NAME v.sections.items)))) };
+        × (IfSome v.first_rows (λ m. AreFirstRows m
+        (rows_read (names_in (section_named SEHNAME_NAME v.sections.items))))) };
 }
 
 impl<'a> ImageView<'a> {
@@ -83,7 +83,8 @@ impl<'a> ImageView<'a> {
         ensures image { IfOk result (λ view. IsImage bytes.now view) }
         ensures refusal { IfErr result (λ e. ImageIsRefused bytes.now e) }
     {
-        ImageView::read_in(alloc, bytes, ImageLayout::File)
+        let view = ImageView::read_in(alloc, bytes, ImageLayout::File)?;
+        Ok(view.with_first_rows(alloc)?)
     }
 
     /// Reads an image in a layout, with the checks of [`ImageView::read`]. Of a mapped image all of
@@ -134,7 +135,6 @@ impl<'a> ImageView<'a> {
         let name_ends = check_imports(alloc, &sections, import_directory)?;
         let imports = Imports::new(&sections, &name_ends, import_directory);
         let names = bound_names(alloc, imports)?;
-        let first_rows = first_rows(alloc, &sections)?;
         Ok(ImageView {
             base: image_base(bytes),
             entry: entry_point(bytes),
@@ -144,8 +144,16 @@ impl<'a> ImageView<'a> {
             exceptions: directory(bytes, IMAGE_DIRECTORY_ENTRY_EXCEPTION),
             name_ends,
             names,
-            first_rows,
+            first_rows: None,
         })
+    }
+
+    /// The same, which has found the first row of each number in the table of names.
+    fn with_first_rows(mut self, alloc: Global) -> Result<ImageView<'a>, AllocError>
+        ensures { IfOk result (λ view. view ≡ self.entry) }
+    {
+        self.first_rows = Some(first_rows(alloc, &self.sections)?);
+        Ok(self)
     }
 
     /// The image base, at which the image lies in memory.
@@ -203,7 +211,7 @@ impl<'a> ImageView<'a> {
         ensures rows { IfOk result (λ t. names_of self.now ≡ Ok t) }
         ensures refusal { IfErr result (λ e. names_of self.now ≡ Err e) }
     {
-        NameTable::in_sections(&self.sections, &self.first_rows)
+        NameTable::in_sections(&self.sections, self.first_rows.as_ref())
     }
 
     /// Where the function table lies.

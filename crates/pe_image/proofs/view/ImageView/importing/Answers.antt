@@ -2,11 +2,9 @@ use Rattle.std.proofs.Common.{List, sym, ap, subst, ◌∙◌}
 use Rattle.std.specs.Prelude.{is_ok}
 use Rattle.std.proofs.lemmas.Result.{err_from_is_err_and}
 use Rattle.pe_image.specs.Bound.{bound_name}
-use Rattle.pe_image.specs.Image.{Section, section_named}
+use Rattle.pe_image.specs.Image.{Section}
 use Rattle.pe_image.specs.Imports.{imports_in, or_none}
-use Rattle.pe_image.specs.NameRows.{AreFirstRows, names_in, rows_read}
 use Rattle.pe_image.specs.Names.{AreEnds}
-use Rattle.pe_image.specs.declared.layout.TheConstants.{SEHNAME_NAME}
 use Rattle.pe_image.proofs.Imported.{ok_is}
 use Rattle.pe_image.proofs.Whole.{by_sections, by_imports, is_read}
 use Rattle.pe_image.proofs.view.ImageView.importing.Goals as goal
@@ -45,9 +43,7 @@ invariant_of-result c =
           c.in_ok-name_ends.ensures.ends,
       λ slot. c.in_ok-names.ensures slot ∙ ap (bound_name slot) (c.new-imports.ensures
           ∙ ap (λ (ss : List Section). or_none (imports_in ss d)) c.deref-2.ensures.value),
-      subst (λ (ss : List Section). AreFirstRows c.in_ok-first_rows.first_rows
-          (rows_read (names_in (section_named SEHNAME_NAME ss)))) c.deref-3.ensures.value
-          c.in_ok-first_rows.ensures,
+      tt,
     )
 
 pub new-imports-requires-clause-ends : goal.new-imports-requires-clause-ends
