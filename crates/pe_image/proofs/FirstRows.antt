@@ -1,5 +1,5 @@
 -- The first rows of numbers, found from the last row of a table of names on.
-use Rattle.std.proofs.Common.{◌≡◌, ℕ, ◌+◌, ◌<◌, cond, List, length, drop, get_or, option_map, Some, sym, ap, subst, ◌∙◌, inl, inr, eq-eqb}
+use Rattle.std.proofs.Common.{◌≡◌, ℕ, ◌+◌, ◌<◌, cond, List, length, drop, get_or, option_map, Option, Some, sym, ap, subst, ◌∙◌, inl, inr, eq-eqb}
 use Rattle.std.specs.Prelude.{IfSome}
 use Rattle.std.specs.Ordering.{nat_cmp}
 use Rattle.std.specs.BTreeMap.{BTreeMap, get, is_at}
@@ -12,10 +12,14 @@ use Rattle.pe_image.proofs.Inserted.{at_key, off_key}
 abbrev pub name_in_row : List NameRow → ℕ → List ℕ
 name_in_row rows k = (get_or rows k no_row).name
 
+-- the name of a number by a map
+abbrev pub name_by : List NameRow → BTreeMap ℕ ℕ → ℕ → Option (List ℕ)
+name_by rows m q = option_map (name_in_row rows) (get nat_cmp m q)
+
 -- a map has the first row of each number among those from an index on
 pub record FirstsFrom (rows : List NameRow) (index : ℕ) (m : BTreeMap ℕ ℕ) : Type 0 where
   pub inside : (q : ℕ) → IfSome (get nat_cmp m q) (λ k. k < length rows)
-  pub names : (q : ℕ) → option_map (name_in_row rows) (get nat_cmp m q) ≡ name_of q (drop index rows)
+  pub names : (q : ℕ) → name_by rows m q ≡ name_of q (drop index rows)
 
 module _ (rows : List NameRow) (index : ℕ) (lt : index < length rows) (old new : BTreeMap ℕ ℕ)
     (has : (q : ℕ) → get nat_cmp new q
@@ -32,7 +36,7 @@ module _ (rows : List NameRow) (index : ℕ) (lt : index < length rows) (old new
         (sym (off_key old new row.number index has q other)) (later.inside q)
   ]
 
-  names : (q : ℕ) → option_map (name_in_row rows) (get nat_cmp new q) ≡ name_of q (drop index rows)
+  names : (q : ℕ) → name_by rows new q ≡ name_of q (drop index rows)
   names q =
       let whole = at_drop_more (name_of q) rows index no_row lt in
       let others = name_of q (drop (index + 1) rows) in
