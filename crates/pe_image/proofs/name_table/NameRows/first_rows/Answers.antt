@@ -28,11 +28,12 @@ loop-index-preserved c =
     let at : ℕ = c.loop-index.index - 1 in
     let some = c.loop-index-test.true in
     let up : c.loop-index.index ≡ c.loop-index.index - 1 + 1 = omega arith in
-    let within = c.loop-index.invariant.0 in (
+    let within = c.loop-index.invariant.0 in
+    let later = c.loop-index.invariant.1 in (
       omega arith,
       one_more rows at (omega arith) c.loop-index.first_rows c.insert.new.self
           (subst (λ (n : ℕ). (q : ℕ) → get nat_cmp c.insert.new.self q
           ≡ cond (is_at (nat_cmp n) q) (Some at) (get nat_cmp c.loop-index.first_rows q))
           c.range.ensures.number c.in_ok-insert.ensures.updates.0)
-          (subst (λ (n : ℕ). FirstsFrom rows n c.loop-index.first_rows) up c.loop-index.invariant.1),
+          (subst (λ (n : ℕ). FirstsFrom rows n c.loop-index.first_rows) up later),
     )
