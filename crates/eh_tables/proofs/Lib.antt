@@ -1,4 +1,7 @@
 pub mod Chains
+pub mod EitherAlike
+pub mod EitherChains
+pub mod Headers
 pub mod InfoSteps
 pub mod KnownEntries
 pub mod KnownInfos

@@ -1,6 +1,8 @@
 pub mod Answer
 pub mod Codes
 pub mod Covering
+pub mod EitherEntries
+pub mod EitherInfos
 pub mod Found
 pub mod Handler
 pub mod Infos

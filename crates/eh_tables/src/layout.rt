@@ -52,6 +52,10 @@ pub const EXCEPTION_EXECUTE_HANDLER: u32 = 1;
 /// The version of UNWIND_INFO that is read and written.
 pub const UNWIND_VERSION: u8 = 1;
 
+/// The version of UNWIND_INFO that lists its epilogues, in slots before those of its codes (own: no
+/// page of the Microsoft x64 ABI has it).
+pub const UNWIND_VERSION_2: u8 = 2;
+
 /// The flags of UNWIND_INFO: there is a handler to be asked in a search for a handler.
 pub const UNW_FLAG_EHANDLER: u8 = 1;
 
@@ -73,6 +77,9 @@ pub const UWOP_SET_FPREG: u8 = 3;
 pub const UWOP_SAVE_NONVOL: u8 = 4;
 
 pub const UWOP_SAVE_NONVOL_FAR: u8 = 5;
+
+/// Of version 2 alone (own): a slot of the list of epilogues.
+pub const UWOP_EPILOG: u8 = 6;
 
 pub const UWOP_SAVE_XMM128: u8 = 8;
 
