@@ -9,15 +9,15 @@ use Rattle.eh_tables.specs.declared.code.UnwindOperation.TheVariants.{Push, Allo
 use Rattle.eh_tables.specs.declared.layout.TheConstants.{MOST_PARENTS}
 use Rattle.eh_tables.specs.declared.range.RuntimeFunction.{RuntimeFunction}
 use Rattle.eh_tables.specs.declared.scope.ScopeRecord.{ScopeRecord}
-use Rattle.eh_tables.specs.declared.unwind_info.Trailer.{Trailer}
-use Rattle.eh_tables.specs.declared.unwind_info.Trailer.TheVariants.{Nothing, Handler, Parent}
-use Rattle.eh_tables.specs.declared.unwind_info.UnwindInfo.{UnwindInfo}
+use Rattle.eh_write.specs.declared.unwind_info.Trailer.{Trailer}
+use Rattle.eh_write.specs.declared.unwind_info.Trailer.TheVariants.{Nothing, Handler, Parent}
+use Rattle.eh_write.specs.declared.unwind_info.UnwindInfo.{UnwindInfo}
 use Rattle.seh_num.specs.Answers.{◌>>=◌}
 use Rattle.eh_tables.specs.Handler.{is_c_handler}
 use Rattle.eh_tables.specs.Infos.{Info, info}
 use Rattle.eh_tables.specs.Scopes as scopes
 use Rattle.eh_tables.specs.Tables.{Entry, directory, tables}
-use Rattle.eh_tables.specs.Written.{codes_bytes, padded, header, trailer_flags, unwind_bytes, scope_bytes, table_bytes, CanBeWritten}
+use Rattle.eh_write.specs.Written.{codes_bytes, padded, header, trailer_flags, unwind_bytes, scope_bytes, table_bytes, CanBeWritten}
 
 -- these bytes are stored in an image from an address on
 abbrev pub IsStoredAt : Image → ℕ → List ℕ → Type 0

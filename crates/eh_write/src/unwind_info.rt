@@ -1,9 +1,7 @@
 //! Unwind infos to be written.
 
-use crate::code::UnwindCode;
-use crate::layout::MOST_SLOTS;
-use crate::range::RuntimeFunction;
 use arrayvec::ArrayVec;
+use eh_tables::{MOST_SLOTS, RuntimeFunction, UnwindCode};
 
 /// What follows the codes of an unwind info.
 #[derive(Clone, Copy, Debug, PartialEq, Eq)]

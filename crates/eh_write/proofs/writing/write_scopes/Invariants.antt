@@ -1,7 +1,7 @@
 use Rattle.std.proofs.Common.{◌≡◌, ◌++◌, ◌≤◌, length, take, drop}
 use Rattle.std.specs.List.{flat_map}
-use Rattle.eh_tables.specs.Words.{scope_record_bytes, scope_bytes}
-use Rattle.eh_tables.proofs.writing.write_scopes.Given as goal
+use Rattle.eh_write.specs.Words.{scope_record_bytes, scope_bytes}
+use Rattle.eh_write.proofs.writing.write_scopes.Given as goal
 
 abbrev pub invariant-loop-row : goal.invariant-loop-row
 invariant-loop-row l = record {

@@ -1,7 +1,7 @@
 use Rattle.std.proofs.Common.{◌≡◌, ◌+◌, ◌++◌}
 use Rattle.std.specs.Prelude.{replicate}
 use Rattle.arrayvec.specs.ArrayVec.{array_vec_len}
-use Rattle.eh_tables.proofs.writing.put_zeros.Given as goal
+use Rattle.eh_write.proofs.writing.put_zeros.Given as goal
 
 abbrev pub invariant-loop-i : goal.invariant-loop-i
 invariant-loop-i l = record {

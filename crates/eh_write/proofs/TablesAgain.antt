@@ -4,7 +4,7 @@ use Rattle.std.proofs.lemmas.Bool.{eq-eqb, eqb-true}
 use Rattle.std.proofs.lemmas.List.{take-take, length-take-le}
 use Rattle.std.specs.List.{flat_map, AllByRecursion}
 use Rattle.std.specs.Prelude.{◌==◌}
-use Rattle.eh_tables.specs.Words.{Section, section_at, stored_in, only_if, whole, stored, RuntimeFunction, ScopeRecord, TableErr, ◌>>=◌, unless, or_refused, Table, range_at, scope_record, rows, scope_records_in, ranges, ranges_in, unless_none, stored_ranges, directory, u32, range_bytes, scope_record_bytes, table_bytes, IsRuntimeFunction, IsScopeRecord, RangesAreReadAgain}
+use Rattle.eh_write.specs.Words.{Section, section_at, stored_in, only_if, whole, stored, RuntimeFunction, ScopeRecord, TableErr, ◌>>=◌, unless, or_refused, Table, range_at, scope_record, rows, scope_records_in, ranges, ranges_in, unless_none, stored_ranges, directory, u32, range_bytes, scope_record_bytes, table_bytes, IsRuntimeFunction, IsScopeRecord, RangesAreReadAgain}
 use Rattle.eh_tables.specs.declared.refusal.TableErr.TheVariants as refusals
 
 -- ---- where bytes are stored, those at their front are too

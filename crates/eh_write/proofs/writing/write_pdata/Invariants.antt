@@ -1,7 +1,7 @@
 use Rattle.std.proofs.Common.{◌≡◌, ◌++◌, ◌≤◌, length, take, drop}
 use Rattle.std.specs.List.{flat_map}
-use Rattle.eh_tables.specs.Words.{range_bytes}
-use Rattle.eh_tables.proofs.writing.write_pdata.Given as goal
+use Rattle.eh_write.specs.Words.{range_bytes}
+use Rattle.eh_write.proofs.writing.write_pdata.Given as goal
 
 abbrev pub invariant-loop-range : goal.invariant-loop-range
 invariant-loop-range l = record {

@@ -1,10 +1,10 @@
 -- A function table that is written, read again as a whole.
 use Rattle.std.proofs.Common.{◌≡◌, ℕ, zero, suc, ◌+◌, ◌<◌, ◌≤◌, Bool, true, false, Ok, List, [], ◌∷◌, length, map, Option, refl, sym, ap, ◌∙◌, arith}
 use Rattle.std.specs.List.{AllByRecursion}
-use Rattle.eh_tables.specs.Words.{Image, MOST_PARENTS, RuntimeFunction, ScopeRecord, ◌>>=◌, prepend, Table, Info, info, Entry, entry, entries, parents, WrittenInfo, WrittenEntry, HasScopes, IsInfoWritten, IsChainedTo, IsEntryWritten, AreInOrder, info_read, as_read, ranges_of, has_c_handler, parent_of, info_written, TableIsReadAgain}
+use Rattle.eh_write.specs.Words.{Image, MOST_PARENTS, RuntimeFunction, ScopeRecord, ◌>>=◌, prepend, Table, Info, info, Entry, entry, entries, parents, WrittenInfo, WrittenEntry, HasScopes, IsInfoWritten, IsChainedTo, IsEntryWritten, AreInOrder, info_read, as_read, ranges_of, has_c_handler, parent_of, info_written, TableIsReadAgain}
 use Rattle.eh_tables.proofs.Chains.{entry_is}
-use Rattle.eh_tables.proofs.InfosAgain.{reads_info, reads_scopes}
-use Rattle.eh_tables.proofs.TablesAgain.{reads_ranges}
+use Rattle.eh_write.proofs.InfosAgain.{reads_info, reads_scopes}
+use Rattle.eh_write.proofs.TablesAgain.{reads_ranges}
 
 -- by whether there is the C handler
 info_by : (image : Image) (index rva : ℕ) (w : WrittenInfo) → IsInfoWritten image rva w → (b : Bool)

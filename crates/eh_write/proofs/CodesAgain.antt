@@ -3,10 +3,10 @@ use Rattle.std.proofs.Common.{◌≡◌, ℕ, ◌+◌, ◌-◌, ◌*◌, ◌/◌
 use Rattle.std.proofs.lemmas.Bool.{cond_both, and_parts, eqb-true, ltb-true, lt-ltb, le-ltb}
 use Rattle.std.specs.List.{AllByRecursion}
 use Rattle.std.specs.Prelude.{◌&&◌, ◌==◌, nat_lt, nat_le}
-use Rattle.eh_tables.specs.Words.{UWOP_PUSH_NONVOL, UWOP_ALLOC_LARGE, UWOP_ALLOC_SMALL, UWOP_SET_FPREG, UWOP_SAVE_NONVOL, UWOP_SAVE_NONVOL_FAR, UWOP_SAVE_XMM128, UWOP_SAVE_XMM128_FAR, UWOP_PUSH_MACHFRAME, UnwindOperation, UnwindCode, operation, code_before, codes, code_checked, in_order, u16, u32, slot, is_short, is_small, allocation, saving, operation_bytes, code_bytes, codes_bytes, OperationFits, AreFalling, IsOperation}
+use Rattle.eh_write.specs.Words.{UWOP_PUSH_NONVOL, UWOP_ALLOC_LARGE, UWOP_ALLOC_SMALL, UWOP_SET_FPREG, UWOP_SAVE_NONVOL, UWOP_SAVE_NONVOL_FAR, UWOP_SAVE_XMM128, UWOP_SAVE_XMM128_FAR, UWOP_PUSH_MACHFRAME, UnwindOperation, UnwindCode, operation, code_before, codes, code_checked, in_order, u16, u32, slot, is_short, is_small, allocation, saving, operation_bytes, code_bytes, codes_bytes, OperationFits, AreFalling, IsOperation}
 use Rattle.eh_tables.specs.declared.code.UnwindOperation.TheVariants.{Push, Allocate, SetFrame, Save, SaveVector, MachineFrame}
 use Rattle.eh_tables.specs.Codes.{checked}
-use Rattle.eh_tables.proofs.TablesAgain.{four_is}
+use Rattle.eh_write.proofs.TablesAgain.{four_is}
 
 -- ---- a code's first slot, and its operands
 

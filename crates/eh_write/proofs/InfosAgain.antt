@@ -6,17 +6,17 @@ use Rattle.std.specs.List.{flat_map}
 use Rattle.std.specs.Prelude.{◌&&◌, ◌==◌, nat_lt, nat_le}
 use Rattle.seh_num.specs.Widths.{if_set}
 use Rattle.byteorder.specs.Endian.{little_number}
-use Rattle.eh_tables.specs.Words.{field, Image, stored, UNWIND_CODES, HANDLER_SIZE, RUNTIME_FUNCTION_SIZE, UNWIND_VERSION, UNW_FLAG_EHANDLER, UNW_FLAG_UHANDLER, UNW_FLAG_CHAININFO, RuntimeFunction, ScopeRecord, TableErr, ◌>>=◌, unless, or_refused, Table, Info, range_at, info_of, info, stored_info, stored_scope_records, scope_records_at, scope_records_if, u32, codes_bytes, trailer_flags, trailer_bytes, range_bytes, padded, header, unwind_bytes, is_framed, IsTrailer, CanBeWritten, scope_record_bytes, scope_bytes, IsStoredAt, HasTrailer, IsUnwindInfo, handler_of, parent_of, is_c, has_c_handler, info_written, InfoIsReadAgain, ScopeRecordsAreReadAgain}
+use Rattle.eh_write.specs.Words.{field, Image, stored, UNWIND_CODES, HANDLER_SIZE, RUNTIME_FUNCTION_SIZE, UNWIND_VERSION, UNW_FLAG_EHANDLER, UNW_FLAG_UHANDLER, UNW_FLAG_CHAININFO, RuntimeFunction, ScopeRecord, TableErr, ◌>>=◌, unless, or_refused, Table, Info, range_at, info_of, info, stored_info, stored_scope_records, scope_records_at, scope_records_if, u32, codes_bytes, trailer_flags, trailer_bytes, range_bytes, padded, header, unwind_bytes, is_framed, IsTrailer, CanBeWritten, scope_record_bytes, scope_bytes, IsStoredAt, HasTrailer, IsUnwindInfo, handler_of, parent_of, is_c, has_c_handler, info_written, InfoIsReadAgain, ScopeRecordsAreReadAgain}
 use Rattle.eh_tables.specs.declared.refusal.TableErr.TheVariants as refusals
-use Rattle.eh_tables.specs.declared.unwind_info.Trailer.{Trailer}
-use Rattle.eh_tables.specs.declared.unwind_info.Trailer.TheVariants.{Nothing, Handler, Parent}
-use Rattle.eh_tables.specs.declared.unwind_info.UnwindInfo.{UnwindInfo}
+use Rattle.eh_write.specs.declared.unwind_info.Trailer.{Trailer}
+use Rattle.eh_write.specs.declared.unwind_info.Trailer.TheVariants.{Nothing, Handler, Parent}
+use Rattle.eh_write.specs.declared.unwind_info.UnwindInfo.{UnwindInfo}
 use Rattle.eh_tables.specs.Codes as slots
 use Rattle.eh_tables.specs.Handler.{is_c_handler}
 use Rattle.eh_tables.specs.Infos as infos
 use Rattle.eh_tables.specs.Scopes as scopes
-use Rattle.eh_tables.proofs.CodesAgain.{codes_again, order_again, whole_slots}
-use Rattle.eh_tables.proofs.TablesAgain.{front_is_at, four_is, range_again, range_length, rows_again, rows_length}
+use Rattle.eh_write.proofs.CodesAgain.{codes_again, order_again, whole_slots}
+use Rattle.eh_write.proofs.TablesAgain.{front_is_at, four_is, range_again, range_length, rows_again, rows_length}
 
 -- ---- the first byte: version and flags
 

@@ -4,21 +4,22 @@ ghost use Rattle.std.specs.Prelude.{◌≡◌, ◌+◌, ◌*◌, ◌≤◌, ◌<
 ghost use Rattle.std.specs.List.{AllByRecursion};
 ghost use Rattle.arrayvec.specs.ArrayVec.{array_vec_len};
 ghost use Rattle.eh_tables.specs.declared.layout.TheConstants.{UNW_FLAG_CHAININFO};
-ghost use Rattle.eh_tables.specs.Written as spec;
+ghost use Rattle.eh_write.specs.Written as spec;
 
-use crate::code::{UnwindCode, UnwindOperation};
-use crate::layout::{
-    MOST_SLOT_BYTES, MOST_WHOLE_INFO_BYTES, RUNTIME_FUNCTION_SIZE, SCOPE_RECORD_SIZE,
-    UNW_FLAG_CHAININFO, UNW_FLAG_EHANDLER, UNW_FLAG_UHANDLER, UNWIND_VERSION, UWOP_ALLOC_LARGE,
-    UWOP_ALLOC_SMALL, UWOP_PUSH_MACHFRAME, UWOP_PUSH_NONVOL, UWOP_SAVE_NONVOL,
-    UWOP_SAVE_NONVOL_FAR, UWOP_SAVE_XMM128, UWOP_SAVE_XMM128_FAR, UWOP_SET_FPREG,
-};
-use crate::range::RuntimeFunction;
-use crate::scope::ScopeRecord;
 use crate::unwind_info::{Trailer, UnwindInfo};
 use arrayvec::ArrayVec;
+use eh_tables::layout::{
+    MOST_INFO_BYTES, MOST_SLOT_BYTES, RUNTIME_FUNCTION_SIZE, SCOPE_RECORD_SIZE, UNW_FLAG_CHAININFO,
+    UNW_FLAG_EHANDLER, UNW_FLAG_UHANDLER, UNWIND_VERSION, UWOP_ALLOC_LARGE, UWOP_ALLOC_SMALL,
+    UWOP_PUSH_MACHFRAME, UWOP_PUSH_NONVOL, UWOP_SAVE_NONVOL, UWOP_SAVE_NONVOL_FAR,
+    UWOP_SAVE_XMM128, UWOP_SAVE_XMM128_FAR, UWOP_SET_FPREG,
+};
+use eh_tables::{RuntimeFunction, ScopeRecord, UnwindCode, UnwindOperation};
 use pe_image::fields::{u16_bytes, u32_bytes};
 use std::alloc::AllocError;
+
+/// The most bytes of an info with what follows its slots, of which an entry is the longest.
+const MOST_WHOLE_INFO_BYTES: usize = MOST_INFO_BYTES + RUNTIME_FUNCTION_SIZE;
 
 /// The bytes of a code, and of an unwind info up to its end.
 type CodeBytes = ArrayVec<u8, 6>;
