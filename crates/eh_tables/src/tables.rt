@@ -2,11 +2,12 @@
 
 ghost use Rattle.std.specs.Prelude.{◌≡◌, ◌≤◌, ◌<◌, ◌/◌, ◌*◌, ◌^◌, length, slice_index_or, option_map, IfSome, IfOk, IfErr};
 ghost use Rattle.std.specs.Result.{result_ok};
+ghost use Rattle.eh_tables.specs.EitherEntries as either;
 ghost use Rattle.eh_tables.specs.Infos.{info};
 ghost use Rattle.eh_tables.specs.Records.{AreAt, scope_records_rva};
 ghost use Rattle.eh_tables.specs.Tables as spec;
 
-use crate::entry::{Entry, read_entry};
+use crate::entry::{Entry, read_entry, read_entry_of_either_version};
 use crate::info::{Info, read_info};
 use crate::known::check_entry;
 use crate::layout::RUNTIME_FUNCTION_SIZE;
@@ -101,6 +102,16 @@ impl<'image, 'bytes> Tables<'image, 'bytes> {
             self.range(index),
             false,
         )
+    }
+
+    /// The same where infos of version 2 are read too: only another version is refused. The codes
+    /// are those after the list of epilogues, which [`Info::epilogue_slots`] gives as it is stored.
+    pub fn entry_of_either_version(&self, index: u64) -> Result<Entry<'bytes>, TableErr>
+        requires { index < length self.now.ranges }
+        ensures { result ≡ either.entry_at self.now index }
+    {
+        let last = self.end_before(index);
+        read_entry_of_either_version(self.image, index, last, self.range(index))
     }
 
     /// Where the entry before an index ends.
