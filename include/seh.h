@@ -309,6 +309,15 @@ seh_status seh_scopes(const seh_view *view, uint32_t rva, seh_scope *scopes, siz
                       uint64_t *written);
 
 /*
+ * Finds the same where the caller knows which handler is __C_specific_handler, as by symbols: at the
+ * RVA `handler`, as unwind infos name it (seh_function has it). None are there where the entry's
+ * handler is another one. No import is read, and the order of the table isn't checked anew. The
+ * records are given as they are stored: their addresses may lie outside the image.
+ */
+seh_status seh_scopes_of(const seh_view *view, uint32_t rva, uint32_t handler, seh_scope *scopes,
+                         size_t room, uint64_t *written);
+
+/*
  * Tells whether the code of an image keeps its unwind information: of each entry, that each
  * instruction of its prologue is what its unwind code says, that its body leaves RSP, the frame
  * register and nonvolatile registers that aren't saved alone, and that its epilogues undo the

@@ -4,6 +4,7 @@ ghost use Rattle.std.specs.Prelude.{◌≡◌};
 ghost use Rattle.seh_c.specs.Answers.{Answers, WalkAnswers, FunctionAnswers, ScopeAnswers};
 ghost use Rattle.seh_views.specs.Callers.{unwound, found_in};
 ghost use Rattle.seh_views.specs.Modules.{AreViews, StackWalked};
+ghost use Rattle.seh_views.specs.NamedScopes.{named_in};
 ghost use Rattle.seh_views.specs.Scopes.{scopes_in};
 ghost use Rattle.seh_views.specs.Shapes as spec;
 ghost use Rattle.seh_views.specs.Statuses.{ok};
@@ -18,6 +19,7 @@ use seh_views::c_types::{
 };
 use seh_views::finding::find;
 use seh_views::modules::walk_stack;
+use seh_views::named_scopes::find_named_scopes;
 use seh_views::opening::open_view;
 use seh_views::refusal::{NO_FUNCTION, OK, status_of};
 use seh_views::scopes::find_scopes;
@@ -58,8 +60,8 @@ pub extern "C" fn seh_unwind(
     frame: &mut SehFrame,
 ) -> SehStatus
     ensures { views.IsViewOf view.now → Answers
-        (unwound (spec.is_own view.now) (spec.layout view.now) view.now.bytes.now view.now.base ranges.now
-        context.now)
+        (unwound (spec.is_own view.now) (spec.layout view.now) view.now.bytes.now view.now.base
+        ranges.now context.now)
         frame.old frame.new result }
 {
     match unwind(alloc, view, ranges, context) {
@@ -82,8 +84,8 @@ pub extern "C" fn seh_walk(
     count: &mut u64,
 ) -> SehStatus
     ensures { views.IsViewOf view.now → WalkAnswers
-        (walked_in (spec.is_own view.now) (spec.layout view.now) view.now.bytes.now view.now.base ranges.now
-        context.now frames.old)
+        (walked_in (spec.is_own view.now) (spec.layout view.now) view.now.bytes.now view.now.base
+        ranges.now context.now frames.old)
         frames.old frames.new count.new result }
 {
     match walk_image(alloc, view, ranges, context, frames) {
@@ -153,6 +155,33 @@ pub extern "C" fn seh_scopes(
         scopes.old scopes.new count.new result }
 {
     match find_scopes(alloc, view, rva, scopes) {
+        Ok(filled) => {
+            *count = filled.count;
+            filled.status
+        }
+        Err(refusal) => {
+            *count = 0;
+            status_of(refusal)
+        }
+    }
+}
+
+/// The same of an entry whose handler is the one at an address that the caller names. No import is
+/// read.
+#[unsafe(no_mangle)]
+pub extern "C" fn seh_scopes_of(
+    alloc: Global,
+    view: &SehView<'_>,
+    rva: u32,
+    handler: u32,
+    scopes: &mut [SehScope],
+    count: &mut u64,
+) -> SehStatus
+    ensures { views.IsViewOf view.now → ScopeAnswers
+        (named_in (spec.layout view.now) view.now.bytes.now rva handler scopes.old)
+        scopes.old scopes.new count.new result }
+{
+    match find_named_scopes(alloc, view, rva, handler, scopes) {
         Ok(filled) => {
             *count = filled.count;
             filled.status

@@ -42,9 +42,10 @@ module _ (t : Tables) where
         → Ok f ≡ function_numbered t k → Ok (Some f) ≡ found_at t rva
     one k f h is = go (entry_at t k) refl is ∙ ap asked h
       where
-        go : (r : Table Entry) → entry_at t k ≡ r → Ok f ≡ by_entry r → Ok (Some f) ≡ covering (entry_at t k)
-        go (Ok e) was is = ap (λ (g : SehFunction). (let a : Answer (Option SehFunction) = Ok (Some g)
-            in a)) (inside is) ∙ sym (ap covering was)
+        go : (r : Table Entry) → entry_at t k ≡ r → Ok f ≡ by_entry r
+            → Ok (Some f) ≡ covering (entry_at t k)
+        go (Ok e) was is = ap (λ (g : SehFunction). (let a : Answer (Option SehFunction)
+            = Ok (Some g) in a)) (inside is) ∙ sym (ap covering was)
           where
             inside : (let a : Answer SehFunction = Ok f in a) ≡ Ok (c_function e) → f ≡ c_function e
             inside h = cc
@@ -54,7 +55,8 @@ module _ (t : Tables) where
         → Err x ≡ function_numbered t k → Err x ≡ found_at t rva
     refused k x h is = go (entry_at t k) refl is ∙ ap asked h
       where
-        go : (r : Table Entry) → entry_at t k ≡ r → Err x ≡ by_entry r → Err x ≡ covering (entry_at t k)
+        go : (r : Table Entry) → entry_at t k ≡ r → Err x ≡ by_entry r
+            → Err x ≡ covering (entry_at t k)
         go (Ok e) was is = absurd cc
         go (Err y) was is = ap (λ (g : Refusal). (let a : Answer (Option SehFunction) = Err g
             in a)) (inside is) ∙ sym (ap covering was)

@@ -5,5 +5,6 @@ pub mod Known
 pub mod ModulesMore
 pub mod Opened
 pub mod RangesHeld
+pub mod RowsFilled
 pub mod Rests
 pub mod ViewsMade

@@ -9,3 +9,4 @@ pub mod Views
 pub mod Walks
 pub mod Modules
 pub mod Scopes
+pub mod NamedScopes

@@ -103,8 +103,8 @@ ModulesWalked vs ranges c old new w =
     (walked_of new w ≡ walk_modules vs ranges c old) ⊎ Unfinished vs ranges c old new w
 
 -- ranges that aren't in order are refused before the first frame
-abbrev pub WalkedOver : List SehView → List SehRange → SehContext → List SehFrame → List SehFrame → Walk
-    → Answer Unit → Type 0
+abbrev pub WalkedOver : List SehView → List SehRange → SehContext → List SehFrame → List SehFrame
+    → Walk → Answer Unit → Type 0
 WalkedOver vs ranges c old new w (Ok u) = ModulesWalked vs ranges c old new w
 WalkedOver vs ranges c old new w (Err e) = walked_of new w ≡ ended old 0 (refusal_status e)
 

@@ -279,11 +279,7 @@ pub fn halves(vectors: &[u128; NONVOLATILE_VECTORS]) -> [u64; VECTOR_HALVES]
 }
 
 /// Registers, as C sees them.
-pub fn c_context(
-    context: &Context,
-    vectors: [u64; VECTOR_HALVES],
-    has_vectors: u32,
-) -> SehContext
+pub fn c_context(context: &Context, vectors: [u64; VECTOR_HALVES], has_vectors: u32) -> SehContext
     ensures { result ≡ spec.c_context context.now vectors has_vectors }
 {
     let kept = &context.kept;

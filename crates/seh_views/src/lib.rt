@@ -11,6 +11,7 @@ pub mod c_types;
 pub mod codes;
 pub mod finding;
 pub mod modules;
+pub mod named_scopes;
 pub mod opening;
 mod own_profile;
 mod ranges;

@@ -20,7 +20,8 @@ pub struct Filled {
     pub status: SehStatus,
 }
 
-fn is_around(rva: u32, row: &ScopeRecord) -> bool
+/// Whether a record holds an address.
+pub fn is_around(rva: u32, row: &ScopeRecord) -> bool
     ensures { result ≡ spec.is_around rva row.now }
 {
     row.begin <= rva && rva < row.end

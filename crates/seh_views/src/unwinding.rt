@@ -9,7 +9,9 @@ ghost use Rattle.seh_views.specs.Ranges.{AreInOrder};
 ghost use Rattle.seh_views.specs.Shapes.{is_own, layout};
 ghost use Rattle.seh_views.specs.Views as views;
 
-use crate::c_types::{SehContext, SehRange, SehView, abi_context, index_of, is_own, layout_of_view};
+use crate::c_types::{
+    SehContext, SehRange, SehView, abi_context, index_of, is_own, layout_of_view,
+};
 use crate::opening::{open, unchecked_table_of};
 use crate::own_profile::own_next;
 use crate::ranges::check_ranges;

@@ -7,7 +7,9 @@ ghost use Rattle.seh_views.specs.Shapes.{is_own, layout};
 ghost use Rattle.seh_views.specs.Views as views;
 ghost use Rattle.seh_views.specs.Walks as spec;
 
-use crate::c_types::{SehContext, SehFrame, SehRange, SehStatus, SehView, c_frame, index_of, is_own, layout_of_view};
+use crate::c_types::{
+    SehContext, SehFrame, SehRange, SehStatus, SehView, c_frame, index_of, is_own, layout_of_view,
+};
 use crate::opening::{open, unchecked_table_of};
 use crate::ranges::check_ranges;
 use crate::refusal::{MORE, OK, Refusal, status_of};
@@ -89,7 +91,8 @@ fn walk_within(
 ) -> Result<Walk, Refusal>
     requires { AreInOrder ranges.now }
     ensures { views.IsKnown view.now image.now → spec.GivesWalk frames.old frames.new result
-        (spec.walk_within (is_own view.now) image.now view.now.base ranges.now context.now frames.old) }
+        (spec.walk_within (is_own view.now) image.now view.now.base ranges.now context.now
+        frames.old) }
 {
     let tables = match unchecked_table_of(image) {
         Ok(tables) => tables,
@@ -119,8 +122,8 @@ pub fn walk_image(
     frames: &mut [SehFrame],
 ) -> Result<Walk, Refusal>
     ensures { views.IsViewOf view.now → spec.GivesWalk frames.old frames.new result
-        (spec.walked_in (is_own view.now) (layout view.now) view.now.bytes.now view.now.base ranges.now
-        context.now frames.old) }
+        (spec.walked_in (is_own view.now) (layout view.now) view.now.bytes.now view.now.base
+        ranges.now context.now frames.old) }
 {
     if let Err(e) = check_ranges(ranges) {
         return Err(e);

@@ -11,8 +11,8 @@ returns-then-not-is_inside g c up =
     let t = c.args.tables.now in
     let n = length c.args.frames.now - c.loop-k.k in
     let i : is_inside c.args.base c.args.size c.loop-k.here ≡ false = search rules in
-    sym (frame_none c.args.own t c.args.base m c.args.size n (n - 1) c.loop-k.k c.loop-k.here c.loop-k.frames
-    (omega arith) i) ∙ c.loop-k.invariant.rest up
+    sym (frame_none c.args.own t c.args.base m c.args.size n (n - 1) c.loop-k.k c.loop-k.here
+    c.loop-k.frames (omega arith) i) ∙ c.loop-k.invariant.rest up
 
 pub returns-in-Err : goal.returns-in-Err
 returns-in-Err g c up =
@@ -34,10 +34,11 @@ loop-k-preserved g c =
     let i : is_inside c.args.base c.args.size c.loop-k.here ≡ true = search rules in
     record {
       room = search rules;
-      rest = λ up. ap (λ (f : SehFrame). walk_from c.args.own t c.args.base m c.args.size j (c.loop-k.k + 1)
-          c.in-Ok.found.caller (set c.loop-k.frames c.loop-k.k f)) c.c_frame.ensures
-          ∙ sym (frame_more c.args.own t c.args.base m c.args.size n j c.loop-k.k c.loop-k.here c.loop-k.frames
-          c.in-Ok.found (omega arith) i (sym (c.in-Ok.ensures up))) ∙ c.loop-k.invariant.rest up;
+      rest = λ up. ap (λ (f : SehFrame). walk_from c.args.own t c.args.base m c.args.size j
+          (c.loop-k.k + 1) c.in-Ok.found.caller (set c.loop-k.frames c.loop-k.k f))
+          c.c_frame.ensures
+          ∙ sym (frame_more c.args.own t c.args.base m c.args.size n j c.loop-k.k c.loop-k.here
+          c.loop-k.frames c.in-Ok.found (omega arith) i (sym (c.in-Ok.ensures up))) ∙ c.loop-k.invariant.rest up;
     }
 
 pub returns : goal.returns
@@ -49,6 +50,6 @@ returns g c up =
     ap (λ k. ended c.loop-k.frames k c.end.result) k_is
     ∙ ap (λ (s : SehStatus). ended c.loop-k.frames c.loop-k.k s)
     (c.end.ensures ∙ ap end c.is_inside-2.ensures)
-    ∙ sym (frames_over c.args.own t c.args.base m c.args.size n c.loop-k.k c.loop-k.here c.loop-k.frames
-    (omega arith))
+    ∙ sym (frames_over c.args.own t c.args.base m c.args.size n c.loop-k.k c.loop-k.here
+    c.loop-k.frames (omega arith))
     ∙ c.loop-k.invariant.rest up
