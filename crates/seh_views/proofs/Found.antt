@@ -14,7 +14,7 @@ use Rattle.seh_views.specs.declared.refusal.Refusal.TheVariants as refusals
 use Rattle.seh_views.specs.Callers.{function_numbered, found_at}
 use Rattle.seh_views.specs.Openings.{Answer, of_table}
 use Rattle.seh_views.specs.Shapes.{c_function}
-use Rattle.seh_views.specs.Views.{IsFound, IsFunctionAt}
+use Rattle.seh_views.specs.Views.{IsFunctionAt}
 
 module _ (t : Tables) where
   abbrev by_entry : Table Entry → Answer SehFunction

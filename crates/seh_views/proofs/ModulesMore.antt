@@ -1,5 +1,5 @@
 -- One frame of a walk through modules.
-use Rattle.std.proofs.Common.{◌≡◌, ℕ, zero, suc, ◌+◌, ◌-◌, ◌<◌, ◌≤◌, Bool, true, false, List, [], ◌∷◌, length, drop, get_or, Option, Some, None, Ok, Err, refl, sym, ap, subst, ◌∙◌, inl, inr, arith, set}
+use Rattle.std.proofs.Common.{◌≡◌, ℕ, zero, suc, ◌+◌, ◌-◌, ◌<◌, ◌≤◌, true, false, List, [], ◌∷◌, length, drop, get_or, Some, None, Ok, Err, refl, sym, ap, subst, ◌∙◌, inl, inr, arith, set}
 use Rattle.std.proofs.lemmas.List.{drop_all}
 use Rattle.seh_views.specs.declared.c_types.SehContext.{SehContext}
 use Rattle.seh_views.specs.declared.c_types.SehFrame.{SehFrame}
@@ -10,10 +10,10 @@ use Rattle.seh_views.specs.declared.refusal.Refusal.{Refusal}
 use Rattle.seh_views.specs.declared.refusal.Refusal.TheVariants as refusals
 use Rattle.seh_views.specs.declared.step.Step.{Step}
 use Rattle.seh_views.specs.declared.walking.Walk.{Walk}
-use Rattle.seh_views.specs.Modules.{AreViews, has_code, first_has, first_from, index_or, module_of, module_step, first_step, outside, end_in, with_step, by_module, modules_from, walk_modules, Unfinished, ModulesWalked}
+use Rattle.seh_views.specs.Modules.{AreViews, has_code, first_has, first_from, index_or, module_of, module_step, first_step, outside, end_in, with_step, by_module, modules_from, walk_modules, ModulesWalked}
 use Rattle.seh_views.specs.Openings.{Answer, Gives}
 use Rattle.seh_views.specs.Shapes.{c_frame}
-use Rattle.seh_views.specs.Statuses.{refusal_status, no_memory}
+use Rattle.seh_views.specs.Statuses.{refusal_status}
 use Rattle.seh_views.specs.Views.{IsViewOf}
 use Rattle.seh_views.specs.Walks.{Walked, walked_of, ended}
 

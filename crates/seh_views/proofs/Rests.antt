@@ -1,10 +1,8 @@
 -- What lies from an address on in a snapshot.
-use Rattle.std.proofs.Common.{◌≡◌, ℕ, zero, suc, ◌+◌, ◌-◌, ◌%◌, ◌^◌, ◌<◌, ◌≤◌, Bool, true, false, List, [], ◌∷◌, length, take, drop, get_or, refl, sym, ap, ◌∙◌, inl, inr, arith, length-drop}
+use Rattle.std.proofs.Common.{◌≡◌, ℕ, ◌+◌, ◌^◌, ◌<◌, ◌≤◌, List, [], ◌∷◌, length, take, drop, get_or, refl, sym, ap, ◌∙◌, inl, inr, arith, length-drop}
 use Rattle.std.specs.Prelude.{◌⊎◌}
-use Rattle.std.proofs.lemmas.Bool.{cases_lt}
 use Rattle.std.proofs.lemmas.List.{get_or-drop, get_or-take, length-take-le}
 use Rattle.flat_memory.specs.Memory.{distance}
-use Rattle.flat_memory.specs.declared.protection.TheConstants.{UNMAPPED}
 use Rattle.pe_image.specs.Image.{Image, AreAscending, section_at, stored_in}
 use Rattle.pe_image.proofs.Stored.{stored_after}
 use Rattle.x64_memory.specs.Pages.{IsRestOfPage}

@@ -4,7 +4,7 @@
 -- image on, in a file or mapped.
 --
 -- The main definition: `step_in`.
-use Rattle.std.specs.Prelude.{ℕ, ◌==◌, Bool, true, false, nat_lt, List, slice_index_or, Option, Some, None, option_map, Result, Ok, Err}
+use Rattle.std.specs.Prelude.{ℕ, Bool, true, false, nat_lt, List, slice_index_or, Option, Some, None, option_map, Result, Ok, Err}
 use Rattle.seh_num.specs.Answers.{◌>>=◌}
 use Rattle.flat_memory.specs.Memory.{Memory}
 use Rattle.pe_image.specs.declared.image_layout.ImageLayout.{ImageLayout}

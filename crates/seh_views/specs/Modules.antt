@@ -1,7 +1,7 @@
 -- A walk through frames whose code lies in several images.
 --
 -- The main definitions: `module_of`, `walk_modules`, `StackWalked`.
-use Rattle.std.specs.Prelude.{◌≡◌, ◌⊎◌, ◌<◌, ℕ, zero, suc, ◌+◌, ◌-◌, Bool, true, false, nat_lt, List, [], ◌∷◌, length, drop, slice_index_or, Option, Some, None, Result, Ok, Err, slice_set}
+use Rattle.std.specs.Prelude.{◌≡◌, ◌⊎◌, ◌<◌, ℕ, zero, suc, ◌+◌, ◌-◌, Bool, true, false, nat_lt, List, [], ◌∷◌, length, drop, slice_index_or, Option, Some, None, Ok, Err, slice_set}
 use Rattle.seh_num.specs.Answers.{◌>>=◌}
 use Rattle.seh_views.specs.declared.c_types.SehContext.{SehContext}
 use Rattle.virtual_unwind.specs.CallerOf.{distance}

@@ -1,7 +1,7 @@
 -- Ranges of memory that a caller passes: their order, and the bytes that they hold.
 --
 -- The main definitions: `AreInOrder`, `held`.
-use Rattle.std.specs.Prelude.{◌≡◌, ℕ, ◌+◌, ◌-◌, ◌^◌, Bool, true, false, ◌&&◌, nat_le, nat_lt, List, [], ◌∷◌, length, drop, Option, Some, None, Result, Ok, Err}
+use Rattle.std.specs.Prelude.{◌≡◌, ℕ, ◌+◌, ◌-◌, ◌^◌, Bool, true, false, ◌&&◌, nat_le, nat_lt, List, [], ◌∷◌, length, drop, Option, Some, None, Result, Ok}
 use Rattle.seh_num.specs.Answers.{unless, ◌>>=◌}
 use Rattle.seh_views.specs.declared.c_types.SehRange.{SehRange}
 use Rattle.seh_views.specs.declared.refusal.Refusal.{Refusal}

@@ -3,7 +3,7 @@
 -- SCOPE_TABLE_AMD64).
 --
 -- The main definition: `scopes_from`.
-use Rattle.std.specs.Prelude.{◌≡◌, ◌⊎◌, ℕ, ◌+◌, Bool, true, false, ◌&&◌, nat_le, nat_lt, List, [], ◌∷◌, length, Option, Some, None, Result, Ok, Err, slice_set}
+use Rattle.std.specs.Prelude.{◌≡◌, ℕ, ◌+◌, Bool, true, false, ◌&&◌, nat_le, nat_lt, List, [], ◌∷◌, length, Option, Some, None, Ok, Err, slice_set}
 use Rattle.seh_num.specs.Answers.{◌>>=◌}
 use Rattle.pe_image.specs.declared.image_layout.ImageLayout.{ImageLayout}
 use Rattle.pe_image.specs.Image.{Image}
@@ -16,7 +16,7 @@ use Rattle.seh_views.specs.declared.refusal.Refusal.TheVariants as refusals
 use Rattle.seh_views.specs.declared.scopes.Filled as code
 use Rattle.seh_views.specs.Openings.{Answer, of_table, opened_whole, table_of}
 use Rattle.seh_views.specs.Shapes.{c_scope}
-use Rattle.seh_views.specs.Statuses.{ok, more, no_function, refusal_status}
+use Rattle.seh_views.specs.Statuses.{ok, more, no_function}
 
 abbrev pub is_around : ℕ → ScopeRecord → Bool
 is_around rva s = nat_le s.begin rva && nat_lt rva s.end

@@ -1,5 +1,5 @@
 -- The statuses of answers, by their codes.
-use Rattle.std.specs.Prelude.{ℕ, Result, Ok, Err}
+use Rattle.std.specs.Prelude.{ℕ}
 use Rattle.pe_image.specs.declared.refusal.ImageErr.{ImageErr}
 use Rattle.pe_image.specs.declared.refusal.ImageErr.TheVariants as images
 use Rattle.eh_tables.specs.declared.refusal.TableErr.{TableErr}

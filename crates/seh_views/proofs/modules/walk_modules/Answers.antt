@@ -1,4 +1,4 @@
-use Rattle.std.proofs.Common.{rules, ◌≡◌, ◌+◌, ◌-◌, Some, None, refl, length, set, sym, ap, ◌∙◌, inl, arith}
+use Rattle.std.proofs.Common.{rules, ◌≡◌, ◌+◌, ◌-◌, None, refl, length, set, ap, ◌∙◌, inl, arith}
 use Rattle.seh_views.specs.declared.c_types.SehFrame.{SehFrame}
 use Rattle.seh_views.specs.declared.c_types.SehStatus.{SehStatus}
 use Rattle.seh_views.specs.Modules.{end_in, module_of, modules_from}

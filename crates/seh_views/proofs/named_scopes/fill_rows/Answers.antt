@@ -1,4 +1,4 @@
-use Rattle.std.proofs.Common.{rules, ◌≡◌, ◌+◌, ◌-◌, true, false, length, take, drop, set, sym, ap, ◌∙◌, arith}
+use Rattle.std.proofs.Common.{rules, ◌≡◌, ◌+◌, ◌-◌, true, false, length, take, drop, set, ap, ◌∙◌, arith}
 use Rattle.eh_tables.specs.Scopes.{scope_records_in}
 use Rattle.seh_views.specs.declared.c_types.SehScope.{SehScope}
 use Rattle.seh_views.specs.Scopes.{is_around, scopes_from}

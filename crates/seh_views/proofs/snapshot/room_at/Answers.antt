@@ -1,4 +1,3 @@
-use Rattle.std.proofs.Common.{arith}
 use Rattle.seh_views.proofs.RangesHeld.{are_placed, next_begins}
 use Rattle.seh_views.proofs.snapshot.room_at.Goals as goal
 

@@ -1,5 +1,4 @@
-use Rattle.std.proofs.Common.{◌≡◌, ◌+◌, ◌<◌, ◌≤◌, ◌^◌, ℕ, List, length, take, get_or, sym, ap, subst, ◌∙◌, inl, inr, arith, length-take}
-use Rattle.flat_memory.specs.Memory.{distance}
+use Rattle.std.proofs.Common.{◌≡◌, ◌<◌, ℕ, List, length, take, get_or, sym, ap, subst, ◌∙◌, inl, inr, arith, length-take}
 use Rattle.x64_memory.specs.Pages.{IsRestOfPage}
 use Rattle.seh_views.specs.declared.snapshot.TheConstants.{DATA}
 use Rattle.seh_views.specs.Ranges.{held}
