@@ -1,5 +1,5 @@
 -- The first stream of a kind, entry by entry as a loop looks for it.
-use Rattle.std.proofs.Common.{◌≡◌, ℕ, suc, ◌+◌, ◌-◌, ◌*◌, ◌<◌, ◌≤◌, Bool, true, false, cond, ◌==◌, List, [], find, Option, Some, None, refl, sym, ap, ◌∙◌, arith}
+use Rattle.std.proofs.Common.{◌≡◌, ℕ, suc, ◌+◌, ◌-◌, ◌*◌, ◌<◌, true, false, cond, ◌==◌, List, find, Option, Some, sym, ap, ◌∙◌, arith}
 use Rattle.std.proofs.lemmas.Bool.{eq-eqb, ne_eqb}
 use Rattle.minidump.specs.declared.stream_kind.StreamKind.{StreamKind}
 use Rattle.minidump.specs.declared.structures.Stream.{Stream}
@@ -30,7 +30,7 @@ pub found_first : (bytes : List ℕ) (t : Table) (kind : StreamKind) (k : ℕ) (
     → found_from bytes t kind k ≡ Some s
 found_first bytes t kind k s lt read is =
     let test : ((stream_at bytes (t.at + 12 * k)).stream_type == stream_type kind) ≡ true =
-        eq-eqb _ _ (sym (ap (λ (r : Stream). r.stream_type) read) ∙ is) in
+    eq-eqb _ _ (sym (ap (λ (r : Stream). r.stream_type) read) ∙ is) in
     found_more bytes t kind k lt
     ∙ ap (λ b. cond b (Some (stream_at bytes (t.at + 12 * k))) (found_from bytes t kind (k + 1)))
     test ∙ ap (λ (r : Stream). Some r) (sym read)
@@ -41,7 +41,7 @@ pub found_later : (bytes : List ℕ) (t : Table) (kind : StreamKind) (k : ℕ) (
     → found_from bytes t kind k ≡ found_from bytes t kind (k + 1)
 found_later bytes t kind k s lt read not =
     let test : ((stream_at bytes (t.at + 12 * k)).stream_type == stream_type kind) ≡ false =
-        ne_eqb _ _ (λ e. not (ap (λ (r : Stream). r.stream_type) read ∙ e)) in
+    ne_eqb _ _ (λ e. not (ap (λ (r : Stream). r.stream_type) read ∙ e)) in
     found_more bytes t kind k lt
     ∙ ap (λ b. cond b (Some (stream_at bytes (t.at + 12 * k))) (found_from bytes t kind (k + 1)))
     test

@@ -1,5 +1,5 @@
 -- Records that the file doesn't hold.
-use Rattle.std.proofs.Common.{◌≡◌, ℕ, ◌+◌, ◌*◌, ◌<◌, Bool, false, ◌&&◌, if◌then◌else◌, ltb, leb, List, length, Option, Some, None, ap, ◌∙◌, arith}
+use Rattle.std.proofs.Common.{◌≡◌, ℕ, ◌+◌, ◌*◌, ◌<◌, if◌then◌else◌, ltb, List, length, Some, None, ap}
 use Rattle.std.proofs.lemmas.Bool.{lt-leb, and_right}
 use Rattle.pe_image.specs.Field.{is_there}
 use Rattle.minidump.specs.declared.structures.Table.{Table}

@@ -1,7 +1,7 @@
 -- The registers of a thread (Windows headers, winnt.h: CONTEXT for x64).
 --
 -- The main definition: `context`.
-use Rattle.std.specs.Prelude.{ℕ, zero, suc, ◌+◌, ◌*◌, bit_and, not, ◌==◌, nat_le, List, [], ◌∷◌, Result, Ok, Err}
+use Rattle.std.specs.Prelude.{ℕ, zero, suc, ◌+◌, ◌*◌, bit_and, not, ◌==◌, nat_le, List, [], ◌∷◌, Result, Ok}
 use Rattle.seh_num.specs.Answers.{unless, ◌>>=◌}
 use Rattle.pe_image.specs.Field.{field}
 use Rattle.minidump.specs.declared.layout.TheConstants.{CONTEXT_SIZE, CONTEXT_FLAGS, CONTEXT_AMD64, MX_CSR, E_FLAGS, RAX, RIP, XMM0, REGISTER_COUNT}

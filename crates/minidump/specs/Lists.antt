@@ -3,7 +3,7 @@
 -- MINIDUMP_EXCEPTION_STREAM, MINIDUMP_SYSTEM_INFO).
 --
 -- The main definitions: `threads`, `thread_of`, `modules`, `module_of`, `text`, `exception`, `system_info`.
-use Rattle.std.specs.Prelude.{ℕ, zero, suc, ◌+◌, ◌*◌, ◌%◌, Bool, ◌&&◌, ◌==◌, nat_lt, nat_le, List, [], ◌∷◌, take, drop, if◌then◌else◌, option_map, Option, Some, None, Result, Ok, Err}
+use Rattle.std.specs.Prelude.{ℕ, zero, suc, ◌+◌, ◌*◌, ◌%◌, ◌&&◌, ◌==◌, nat_lt, nat_le, List, [], ◌∷◌, take, drop, if◌then◌else◌, option_map, Option, Some, None, Result, Ok}
 use Rattle.seh_num.specs.Answers.{unless, ◌>>=◌}
 use Rattle.pe_image.specs.Field.{field, is_there}
 use Rattle.minidump.specs.declared.layout.TheConstants.{COUNT_SIZE, THREAD_SIZE, THREAD_ID, SUSPEND_COUNT, PRIORITY_CLASS, PRIORITY, TEB, STACK, THREAD_CONTEXT, MODULE_SIZE, BASE_OF_IMAGE, SIZE_OF_IMAGE, CHECK_SUM, TIME_DATE_STAMP, MODULE_NAME_RVA, CV_RECORD, STRING_LENGTH_SIZE, UNIT_SIZE, START_OF_MEMORY_RANGE, MEMORY, EXCEPTION_STREAM_SIZE, EXCEPTION_THREAD_ID, EXCEPTION_CODE, EXCEPTION_FLAGS, EXCEPTION_RECORD, EXCEPTION_ADDRESS, NUMBER_PARAMETERS, EXCEPTION_INFORMATION, EXCEPTION_MAXIMUM_PARAMETERS, EXCEPTION_CONTEXT, SYSTEM_INFO_SIZE, PROCESSOR_ARCHITECTURE, MAJOR_VERSION, MINOR_VERSION, BUILD_NUMBER, PLATFORM_ID}

@@ -2,7 +2,7 @@
 -- MINIDUMP_MEMORY64_LIST).
 --
 -- The main definitions: `memory_list`, `range`, `memory64_list`, `range64`, `IsPlace`.
-use Rattle.std.specs.Prelude.{◌≡◌, ℕ, zero, suc, ◌+◌, ◌*◌, ◌&&◌, nat_le, List, Option, Some, None, Result, Ok, Err}
+use Rattle.std.specs.Prelude.{◌≡◌, ℕ, zero, suc, ◌+◌, ◌*◌, ◌≤◌, ◌&&◌, nat_le, List, length, Option, Some, None, Result, Ok}
 use Rattle.seh_num.specs.Answers.{unless, ◌>>=◌}
 use Rattle.pe_image.specs.Field.{field, is_there}
 use Rattle.minidump.specs.declared.layout.TheConstants.{MEMORY_DESCRIPTOR_SIZE, MEMORY64_LIST_SIZE, NUMBER_OF_MEMORY_RANGES, BASE_RVA, MEMORY_DESCRIPTOR64_SIZE, START_OF_MEMORY_RANGE, DATA_SIZE64}
@@ -17,6 +17,10 @@ use Rattle.minidump.specs.declared.structures.RangePlace.{RangePlace}
 use Rattle.minidump.specs.declared.structures.Table.{Table}
 use Rattle.minidump.specs.Streams.{held}
 use Rattle.minidump.specs.Lists.{list, record_at, memory_descriptor_at}
+
+-- the bytes of a range lie in the file
+abbrev pub IsInFile : List ℕ → MemoryRange → Type 0
+IsInFile bytes r = r.at + r.size ≤ length bytes
 
 -- a range that lies in the file; it is refused by its index
 abbrev pub range_in_file : List ℕ → ℕ → MemoryRange → Result (Option MemoryRange) DumpErr

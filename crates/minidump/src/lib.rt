@@ -14,8 +14,8 @@
 
 mod contexts;
 mod dump;
-pub mod layout;
 mod laws;
+pub mod layout;
 mod lists;
 mod memory;
 mod refusal;
@@ -27,9 +27,9 @@ mod worked;
 pub use dump::Minidump;
 pub use laws::places_follow;
 pub use refusal::DumpErr;
-pub use worked::worked_dump;
 pub use stream_kind::StreamKind;
 pub use structures::{
     Context, Exception, Location, M128A, Memory64List, MemoryDescriptor, MemoryRange, Module,
     RangePlace, Stream, SystemInfo, Table, Thread,
 };
+pub use worked::worked_dump;

@@ -16,9 +16,7 @@ use crate::layout::{
 };
 use crate::refusal::DumpErr;
 use crate::stream_kind::StreamKind;
-use crate::structures::{
-    Exception, Location, MemoryDescriptor, Module, SystemInfo, Table, Thread,
-};
+use crate::structures::{Exception, Location, MemoryDescriptor, Module, SystemInfo, Table, Thread};
 use pe_image::fields::{u16_at, u32_at, u64_at};
 
 impl MemoryDescriptor {

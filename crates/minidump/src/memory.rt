@@ -1,25 +1,33 @@
 //! The ranges of the process's memory.
 
-ghost use Rattle.std.specs.Prelude.{◌≡◌, ◌≤◌, ◌+◌, ◌*◌, length, IfOk, IfSome};
+ghost use Rattle.std.specs.Prelude.{◌≡◌, ◌≤◌, ◌+◌, length, take, drop, IfOk, IfSome};
 ghost use Rattle.minidump.specs.Memory as spec;
+ghost use Rattle.minidump.specs.Memory.{IsInFile};
 ghost use Rattle.minidump.specs.Streams.{AreWhole};
 
 use crate::dump::Minidump;
 use crate::layout::{
-    BASE_RVA, DATA_SIZE64, DIRECTORY_ENTRY_SIZE, MEMORY64_LIST_SIZE, MEMORY_DESCRIPTOR64_SIZE,
-    MEMORY_DESCRIPTOR_SIZE, NUMBER_OF_MEMORY_RANGES, START_OF_MEMORY_RANGE,
+    BASE_RVA, DATA_SIZE64, DIRECTORY_ENTRY_SIZE, MEMORY_DESCRIPTOR_SIZE, MEMORY_DESCRIPTOR64_SIZE,
+    MEMORY64_LIST_SIZE, NUMBER_OF_MEMORY_RANGES, START_OF_MEMORY_RANGE,
 };
 use crate::refusal::DumpErr;
 use crate::stream_kind::StreamKind;
-use crate::structures::{
-    Location, Memory64List, MemoryDescriptor, MemoryRange, RangePlace, Table,
-};
+use crate::structures::{Location, Memory64List, MemoryDescriptor, MemoryRange, RangePlace, Table};
 use pe_image::fields::u64_at;
 
 impl<'a> Minidump<'a> {
+    /// The bytes of a range that was read.
+    pub fn range_bytes(&self, range: MemoryRange) -> &'a [u8]
+        requires { IsInFile self.now range }
+        ensures { result.now ≡ take range.size (drop range.at self.now) }
+    {
+        &self.file()[range.at as usize..range.at as usize + range.size as usize]
+    }
+
     /// A range, if it lies in the file.
     fn range_in_file(&self, index: u64, range: MemoryRange) -> Result<Option<MemoryRange>, DumpErr>
-        ensures { result ≡ spec.range_in_file self.now index range }
+        ensures answer { result ≡ spec.range_in_file self.now index range }
+        ensures there { IfOk result (λ found. IfSome found (λ r. IsInFile self.now r)) }
     {
         if !self.has(range.at, range.size) {
             return Err(DumpErr::RangeTruncated { index });
@@ -39,7 +47,8 @@ impl<'a> Minidump<'a> {
 
     /// The range of an index, if there is one. It is refused if its bytes pass the end of the file.
     pub fn range(&self, ranges: Table, index: u64) -> Result<Option<MemoryRange>, DumpErr>
-        ensures { result ≡ spec.range self.now ranges index }
+        ensures answer { result ≡ spec.range self.now ranges index }
+        ensures there { IfOk result (λ found. IfSome found (λ r. IsInFile self.now r)) }
     {
         let Some(at) = self.record_at(ranges, MEMORY_DESCRIPTOR_SIZE, index) else {
             return Ok(None);
@@ -102,7 +111,8 @@ impl<'a> Minidump<'a> {
         ranges: Table,
         place: RangePlace,
     ) -> Result<Option<(MemoryRange, RangePlace)>, DumpErr>
-        ensures { result ≡ spec.range64 self.now ranges place }
+        ensures answer { result ≡ spec.range64 self.now ranges place }
+        ensures there { IfOk result (λ found. IfSome found (λ r. IsInFile self.now r.0)) }
     {
         let index = place.index;
         let at = place.at;

@@ -98,11 +98,7 @@ impl<'a> Minidump<'a> {
 
     /// Where the stream of a kind lies, by the directory; none if there is none. The first of that
     /// kind counts, and is refused if it passes the end of the file.
-    pub fn stream(
-        &self,
-        directory: Table,
-        kind: StreamKind,
-    ) -> Result<Option<Location>, DumpErr>
+    pub fn stream(&self, directory: Table, kind: StreamKind) -> Result<Option<Location>, DumpErr>
         requires { spec.AreWhole self.now DIRECTORY_ENTRY_SIZE directory }
         ensures answer { result ≡ spec.stream self.now directory kind }
         ensures there { IfOk result (λ found. IfSome found (λ l.

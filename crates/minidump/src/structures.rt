@@ -1,9 +1,11 @@
-//! What a minidump says, as numbers (Windows headers, minidumpapiset.h).
+//! What a minidump says, as numbers (Windows headers, minidumpapiset.h). C programs see them as
+//! they are.
 
 use crate::layout::{EXCEPTION_MAXIMUM_PARAMETERS, REGISTER_COUNT};
 
 /// Records of one size, one after another: where the first begins in the file, and how many there
 /// are.
+#[repr(C)]
 #[derive(Clone, Copy, Debug, PartialEq, Eq)]
 pub struct Table {
     pub at: u64,
@@ -11,6 +13,7 @@ pub struct Table {
 }
 
 /// Bytes of the file (MINIDUMP_LOCATION_DESCRIPTOR): how many, and the offset of the first.
+#[repr(C)]
 #[derive(Clone, Copy, Debug, PartialEq, Eq)]
 pub struct Location {
     pub size: u32,
@@ -18,6 +21,7 @@ pub struct Location {
 }
 
 /// An entry of the directory (MINIDUMP_DIRECTORY).
+#[repr(C)]
 #[derive(Clone, Copy, Debug, PartialEq, Eq)]
 pub struct Stream {
     pub stream_type: u32,
@@ -25,6 +29,7 @@ pub struct Stream {
 }
 
 /// A range of the process's memory (MINIDUMP_MEMORY_DESCRIPTOR): its address, and its bytes.
+#[repr(C)]
 #[derive(Clone, Copy, Debug, PartialEq, Eq)]
 pub struct MemoryDescriptor {
     pub start: u64,
@@ -32,6 +37,7 @@ pub struct MemoryDescriptor {
 }
 
 /// A thread (MINIDUMP_THREAD).
+#[repr(C)]
 #[derive(Clone, Copy, Debug, PartialEq, Eq)]
 pub struct Thread {
     pub thread_id: u32,
@@ -48,6 +54,7 @@ pub struct Thread {
 }
 
 /// A module (MINIDUMP_MODULE): an image that was loaded.
+#[repr(C)]
 #[derive(Clone, Copy, Debug, PartialEq, Eq)]
 pub struct Module {
     /// Where it lies in the process.
@@ -65,6 +72,7 @@ pub struct Module {
 
 /// A range of the process's memory: its address, how many bytes it has, and the file offset of the
 /// first.
+#[repr(C)]
 #[derive(Clone, Copy, Debug, PartialEq, Eq)]
 pub struct MemoryRange {
     pub start: u64,
@@ -74,6 +82,7 @@ pub struct MemoryRange {
 
 /// The 64-bit memory list (MINIDUMP_MEMORY64_LIST): its records, and the file offset of the bytes
 /// of the first range. Those of the others follow, range by range.
+#[repr(C)]
 #[derive(Clone, Copy, Debug, PartialEq, Eq)]
 pub struct Memory64List {
     pub ranges: Table,
@@ -81,6 +90,7 @@ pub struct Memory64List {
 }
 
 /// A place in a 64-bit memory list: the index of a range, and the file offset of its bytes.
+#[repr(C)]
 #[derive(Clone, Copy, Debug, PartialEq, Eq)]
 pub struct RangePlace {
     pub index: u64,
@@ -88,6 +98,7 @@ pub struct RangePlace {
 }
 
 /// What was raised, and by which thread (MINIDUMP_EXCEPTION_STREAM).
+#[repr(C)]
 #[derive(Clone, Copy, Debug, PartialEq, Eq)]
 pub struct Exception {
     pub thread_id: u32,
@@ -104,6 +115,7 @@ pub struct Exception {
 }
 
 /// The system on which the dump was made (MINIDUMP_SYSTEM_INFO).
+#[repr(C)]
 #[derive(Clone, Copy, Debug, PartialEq, Eq)]
 pub struct SystemInfo {
     pub processor_architecture: u16,
@@ -114,6 +126,7 @@ pub struct SystemInfo {
 }
 
 /// Sixteen bytes of a register (Windows headers, winnt.h, M128A).
+#[repr(C)]
 #[derive(Clone, Copy, Debug, PartialEq, Eq)]
 pub struct M128A {
     pub low: u64,
@@ -121,6 +134,7 @@ pub struct M128A {
 }
 
 /// The registers of a thread (Windows headers, winnt.h, CONTEXT for x64).
+#[repr(C)]
 #[derive(Clone, Copy, Debug, PartialEq, Eq)]
 pub struct Context {
     /// Which parts were filled.

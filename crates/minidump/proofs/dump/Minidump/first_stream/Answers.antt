@@ -1,4 +1,4 @@
-use Rattle.std.proofs.Common.{◌≡◌, ◌∙◌, sym, ap, List, ℕ, ◌+◌, ◌*◌, arith}
+use Rattle.std.proofs.Common.{◌∙◌, sym, ap, List, ℕ, ◌+◌, ◌*◌}
 use Rattle.minidump.specs.Streams.{stream_at}
 use Rattle.minidump.proofs.Found.{found_first, found_later}
 use Rattle.minidump.proofs.dump.Minidump.first_stream.Goals as goal

@@ -1,4 +1,4 @@
-use Rattle.std.proofs.Common.{◌≡◌, ◌∙◌, sym, arith}
+use Rattle.std.proofs.Common.{◌∙◌, sym, arith}
 use Rattle.minidump.proofs.Records.{past_end}
 use Rattle.minidump.proofs.dump.Minidump.record_at.Goals as goal
 
