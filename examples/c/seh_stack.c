@@ -1,7 +1,9 @@
 /*
- * seh_stack DUMP [FOLDER..]: prints what a minidump says of each thread: its frames with module, RVA,
- * the range of the function and the nearest name; and for the thread that raised an exception which
- * `__except` and `__finally` stand around each frame, in the order in which a search asks them.
+ * seh_stack [--frames] DUMP [FOLDER..]: prints what a minidump says of each thread: its frames with RIP,
+ * module and RVA, the range of the function, the nearest name and RSP; and for the thread that raised
+ * an exception which `__except` and `__finally` stand around each frame, in the order in which a search
+ * asks them. With --frames it prints a line for each thread whose frames are found, `t` and its number,
+ * and one for each of these frames: RIP, RSP, RBX, RBP, RSI, RDI, R12 to R15.
  *
  * The image of a module is taken from the dump's memory, where that has all of it, else from the first
  * folder that has a file of its name, of the size and time stamp that the dump says. The status is 0
@@ -15,187 +17,26 @@
 #include <stdlib.h>
 #include <string.h>
 
-#define MOST_FRAMES 1000 /* of a thread, so that no dump makes much of few bytes */
-
-/* RIP, RSP and the other nonvolatile integer registers. */
-static seh_context context_of(const seh_dump_registers *r)
-{
-    const uint64_t *n = r->integer;
-
-    return (seh_context){.rip = r->rip, .rsp = n[4], .rbx = n[3], .rbp = n[5], .rsi = n[6], .rdi = n[7],
-                         .r12 = n[12], .r13 = n[13], .r14 = n[14], .r15 = n[15]};
-}
-
-/* The __try records around a place of a module. */
-static void print_scopes(const struct module *m, uint32_t rva)
-{
-    seh_scope scopes[16];
-    uint64_t written;
-    seh_status status = seh_scopes(&m->view, rva, scopes, sizeof scopes / sizeof *scopes, &written);
-
-    for (uint64_t k = 0; k < written; k++) {
-        const seh_scope *s = &scopes[k];
-
-        if (s->jump_target == 0)
-            printf("       __finally %" PRIx32, s->handler_address);
-        else if (s->handler_address == 1)
-            printf("       __except %" PRIx32 ", always", s->jump_target);
-        else
-            printf("       __except %" PRIx32 ", if filter %" PRIx32 " says so", s->jump_target,
-                   s->handler_address);
-        printf(", of __try %" PRIx32 "..%" PRIx32 "\n", s->begin, s->end);
-    }
-    if (status.code != SEH_OK)
-        printf("       scopes: %s\n", seh_dump_code_name(status.code));
-}
-
-/* A line for a frame: its number, module, RVA, function and name. */
-static void print_frame(unsigned number, const struct module *m, uint64_t rip, const seh_context *c)
-{
-    seh_function function;
-    uint32_t rva;
-
-    printf("  %2u ", number);
-    if (!m) {
-        printf("%" PRIx64 " in no module", rip);
-    } else {
-        rva = (uint32_t)(rip - m->record.base);
-        printf("%s+%" PRIx32, m->name, rva);
-        if (m->open) {
-            bool found = seh_find_function(&m->view, rva, &function).code == SEH_OK;
-
-            if (found)
-                printf(" in %" PRIx32 "..%" PRIx32, function.begin, function.end);
-            print_name(m, rva, found ? function.begin : 0);
-        }
-    }
-    printf(", rsp %" PRIx64 "\n", c->rsp);
-}
-
-/* The frames of a module from a context on, which becomes that of the last one's caller. */
-static seh_status walk_module(struct stack_dump *d, const struct module *m, seh_context *context,
-                              unsigned *number, bool raised)
-{
-    seh_frame frames[16];
-    uint64_t written;
-    seh_status status = seh_walk(&m->view, d->ranges, d->range_count, context, frames,
-                                 sizeof frames / sizeof *frames, &written);
-
-    for (uint64_t k = 0; k < written; k++) {
-        print_frame((*number)++, m, context->rip, context);
-        if (raised && frames[k].has_handler)
-            print_scopes(m, (uint32_t)(context->rip - m->record.base));
-        *context = frames[k].caller;
-    }
-    return status;
-}
-
-/* The frames of a thread from its registers on. */
-static void print_frames(struct stack_dump *d, const seh_dump_registers *registers, bool raised)
-{
-    seh_context context = context_of(registers);
-    unsigned number = 0;
-
-    while (context.rip && number < MOST_FRAMES) {
-        struct module *m = module_at(d, context.rip);
-        seh_status status;
-
-        if (!m || !open_module(d, m)) {
-            print_frame(number, m, context.rip, &context);
-            if (m)
-                printf("     no image of %s is there: the walk ends\n", m->name);
-            return;
-        }
-        status = walk_module(d, m, &context, &number, raised);
-        if (status.code != SEH_OK && status.code != SEH_MORE) {
-            print_frame(number, m, context.rip, &context);
-            printf("     its caller isn't found: %s at %" PRIx64 "\n",
-                   seh_dump_code_name(status.code), status.at);
-            return;
-        }
-    }
-    if (context.rip)
-        printf("  ..\n");
-}
-
-/* The exception, and its thread; false where there is none. */
-static bool print_exception(struct stack_dump *d, seh_dump_exception_record *e)
-{
-    seh_status status = seh_dump_exception(d->dump.bytes, d->dump.size, e);
-    struct module *m;
-
-    if (status.code == SEH_DUMP_MISSING)
-        return false;
-    if (status.code != SEH_OK) {
-        printf("exception: %s\n", seh_dump_code_name(status.code));
-        return false;
-    }
-    printf("exception %" PRIx32 " at %" PRIx64, e->exception_code, e->exception_address);
-    if ((m = module_at(d, e->exception_address)))
-        printf(" (%s+%" PRIx64 ")", m->name, e->exception_address - m->record.base);
-    for (uint32_t k = 0; k < e->number_parameters && k < 15; k++)
-        printf("%s%" PRIx64, k ? ", " : ": ", e->information[k]);
-    printf(", in thread %" PRIx32 "\n", e->thread_id);
-    return true;
-}
-
-/* A thread with its frames: those from the exception on, where it raised one. */
-static void print_thread(struct stack_dump *d, const seh_dump_thread_record *t,
-                         const seh_dump_exception_record *e)
-{
-    seh_dump_registers registers;
-    seh_status status = seh_dump_context(&d->dump, e ? &e->context : &t->context, &registers);
-
-    printf("thread %" PRIx32 "\n", t->thread_id);
-    if (status.code != SEH_OK)
-        printf("  registers: %s\n", seh_dump_code_name(status.code));
-    else
-        print_frames(d, &registers, e != NULL);
-}
-
-static void print_dump(struct stack_dump *d)
-{
-    seh_dump_exception_record exception;
-    seh_dump_system_record system;
-    seh_dump_thread_record thread;
-    bool raised;
-
-    read_modules(d);
-    read_ranges(d);
-    printf("%" PRIu64 " threads, %zu modules, %zu ranges of memory\n", d->dump.threads.count,
-           d->module_count, d->range_count);
-    if (seh_dump_system(d->dump.bytes, d->dump.size, &system).code == SEH_OK &&
-        system.processor_architecture != 9)
-        printf("processor architecture %u: not x64\n", system.processor_architecture);
-    if (d->dump.threads_status.code != SEH_OK)
-        printf("threads: %s\n", seh_dump_code_name(d->dump.threads_status.code));
-    raised = print_exception(d, &exception);
-    for (uint64_t k = 0; seh_dump_thread(&d->dump, k, &thread).code == SEH_OK; k++)
-        print_thread(d, &thread, raised && thread.thread_id == exception.thread_id ? &exception : NULL);
-}
-
 int main(int argc, char **argv)
 {
-    struct stack_dump d = {.folders = argv + 2, .folder_count = argc - 2};
+    bool frames = argc > 1 && strcmp(argv[1], "--frames") == 0;
+    char **words = argv + 1 + frames;
     seh_status status;
     uint8_t *bytes;
     size_t size;
 
-    if (argc < 2) {
-        fprintf(stderr, "usage: seh_stack DUMP [FOLDER..]\n");
+    if (argc < 2 + frames) {
+        fprintf(stderr, "usage: seh_stack [--frames] DUMP [FOLDER..]\n");
         return 2;
     }
-    bytes = read_file(argv[1], &size);
+    bytes = read_file(words[0], &size);
     if (!bytes) {
-        perror(argv[1]);
+        perror(words[0]);
         return 2;
     }
-    status = seh_dump_open(bytes, size, &d.dump);
-    if (status.code == SEH_OK)
-        print_dump(&d);
-    else
+    status = print_stacks(bytes, size, frames, words + 1, argc - 2 - frames);
+    if (status.code != SEH_OK)
         printf("refused: %s, %" PRIx64 "\n", seh_dump_code_name(status.code), status.at);
-    free_dump(&d);
     free(bytes);
     return status.code != SEH_OK;
 }

@@ -2,7 +2,7 @@
 #include "stack_modules.h"
 
 #include <ctype.h>
-#include <inttypes.h>
+#include <limits.h>
 #include <stdio.h>
 #include <stdlib.h>
 #include <string.h>
@@ -26,7 +26,9 @@ uint8_t *read_file(const char *name, size_t *size)
 
     if (!file)
         return NULL;
-    if (fseek(file, 0, SEEK_END) || (end = ftell(file)) < 0 || fseek(file, 0, SEEK_SET)) {
+    /* the end of a folder is LONG_MAX */
+    if (fseek(file, 0, SEEK_END) || (end = ftell(file)) < 0 || end == LONG_MAX ||
+        fseek(file, 0, SEEK_SET)) {
         fclose(file);
         return NULL;
     }
@@ -100,8 +102,6 @@ void read_modules(struct stack_dump *d)
 {
     uint64_t count = d->dump.modules.count;
 
-    if (d->dump.modules_status.code != SEH_OK)
-        printf("modules: %s\n", seh_dump_code_name(d->dump.modules_status.code));
     d->modules = need(calloc(count + 1, sizeof *d->modules));
     for (d->module_count = 0; d->module_count < count; d->module_count++) {
         struct module *m = &d->modules[d->module_count];
@@ -154,7 +154,6 @@ static void sort_ranges(struct stack_dump *d)
 void read_ranges(struct stack_dump *d)
 {
     seh_dump_place place = {0, d->dump.base_rva};
-    uint64_t refused = 0;
     seh_status status;
 
     d->ranges = need(calloc(d->dump.ranges.count + d->dump.ranges64.count + 1, sizeof *d->ranges));
@@ -162,13 +161,12 @@ void read_ranges(struct stack_dump *d)
         if (seh_dump_range(&d->dump, k, &d->ranges[d->range_count]).code == SEH_OK)
             d->range_count++;
         else
-            refused++;
+            d->refused_ranges++;
     }
     while ((status = seh_dump_range64(&d->dump, &place, &d->ranges[d->range_count])).code == SEH_OK)
         d->range_count++;
-    if (refused || status.code != SEH_DUMP_MISSING)
-        printf("memory: %" PRIu64 " ranges aren't in the file\n",
-               refused + (d->dump.ranges64.count - place.index));
+    if (status.code != SEH_DUMP_MISSING)
+        d->refused_ranges += d->dump.ranges64.count - place.index;
     sort_ranges(d);
 }
 
@@ -280,8 +278,8 @@ static bool open_from_folder(struct module *m, const char *folder)
         return true;
     }
     if (m->owned)
-        printf("  (%s isn't the image of %s: another size or time stamp, or no image)\n", path,
-               m->name);
+        fprintf(stderr, "%s isn't the image of %s: another size or time stamp, or no image\n", path,
+                m->name);
     free(path);
     return false;
 }

@@ -1,4 +1,4 @@
-/* The modules of a dump with their images, for seh_stack.c. */
+/* The modules of a dump with their images, and its stacks, for seh_stack.c and bend_dumps.c. */
 #ifndef STACK_MODULES_H
 #define STACK_MODULES_H
 
@@ -21,8 +21,10 @@ struct stack_dump {
     size_t module_count;
     seh_range *ranges; /* in order, without overlaps */
     size_t range_count;
+    uint64_t refused_ranges; /* how many aren't in the file */
     size_t gathered; /* how many bytes of images were gathered from ranges */
-    char **folders;  /* where images are looked for */
+    bool frames_alone; /* of each frame RIP and the nonvolatile registers alone are printed */
+    char **folders;    /* where images are looked for */
     int folder_count;
 };
 
@@ -32,7 +34,7 @@ void *need(void *memory);
 /* Reads a file whole; null where it can't be read. The bytes are the caller's. */
 uint8_t *read_file(const char *name, size_t *size);
 
-/* Reads the lists of modules and of memory; what is refused is said. */
+/* Reads the lists of modules and of memory. */
 void read_modules(struct stack_dump *d);
 void read_ranges(struct stack_dump *d);
 
@@ -48,5 +50,9 @@ bool open_module(struct stack_dump *d, struct module *m);
 void print_name(const struct module *m, uint32_t rva, uint32_t begin);
 
 void free_dump(struct stack_dump *d);
+
+/* Prints the stacks of a dump; nothing where it is refused. */
+seh_status print_stacks(const uint8_t *bytes, size_t size, bool frames_alone, char **folders,
+                        int folder_count);
 
 #endif

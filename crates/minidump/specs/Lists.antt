@@ -2,7 +2,8 @@
 -- minidumpapiset.h: MINIDUMP_THREAD_LIST, MINIDUMP_MODULE_LIST, MINIDUMP_STRING,
 -- MINIDUMP_EXCEPTION_STREAM, MINIDUMP_SYSTEM_INFO).
 --
--- The main definitions: `threads`, `thread_of`, `modules`, `module_of`, `text`, `exception`, `system_info`.
+-- The main definitions: `threads`, `thread_of`, `modules`, `module_of`, `text`, `exception`,
+-- `system_info`.
 use Rattle.std.specs.Prelude.{ℕ, zero, suc, ◌+◌, ◌*◌, ◌%◌, ◌&&◌, ◌==◌, nat_lt, nat_le, List, [], ◌∷◌, take, drop, if◌then◌else◌, option_map, Option, Some, None, Result, Ok}
 use Rattle.seh_num.specs.Answers.{unless, ◌>>=◌}
 use Rattle.pe_image.specs.Field.{field, is_there}

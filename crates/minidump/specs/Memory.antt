@@ -38,7 +38,8 @@ range_of d = record { start = d.start; size = d.memory.size; at = d.memory.rva }
 
 abbrev pub range_if_there : List ℕ → ℕ → Option ℕ → Result (Option MemoryRange) DumpErr
 range_if_there bytes index None = Ok None
-range_if_there bytes index (Some at) = range_in_file bytes index (range_of (memory_descriptor_at bytes at))
+range_if_there bytes index (Some at) =
+    range_in_file bytes index (range_of (memory_descriptor_at bytes at))
 
 -- the range of an index, if there is one
 abbrev pub range : List ℕ → Table → ℕ → Result (Option MemoryRange) DumpErr
@@ -90,7 +91,8 @@ range64_if_there bytes place (Some offset) =
 
 -- the range at a place, and the place after it, if there is one. The bytes of a range begin where
 -- those of the range before end, so where one is refused no later one lies in the file
-abbrev pub range64 : List ℕ → Table → RangePlace → Result (Option (MemoryRange × RangePlace)) DumpErr
+abbrev pub range64 : List ℕ → Table → RangePlace
+    → Result (Option (MemoryRange × RangePlace)) DumpErr
 range64 bytes t place =
     range64_if_there bytes place (record_at bytes t MEMORY_DESCRIPTOR64_SIZE place.index)
 

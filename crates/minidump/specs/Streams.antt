@@ -29,7 +29,10 @@ bytes_at bytes at size = if is_there bytes at size then Some (take size (drop at
 
 -- MINIDUMP_LOCATION_DESCRIPTOR
 abbrev pub location_at : List ℕ → ℕ → Location
-location_at bytes at = record { size = field 4 bytes (at + DATA_SIZE); rva = field 4 bytes (at + RVA) }
+location_at bytes at = record {
+  size = field 4 bytes (at + DATA_SIZE);
+  rva = field 4 bytes (at + RVA);
+}
 
 abbrev pub is_in_file : List ℕ → Location → Bool
 is_in_file bytes l = is_there bytes l.rva l.size

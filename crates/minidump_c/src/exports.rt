@@ -112,8 +112,8 @@ pub extern "C" fn seh_dump_range<'a>(
     index: u64,
     range: &mut SehRange<'a>,
 ) -> SehStatus
-    ensures { spec.RangeAnswers dump.now.bytes.now (range_of_index dump.now.bytes.now dump.now.memory index)
-        range.old range.new result }
+    ensures { spec.RangeAnswers dump.now.bytes.now
+        (range_of_index dump.now.bytes.now dump.now.memory index) range.old range.new result }
 {
     let file = Minidump::new(dump.bytes);
     match file.range(dump.memory, index) {

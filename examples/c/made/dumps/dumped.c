@@ -105,9 +105,11 @@ static u32 storing(void *argument)
 
 static KEEP u64 turn(u64 n)
 {
-    while (n)
+    volatile u64 left[4] = {n}; /* so that it is no leaf function */
+
+    while (left[0])
         turns++;
-    return n;
+    return left[0];
 }
 
 static KEEP u64 turn_with_locals(u64 n)
