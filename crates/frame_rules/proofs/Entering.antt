@@ -98,7 +98,8 @@ module _ (f offset back n : ℕ) (e : State) (entry : IsEntry n e) (small : offs
       (its xs ys : List FetchedInstr) (s t : State)
       → let st : PrologueStep = record { code = c; items = its } in
       ArePrologueSteps f offset at (st ∷ ss) → AtMost at done → Good f n (operations (c ∷ done))
-      → Follows f c.operation (operations done) → its ++ items ss ≡ xs ++ ys → Running f offset e back (operations done) s
+      → Follows f c.operation (operations done) → its ++ items ss ≡ xs ++ ys
+      → Running f offset e back (operations done) s
       → RunsThrough s xs t
       → ((xs : List FetchedInstr) (s : State) → items ss ≡ xs ++ ys
       → Running f offset e back (operations (c ∷ done)) s → RunsThrough s xs t
@@ -186,5 +187,6 @@ module _ (f offset back n : ℕ) (e : State) (entry : IsEntry n e) (small : offs
   entering at done [] (x ∷ xs) ys s t h m g fo same run runs = absurd cc
   entering at done (st ∷ ss) xs ys s t h m g fo same run runs =
       by_items at done st.code ss st.items xs ys s t h m (good_done f n (st.code ∷ done) ss g)
-      (follow_done f (st.code ∷ done) ss fo).0 same run runs (λ xs' s' same' run' runs'. entering (at + bytes st.items) (st.code ∷ done) ss xs'
-      ys s' t h.1 (let end = h.0.ends in omega arith) g fo same' run' runs')
+      (follow_done f (st.code ∷ done) ss fo).0 same run runs
+      (λ xs' s' same' run' runs'. entering (at + bytes st.items) (st.code ∷ done) ss xs' ys s' t
+      h.1 (let end = h.0.ends in omega arith) g fo same' run' runs')

@@ -196,8 +196,8 @@ does_step f offset back n a e s u SetFrame ops (instrs.LoadAddress W64 to m) ent
     framed_step f offset back n a e s u ops to m entry small (eqb-true (number to) f parts.0)
     parts.1 (and_parts (not (eqb f 0)) (is_saved f ops) is).1 allowed p run ef
 does_step f offset back n a e s u (Save r k) ops
-    (instrs.Move W64 (places.Memory m) (operands.Register q)) entry small deep is allowed (save o) fo
-    d run ef =
+    (instrs.Move W64 (places.Memory m) (operands.Register q)) entry small deep is allowed (save o)
+    fo d run ef =
     let parts = and_parts (eqb (number q) r) (is_place f offset k m) d in
     let same : number q ≡ r = eqb-true (number q) r parts.0 in
     let may = and_parts (may_save r ops) (leb (k + 8) (allocation ops) && are_apart k ops) is in

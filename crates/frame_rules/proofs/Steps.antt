@@ -352,7 +352,8 @@ save_effect s a v at q m place val may =
 
 pub saved_step : (f offset back n a k : ℕ) (e s u : State) (ops : List UnwindOperation) (q : Reg)
     (m : MemRef) → IsEntry n e → depth ops ≤ n → is_place f offset k m ≡ true
-    → (f ≢ 0 → sets_frame ops ≡ true) → may_save (number q) ops ≡ true → k + 8 ≤ allocation ops → are_apart k ops ≡ true → Ordered ops
+    → (f ≢ 0 → sets_frame ops ≡ true) → may_save (number q) ops ≡ true
+    → k + 8 ≤ allocation ops → are_apart k ops ≡ true → Ordered ops
     → Running f offset e back ops s → effect (with_rip s a)
     (instrs.Move W64 (places.Memory m) (operands.Register q)) ≡ Ok u
     → Running f offset e back (Save (number q) k ∷ ops) u

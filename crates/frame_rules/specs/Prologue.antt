@@ -40,8 +40,8 @@ abbrev pub is_place : ℕ → ℕ → ℕ → MemRef → Bool
 is_place f offset n a =
     is_stack n a || (is_of f a.base a.index && ((offset + a.displacement) % 2 ^ 64 == n))
 
--- a save comes after the instruction that sets the frame register (`is_ordered`), so that this tells
--- its place too
+-- a save comes after the instruction that sets the frame register (`is_ordered`), so that this
+-- tells its place too
 abbrev pub does : ℕ → ℕ → UnwindOperation → Instr → Bool
 does f offset (Push r) (instrs.Push q) = number q == r
 does f offset (Allocate n) (instrs.Arithmetic Sub W64 (places.Register Rsp) (operands.Immediate v))

@@ -107,7 +107,7 @@ leaves_by_rbp = 0x48 ∷ 0x8D ∷ 0xA5 ∷ 0x80 ∷ 0x00 ∷ 0x00 ∷ 0x00 ∷ 0
 abbrev pub leaves_too_low : List ℕ
 leaves_too_low = 0x48 ∷ 0x8D ∷ 0xA5 ∷ 0x78 ∷ 0x00 ∷ 0x00 ∷ 0x00 ∷ 0x5D ∷ 0xC3 ∷ []
 
--- ---- push rbp, sub rsp,64, lea rbp,[rsp+32], mov [rbp+8],r12: the place of r12 is 40 above the base
+-- ---- push rbp, sub rsp,64, lea rbp,[rsp+32], mov [rbp+8],r12: r12 is saved 40 above the base
 
 abbrev pub framed_saving : Info
 framed_saving =
