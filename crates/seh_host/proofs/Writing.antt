@@ -114,16 +114,16 @@ module _ (n k : ℕ) (trace : Bool) (r r' : Running) (x z : Writer) (le : k ≤ 
 -- ---- one turn more, with the lines of what it shows
 
 -- lines with the names of what runs
-lines_named : {X : Type 0} (taken : X → Option (List ℕ)) (faults : X → Faults) (l n : Lines X ImageNames)
-    (rows : List NameRow) (es : List Event) → l.names.now.table ≡ rows
+lines_named : {X : Type 0} (taken : X → Option (List ℕ)) (faults : X → Faults)
+    (l n : Lines X ImageNames) (rows : List NameRow) (es : List Event) → l.names.now.table ≡ rows
     → TookEvents taken faults image_named l es n
     → Wrote (writer_of taken faults l) (lines l.trace es (named_by rows)) (writer_of taken faults n)
 lines_named taken faults l n rows es same took =
     subst (λ (named : List NameRow). Wrote (writer_of taken faults l)
     (lines l.trace es (named_by named)) (writer_of taken faults n)) same took.wrote
 
-module _ {X : Type 0} (taken : X → Option (List ℕ)) (faults : X → Faults) (l0 l n : Lines X ImageNames)
-    (count i : ℕ) (r0 r r' : Running)
+module _ {X : Type 0} (taken : X → Option (List ℕ)) (faults : X → Faults)
+    (l0 l n : Lines X ImageNames) (count i : ℕ) (r0 r r' : Running)
     (at : r ≡ made i r0) (is : l.failed ≡ false) (same : l0.names.now.table ≡ r0.functions.rows)
     (took : TookEvents taken faults image_named l0 (shown_made i r0) l) (goes : r' ≡ after_turn r)
     (shows : TookEvents taken faults image_named l (shown_of r) n) where

@@ -10,8 +10,8 @@ use Rattle.seh_io.specs.Streams.{Faults, Lost, Faultless, Faulted}
 abbrev pub LostAtMost : ℕ → Option (List ℕ) → Option (List ℕ) → Type 0
 LostAtMost most left left' = (bytes : List ℕ) × (length bytes ≤ most) × Lost left bytes left'
 
--- a fault is the source's own, and ends the reading; what is too long holds more than the limit, and
--- one byte more was read
+-- a fault is the source's own, and ends the reading; what is too long holds more than the limit,
+-- and one byte more was read
 abbrev pub ReadHasCause : ℕ → Option (List ℕ) → Option (List ℕ) → Faults → Faults → ReadErr
     → Type 0
 ReadHasCause limit left left' faults faults' Fault = Faulted faults faults'
