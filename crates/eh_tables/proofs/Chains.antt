@@ -6,7 +6,7 @@ use Rattle.std.proofs.lemmas.List.{append-nil}
 use Rattle.eh_tables.specs.Words.{Image, RuntimeFunction, TableErr, ◌>>=◌, unless, onto, prepend, Table, Info, info, Entry, parents, entry}
 use Rattle.eh_tables.specs.declared.refusal.TableErr.TheVariants as refusals
 
-onto_more : {A : Type 0} (xs : List A) (x : A) (r : Result (List A) TableErr)
+pub onto_more : {A : Type 0} (xs : List A) (x : A) (r : Result (List A) TableErr)
     → onto xs (prepend x r) ≡ onto (xs ++ (x ∷ [])) r
 onto_more {A = A} xs x (Ok ys) = ap (λ (t : List A). Ok t) (sym (append_assoc xs (x ∷ []) ys))
 onto_more xs x (Err e) = refl

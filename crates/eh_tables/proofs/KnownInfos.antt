@@ -16,7 +16,7 @@ use Rattle.eh_tables.proofs.Lookups.{given, prepended}
 
 -- ---- what one entry is answered, another is answered
 
-carried : {A B : Type 0} (t u : Table A) (f g : A → Table B) (y : B)
+pub carried : {A B : Type 0} (t u : Table A) (f g : A → Table B) (y : B)
     → ((x : A) → t ≡ Ok x → u ≡ Ok x) → ((x : A) → f x ≡ Ok y → g x ≡ Ok y) → t >>= f ≡ Ok y
     → u >>= g ≡ Ok y
 carried (Ok x) u f g y first then h = ap (λ r. r >>= g) (first x refl) ∙ then x h

@@ -1,15 +1,15 @@
 pub mod Answer
 pub mod Codes
 pub mod Covering
+pub mod EitherEntries
+pub mod EitherInfos
 pub mod Found
 pub mod Handler
 pub mod Infos
 pub mod Known
-pub mod ReadAgain
 pub mod Records
 pub mod Refusals
 pub mod Scopes
 pub mod SeenRecords
 pub mod Tables
-pub mod Written
 pub mod Words

@@ -168,10 +168,10 @@ fn check_from(
     }
 }
 
-/// Checks the codes of an info's slots.
-pub fn check_codes(index: u64, framed: bool, slots: &[u8]) -> Result<(), TableErr>
-    requires { length slots.now ≤ MOST_SLOT_BYTES }
-    ensures { result ≡ spec.checked index framed 0 255 0 slots.now }
+/// Checks the codes of an info's slots, of which so many others come before.
+pub fn check_codes(index: u64, framed: bool, first: u64, slots: &[u8]) -> Result<(), TableErr>
+    requires { 2 * first + length slots.now ≤ MOST_SLOT_BYTES }
+    ensures { result ≡ spec.checked index framed first 255 0 slots.now }
 {
-    check_from(index, framed, 0, 255, 0, slots)
+    check_from(index, framed, first, 255, 0, slots)
 }

@@ -3,6 +3,7 @@
 
 ghost use Rattle.std.specs.Prelude.{◌≡◌, ◌<◌, length, IfSome};
 ghost use Rattle.eh_tables.specs.Covering as spec;
+ghost use Rattle.eh_tables.specs.EitherEntries as either;
 
 use crate::entry::{Entry, check_range};
 use crate::lookup::FunctionEntry;
@@ -63,7 +64,25 @@ impl<'image, 'bytes> Tables<'image, 'bytes> {
         }
     }
 
-    /// The same without the infos that its own is chained to, which aren't read.
+    /// The same, refused as by [`Tables::entry_of_either_version`].
+    pub fn entry_covering_of_either_version(
+        &self,
+        rva: u64,
+    ) -> Result<Option<Entry<'bytes>>, TableErr>
+        requires { spec.RangesAscend self.now.ranges }
+        ensures { result ≡ either.entry_covering self.now rva }
+    {
+        match self.index_covering(rva) {
+            None => Ok(None),
+            Some(index) => match self.entry_of_either_version(index) {
+                Ok(entry) => Ok(Some(entry)),
+                Err(refusal) => Err(refusal),
+            },
+        }
+    }
+
+    /// As [`Tables::entry_covering`], without the infos that its own is chained to: they aren't
+    /// read.
     pub fn function_covering(&self, rva: u64) -> Result<Option<FunctionEntry<'bytes>>, TableErr>
         requires { spec.RangesAscend self.now.ranges }
         ensures { result ≡ spec.function_covering self.now rva }

@@ -1,12 +1,14 @@
 //! Entries with their unwind infos.
 
-ghost use Rattle.std.specs.Prelude.{◌≡◌, ◌≤◌, true, length, IsOk};
+ghost use Rattle.std.specs.Prelude.{◌≡◌, ◌≤◌, ◌-◌, true, length, IsOk};
 ghost use Rattle.arrayvec.specs.ArrayVec.{array_vec_len};
+ghost use Rattle.eh_tables.specs.EitherEntries as either;
 ghost use Rattle.eh_tables.specs.Known as known;
 ghost use Rattle.eh_tables.specs.Tables as spec;
+ghost use Rattle.seh_num.specs.Answers.{onto};
 
 use crate::codes::Codes;
-use crate::info::{Info, read_info};
+use crate::info::{Info, read_info, read_info_of_either_version};
 use crate::layout::MOST_PARENTS;
 use crate::range::RuntimeFunction;
 use crate::refusal::TableErr;
@@ -121,6 +123,52 @@ pub fn read_entry<'a>(
     check_range(index, last, range)?;
     let info = read_info(image, index, range.unwind_info, is_known)?;
     let parents = read_parents(image, index, info.parent(), is_known)?;
+    Ok(Entry {
+        range,
+        info,
+        parents,
+    })
+}
+
+/// Appends the infos that one is chained to, of version 1 or 2, from that entry on.
+#[tactic(auto, using(crate::proofs::EitherChains::chain_steps))]
+fn add_parents<'a>(
+    image: &ImageView<'a>,
+    index: u64,
+    next: Option<RuntimeFunction>,
+    parents: &mut ArrayVec<Info<'a>, MOST_PARENTS>,
+) -> Result<(), TableErr>
+    requires { length parents.old.items ≤ MOST_PARENTS }
+    ensures { either.appended result parents.new.items ≡ onto parents.old.items
+        (either.parents (MOST_PARENTS - length parents.old.items) image.now index next) }
+{
+    match next {
+        None => Ok(()),
+        Some(_) if parents.len() == MOST_PARENTS => Err(TableErr::ChainLong { index }),
+        Some(range) => {
+            let info = read_info_of_either_version(image, index, range.unwind_info)?;
+            let parent = info.parent();
+            parents.push(info);
+            add_parents(image, index, parent, parents)
+        }
+    }
+}
+
+/// Reads the entry of that index and range, whose infos have version 1 or 2, after one that ends at
+/// `last`.
+#[tactic(auto, unfolding(crate::specs::EitherEntries::entry))]
+pub fn read_entry_of_either_version<'a>(
+    image: &ImageView<'a>,
+    index: u64,
+    last: u32,
+    range: RuntimeFunction,
+) -> Result<Entry<'a>, TableErr>
+    ensures { result ≡ either.entry image.now index last range }
+{
+    check_range(index, last, range)?;
+    let info = read_info_of_either_version(image, index, range.unwind_info)?;
+    let mut parents = ArrayVec::new();
+    add_parents(image, index, info.parent(), &mut parents)?;
     Ok(Entry {
         range,
         info,

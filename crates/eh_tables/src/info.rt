@@ -2,17 +2,19 @@
 
 ghost use Rattle.std.specs.Prelude.{◌≡◌, ◌≤◌, ◌+◌, ◌*◌, ◌<◌, ◌^◌, true, length, take, option_map, IfOk, IsOk};
 ghost use Rattle.eh_tables.specs.declared.layout.TheConstants.{UNW_FLAG_CHAININFO};
+ghost use Rattle.eh_tables.specs.EitherInfos as either;
 ghost use Rattle.eh_tables.specs.Infos as spec;
 ghost use Rattle.eh_tables.specs.Known as known;
 ghost use Rattle.eh_tables.specs.Records as records;
 ghost use Rattle.eh_tables.specs.Scopes as scopes;
 
 use crate::codes::{Codes, check_codes};
+use crate::epilogues::leading_epilogues;
 use crate::handler::is_c_handler;
 use crate::layout::{
     COUNT_OF_CODES, FRAME_REGISTER_AND_OFFSET, HANDLER_SIZE, MOST_INFO_BYTES, MOST_SLOT_BYTES,
     RUNTIME_FUNCTION_SIZE, SCOPE_COUNT_SIZE, SCOPE_RECORD_SIZE, SIZE_OF_PROLOG, UNW_FLAG_CHAININFO,
-    UNWIND_CODES, UNWIND_VERSION, VERSION_AND_FLAGS,
+    UNWIND_CODES, UNWIND_VERSION, UNWIND_VERSION_2, VERSION_AND_FLAGS,
 };
 use crate::range::{RuntimeFunction, read_range};
 use crate::refusal::TableErr;
@@ -32,7 +34,8 @@ pub struct Info<'a> {
 }
 
 impl<'a> Model for Info<'a> {
-    ghost use Rattle.eh_tables.specs.Infos.{Info, info_of, HasParts};
+    ghost use Rattle.eh_tables.specs.Infos.{Info, HasParts};
+    ghost use Rattle.eh_tables.specs.EitherInfos.{info_of};
 
     ghost Value = { Info };
 
@@ -96,8 +99,25 @@ impl<'a> Info<'a> {
     {
         Codes::new(
             self.bytes[FRAME_REGISTER_AND_OFFSET] % 16 != 0,
-            slots_of(self.bytes),
+            code_slots(self.bytes),
         )
+    }
+
+    /// Its version: 1, or 2 where it was read by
+    /// [`Tables::entry_of_either_version`](crate::Tables::entry_of_either_version).
+    #[tactic(auto, using(crate::proofs::Headers::version_kept))]
+    pub fn version(&self) -> u8
+        ensures { result ≡ spec.version self.now.bytes }
+    {
+        self.bytes[VERSION_AND_FLAGS] % 8
+    }
+
+    /// The slots of its list of epilogues, which come before those of its codes: none in version 1.
+    #[tactic(auto, using(crate::proofs::Headers::epilogues_kept))]
+    pub fn epilogue_slots(&self) -> &'a [u8]
+        ensures { result.now ≡ either.epilogue_slots self.now.bytes }
+    {
+        &slots_of(self.bytes)[..2 * listed(self.bytes)]
     }
 
     /// The address of its handler, where a flag says that it has one.
@@ -167,11 +187,41 @@ fn slots_of<'a>(bytes: &'a [u8]) -> &'a [u8]
     &bytes[UNWIND_CODES..UNWIND_CODES + 2 * bytes[COUNT_OF_CODES] as usize]
 }
 
-/// Header, slots and what follows them, where they are stored.
-#[tactic(auto, unfolding(crate::specs::Infos::stored_info))]
-fn stored_info<'a>(image: &ImageView<'a>, index: u64, rva: u32) -> Result<&'a [u8], TableErr>
-    ensures answer { spec.shown result ≡ spec.stored_info image.now index rva }
+/// How many slots of epilogues there are before those of codes.
+fn listed(bytes: &[u8]) -> usize
+    requires { spec.HasParts bytes.now }
+    ensures value { result ≡ either.listed bytes.now }
+    ensures fits { 2 * result ≤ length (spec.slots_of bytes.now) }
+    ensures few { length (spec.slots_of bytes.now) ≤ MOST_SLOT_BYTES }
+{
+    if bytes[VERSION_AND_FLAGS] % 8 == UNWIND_VERSION_2 {
+        leading_epilogues(slots_of(bytes))
+    } else {
+        0
+    }
+}
+
+/// The slots of the codes, which come after those of epilogues.
+fn code_slots<'a>(bytes: &'a [u8]) -> &'a [u8]
+    requires { spec.HasParts bytes.now }
+    ensures value { result.now ≡ either.code_slots bytes.now }
+    ensures fits { 2 * either.listed bytes.now + length result.now ≤ MOST_SLOT_BYTES }
+{
+    &slots_of(bytes)[2 * listed(bytes)..]
+}
+
+/// Header, slots and what follows them, where they are stored; where `second` says it, those of
+/// version 2 too.
+#[tactic(auto, unfolding(crate::specs::EitherInfos::stored_info))]
+fn stored_info<'a>(
+    image: &ImageView<'a>,
+    index: u64,
+    rva: u32,
+    second: bool,
+) -> Result<&'a [u8], TableErr>
+    ensures answer { spec.shown result ≡ either.stored_info second image.now index rva }
     ensures parts { IfOk result (λ bytes. spec.HasParts bytes.now) }
+    ensures version { IfOk result (λ bytes. either.is_read second (spec.version bytes.now) ≡ true) }
 {
     let at = rva as u64;
     if rva % 4 != 0 {
@@ -181,7 +231,7 @@ fn stored_info<'a>(image: &ImageView<'a>, index: u64, rva: u32) -> Result<&'a [u
         return Err(TableErr::Truncated { rva: at });
     };
     let found = head[VERSION_AND_FLAGS] % 8;
-    if found != UNWIND_VERSION {
+    if found != UNWIND_VERSION && !(second && found == UNWIND_VERSION_2) {
         return Err(TableErr::Version { index, found });
     }
     let flags = head[VERSION_AND_FLAGS] / 8;
@@ -197,6 +247,16 @@ fn stored_info<'a>(image: &ImageView<'a>, index: u64, rva: u32) -> Result<&'a [u
         Some(bytes) => Ok(bytes),
         None => Err(TableErr::Truncated { rva: at }),
     }
+}
+
+/// The same of version 1.
+#[tactic(auto, unfolding(crate::specs::Infos::stored_info, crate::specs::EitherInfos::stored_info))]
+fn stored_version_1<'a>(image: &ImageView<'a>, index: u64, rva: u32) -> Result<&'a [u8], TableErr>
+    ensures answer { spec.shown result ≡ spec.stored_info image.now index rva }
+    ensures parts { IfOk result (λ bytes. spec.HasParts bytes.now) }
+    ensures version { IfOk result (λ bytes. spec.version bytes.now ≡ UNWIND_VERSION) }
+{
+    stored_info(image, index, rva, false)
 }
 
 /// The records of the scope table of an info, where its handler is the C handler.
@@ -248,11 +308,8 @@ fn check_own_codes(index: u64, bytes: &[u8], is_known: bool) -> Result<(), Table
     if is_known {
         return Ok(());
     }
-    check_codes(
-        index,
-        bytes[FRAME_REGISTER_AND_OFFSET] % 16 != 0,
-        slots_of(bytes),
-    )
+    let framed = bytes[FRAME_REGISTER_AND_OFFSET] % 16 != 0;
+    check_codes(index, framed, 0, slots_of(bytes))
 }
 
 /// Reads the unwind info at an address, for the entry of an index, without a check of its scope
@@ -269,7 +326,7 @@ pub fn read_before_records<'a>(
     ensures placed { IfOk result
         (λ i. records.AreAt image.now (records.scope_records_rva rva i) i.scopes) }
 {
-    let bytes = stored_info(image, index, rva)?;
+    let bytes = stored_version_1(image, index, rva)?;
     let has_c_handler = is_c(image, bytes);
     let rows = stored_scope_records(image, rva, bytes, has_c_handler)?;
     check_own_codes(index, bytes, is_known)?;
@@ -308,4 +365,26 @@ pub fn read_info<'a>(
     let info = read_before_records(image, index, rva, is_known)?;
     check_own_records(index, image.size(), &info, is_known)?;
     Ok(info)
+}
+
+/// Reads the unwind info at an address, of version 1 or 2, for the entry of an index.
+#[tactic(auto, unfolding(crate::specs::EitherInfos::info))]
+pub fn read_info_of_either_version<'a>(
+    image: &ImageView<'a>,
+    index: u64,
+    rva: u32,
+) -> Result<Info<'a>, TableErr>
+    ensures { result ≡ either.info image.now index rva }
+{
+    let bytes = stored_info(image, index, rva, true)?;
+    let has_c_handler = is_c(image, bytes);
+    let rows = stored_scope_records(image, rva, bytes, has_c_handler)?;
+    let framed = bytes[FRAME_REGISTER_AND_OFFSET] % 16 != 0;
+    check_codes(index, framed, listed(bytes) as u64, code_slots(bytes))?;
+    check_scope_records(index, image.size(), 0, Scopes::new(rows))?;
+    Ok(Info {
+        bytes,
+        rows,
+        has_c_handler,
+    })
 }

@@ -35,9 +35,6 @@ pub const MOST_SLOT_BYTES: usize = 2 * MOST_SLOTS;
 /// The most bytes of a header and its slots, with the slot that makes their count even.
 pub const MOST_INFO_BYTES: usize = UNWIND_CODES + MOST_SLOT_BYTES + 2;
 
-/// The most bytes of an info with what follows its slots, of which an entry is the longest.
-pub const MOST_WHOLE_INFO_BYTES: usize = MOST_INFO_BYTES + RUNTIME_FUNCTION_SIZE;
-
 /// The size of a handler's address, which is relative to the image base.
 pub const HANDLER_SIZE: usize = 4;
 
@@ -54,6 +51,10 @@ pub const EXCEPTION_EXECUTE_HANDLER: u32 = 1;
 
 /// The version of UNWIND_INFO that is read and written.
 pub const UNWIND_VERSION: u8 = 1;
+
+/// The version of UNWIND_INFO that lists its epilogues, in slots before those of its codes (own: no
+/// page of the Microsoft x64 ABI has it).
+pub const UNWIND_VERSION_2: u8 = 2;
 
 /// The flags of UNWIND_INFO: there is a handler to be asked in a search for a handler.
 pub const UNW_FLAG_EHANDLER: u8 = 1;
@@ -76,6 +77,9 @@ pub const UWOP_SET_FPREG: u8 = 3;
 pub const UWOP_SAVE_NONVOL: u8 = 4;
 
 pub const UWOP_SAVE_NONVOL_FAR: u8 = 5;
+
+/// Of version 2 alone (own): a slot of the list of epilogues.
+pub const UWOP_EPILOG: u8 = 6;
 
 pub const UWOP_SAVE_XMM128: u8 = 8;
 

@@ -18,7 +18,8 @@ pub enum TableErr {
     EmptyRange { index: u64 },
     /// An entry begins below the end of the one before.
     Unsorted { index: u64 },
-    /// The version of an unwind info isn't 1: `found` is what is there.
+    /// The version of an unwind info isn't one that is read, which is 1 unless the reader says
+    /// otherwise: `found` is what is there.
     Version { index: u64, found: u8 },
     /// The flags of an unwind info are none of those that are defined, or say that it is chained
     /// and has a handler.

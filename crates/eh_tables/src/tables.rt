@@ -2,11 +2,12 @@
 
 ghost use Rattle.std.specs.Prelude.{◌≡◌, ◌≤◌, ◌<◌, ◌/◌, ◌*◌, ◌^◌, length, slice_index_or, option_map, IfSome, IfOk, IfErr};
 ghost use Rattle.std.specs.Result.{result_ok};
+ghost use Rattle.eh_tables.specs.EitherEntries as either;
 ghost use Rattle.eh_tables.specs.Infos.{info};
 ghost use Rattle.eh_tables.specs.Records.{AreAt, scope_records_rva};
 ghost use Rattle.eh_tables.specs.Tables as spec;
 
-use crate::entry::{Entry, read_entry};
+use crate::entry::{Entry, read_entry, read_entry_of_either_version};
 use crate::info::{Info, read_info};
 use crate::known::check_entry;
 use crate::layout::RUNTIME_FUNCTION_SIZE;
@@ -103,6 +104,16 @@ impl<'image, 'bytes> Tables<'image, 'bytes> {
         )
     }
 
+    /// The same where infos of version 2 are read too: only another version is refused. The codes
+    /// are those after the list of epilogues, which [`Info::epilogue_slots`] gives as it is stored.
+    pub fn entry_of_either_version(&self, index: u64) -> Result<Entry<'bytes>, TableErr>
+        requires { index < length self.now.ranges }
+        ensures { result ≡ either.entry_at self.now index }
+    {
+        let last = self.end_before(index);
+        read_entry_of_either_version(self.image, index, last, self.range(index))
+    }
+
     /// Where the entry before an index ends.
     pub(crate) fn end_before(&self, index: u64) -> u32
         requires { index ≤ length self.now.ranges }
@@ -115,8 +126,9 @@ impl<'image, 'bytes> Tables<'image, 'bytes> {
         }
     }
 
-    /// The unwind info of an entry, read alone.
-    pub(crate) fn own_info(&self, index: u64) -> Result<Info<'bytes>, TableErr>
+    /// The unwind info of an entry, read alone: neither the entry's range nor the infos that it is
+    /// chained to are checked. It is refused as by [`Tables::entry`].
+    pub fn own_info(&self, index: u64) -> Result<Info<'bytes>, TableErr>
         requires { index < length self.now.ranges }
         ensures { result ≡ info self.now.image index
             (slice_index_or self.now.ranges index spec.no_range).unwind_info }

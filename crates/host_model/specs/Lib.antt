@@ -6,5 +6,6 @@ pub mod Dispatch
 pub mod HostStep
 pub mod Machine
 pub mod Laws
+pub mod FixedLaws
 pub mod Worked
 pub mod Images

@@ -9,7 +9,7 @@ use Rattle.linear_code.specs.declared.instruction.Instruction.TheVariants as ins
 use Rattle.lowering_invariants.proofs.Same.{alike_is_same}
 use Rattle.image_runs.proofs.Lemmas.{agreement_at_call}
 use Rattle.match_runs.proofs.Turns.{comes_nowhere}
-use Rattle.match_turns.proofs.CallActs.{call_acts}
+use Rattle.match_turns.proofs.Calls.CallActs.{call_acts}
 use Rattle.image_runs.proofs.AgreementSteps.{same_left, carried}
 
 -- ---- lists with the same end

@@ -11,9 +11,9 @@ use Rattle.image_runs.specs.StepMatches.{MatchesOrAsks}
 use Rattle.image_runs.specs.SoundImages.{IsSoundImage}
 use Rattle.image_runs.specs.Words.{State, Functions, Funclet, Slot, Instruction, LinearProgram, LinearFunclet, weight, BodyName, FunctionBody, FuncletBody, Configuration, act, instruction_at, exec, ImagePlan, Sites, HasRule, RepresentsAt, IsKnown, KnownNext}
 use Rattle.lowering_invariants.proofs.Moves.{Turn}
-use Rattle.match_turns.proofs.CallSteps.{returns_are_matched}
-use Rattle.match_turns.proofs.FuncletReturnSteps.{funclet_returns_are_matched}
-use Rattle.match_turns.proofs.BodyContinuation.{bodies_continue}
+use Rattle.match_turns.proofs.Calls.CallSteps.{returns_are_matched}
+use Rattle.match_turns.proofs.Funclets.FuncletReturnSteps.{funclet_returns_are_matched}
+use Rattle.match_turns.proofs.Bodies.BodyContinuation.{bodies_continue}
 use Rattle.image_runs.proofs.AskedFunctions.{Ok, IsNoBlock, returns_ask, asked_at}
 use Rattle.image_runs.proofs.BlockReturns.{block_is_matched}
 

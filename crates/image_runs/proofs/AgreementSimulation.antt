@@ -4,14 +4,14 @@ use Rattle.std.specs.Prelude.{List}
 use Rattle.image_runs.specs.Words.{State, Functions, Funclet, Program, IsSound, Temporary, Instruction, LinearProgram, Frame, Configuration, body_of, act, instruction_in, instruction_at, exec, ImagePlan, lowered, HasRule, is_separator, Moves, IsMatched, IsTakenIf, IsTaken, StepIsMatched, IsReady, CanContinue, ReadsNoUnset, AgreeOnSet, StepsAgree, Sites, turns_left, RepresentsAt, IsKnown, KnownNext, turns_per_step, IsWithinBody, Represents, WorksOn, IsSoundImage, RepresentsWhereSet, AgreementSimulates}
 use Rattle.linear_code.specs.declared.instruction.Instruction.TheVariants as instructions
 use Rattle.image_runs.proofs.Lemmas.{agreement_continues}
-use Rattle.match_bodies.proofs.BodySteps.{within_body, separators_are_matched}
-use Rattle.match_turns.proofs.CallSteps.{calls_begin}
-use Rattle.match_turns.proofs.FinallyCallSteps.{block_calls_are_matched}
-use Rattle.match_turns.proofs.OperationSteps.{operations, retries}
-use Rattle.match_turns.proofs.ServiceSteps.{information_is_matched, puts_are_matched, protects_are_matched, walks_are_matched, adds_are_matched, removes_are_matched}
-use Rattle.match_turns.proofs.RaiseCall.{raises_are_matched}
-use Rattle.match_turns.proofs.LocalUnwindCall.{local_unwinds_are_matched}
-use Rattle.match_turns.proofs.DispatchOutcomeSteps.{matched_there}
+use Rattle.match_bodies.proofs.Steps.BodySteps.{within_body, separators_are_matched}
+use Rattle.match_turns.proofs.Calls.CallSteps.{calls_begin}
+use Rattle.match_turns.proofs.FinallyBlocks.FinallyCallSteps.{block_calls_are_matched}
+use Rattle.match_turns.proofs.Operations.OperationSteps.{operations, retries}
+use Rattle.match_turns.proofs.Services.ServiceSteps.{information_is_matched, puts_are_matched, protects_are_matched, walks_are_matched, adds_are_matched, removes_are_matched}
+use Rattle.match_turns.proofs.Raises.RaiseCall.{raises_are_matched}
+use Rattle.match_turns.proofs.FinallyBlocks.LocalUnwindCall.{local_unwinds_are_matched}
+use Rattle.match_turns.proofs.Dispatches.DispatchOutcomeSteps.{matched_there}
 use Rattle.c_operations.specs.declared.built_in.BuiltIn.{BuiltIn}
 use Rattle.c_operations.specs.declared.built_in.BuiltIn.TheVariants.{Put, Protect, RaiseException, Walk, AddVectored, RemoveVectored}
 use Rattle.lowering_invariants.proofs.Moves.{Turn}

@@ -5,10 +5,10 @@ use Rattle.std.specs.Prelude.{slice_get}
 use Rattle.linear_code.specs.declared.instruction.Instruction.TheVariants as instructions
 use Rattle.linear_code.specs.declared.program.FuncletKind.TheVariants as funclets
 use Rattle.match_turns.specs.Words.{State, Slot, LinearFunclet, FuncletBody, Item, Waits, Searches, Unwinds, Configuration, read, act, instruction_at, exec, FuncletIsAbove, IsAbove, HasRule, IsMatched, turns_left, IsWellMade, IsKnown, KnownNext, turns_per_step, FlagsFit, Setting, RepresentsAt, Represents, VectoredAt, FilterOf}
-use Rattle.match_bodies.proofs.StepNeeds.{counted_here, code_at, ready_here}
-use Rattle.match_turns.proofs.FuncletSteps.{reads_some, returns_of_blocks_are_matched}
-use Rattle.match_turns.proofs.DispatchOutcomeSteps.{matched_there}
-use Rattle.match_turns.proofs.FuncletReturn.{block_returns}
+use Rattle.match_bodies.proofs.Steps.StepNeeds.{counted_here, code_at, ready_here}
+use Rattle.match_turns.proofs.Funclets.FuncletSteps.{reads_some, returns_of_blocks_are_matched}
+use Rattle.match_turns.proofs.Dispatches.DispatchOutcomeSteps.{matched_there}
+use Rattle.match_turns.proofs.Funclets.FuncletReturn.{block_returns}
 
 module _ (setting : Setting) (made : IsWellMade setting.program setting.plan)
     (fits : FlagsFit setting.program) where

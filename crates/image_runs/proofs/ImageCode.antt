@@ -3,8 +3,8 @@ use Rattle.std.proofs.Common.{◌≡◌, ℕ, ◌+◌, ◌<◌, ◌==◌, Bool, 
 use Rattle.std.specs.Prelude.{◌&&◌, nat_le, slice_get}
 use Rattle.std.proofs.lemmas.Bool.{ne_eqb}
 use Rattle.image_runs.specs.Words.{Program, LinearFunction, LinearFunclet, lowered, IsLinkable, IsSmallFunclet, all_spare, IsFuncletSized, LoweredIsCompiled, is_leaf}
-use Rattle.lowering_invariants.proofs.ColdParts.{lowered_has_cold_parts}
-use Rattle.lowering_invariants.proofs.Small.{lowered_is_small}
+use Rattle.lowering_invariants.proofs.ColdCode.ColdParts.{lowered_has_cold_parts}
+use Rattle.lowering_invariants.proofs.SmallNumbers.Small.{lowered_is_small}
 use Rattle.lowering_invariants.proofs.SparedRegisters.{lowered_spares}
 use Rattle.image_runs.proofs.Lemmas.{lowered_is_whole, all_at, images_are_small, lowered_has_regions, lowered_names_funclets}
 use Rattle.image_runs.proofs.FuncletOwners.{is_owned}

@@ -9,10 +9,10 @@ use Rattle.image_runs.proofs.Lemmas.{label_in}
 use Rattle.image_runs.specs.MainLaws.{MainIsBegun}
 use Rattle.linear_machine.specs.Frames.{Store}
 use Rattle.match_stack.specs.StackRecords.{On}
-use Rattle.match_bodies.proofs.InstructionEffects.{others_of}
-use Rattle.match_turns.proofs.GivenFunction.{IsCalled}
-use Rattle.match_turns.proofs.GivenStart.{FunctionStarts}
-use Rattle.match_turns.proofs.GivenStart as starting
+use Rattle.match_bodies.proofs.Steps.InstructionEffects.{others_of}
+use Rattle.match_turns.proofs.Functions.GivenFunction.{IsCalled}
+use Rattle.match_turns.proofs.Functions.GivenStart.{FunctionStarts}
+use Rattle.match_turns.proofs.Functions.GivenStart as starting
 
 -- what the argument registers hold: the argument of the run, and zeros
 abbrev given : ℤ → ℕ → ℕ

@@ -13,8 +13,8 @@ use Rattle.match_runs.specs.Shadow.{WalkGives}
 use Rattle.match_runs.specs.Shadowed.{first_shadow, WalkGivesShadow}
 use Rattle.match_runs.proofs.Shadows.{at_end}
 use Rattle.image_runs.proofs.RunMatches as runs
-use Rattle.match_bodies.proofs.BodyCallers.{gives_caller}
-use Rattle.match_bodies.proofs.OwedCallers.{finds_return}
+use Rattle.match_bodies.proofs.Walks.BodyCallers.{gives_caller}
+use Rattle.match_bodies.proofs.Walks.OwedCallers.{finds_return}
 use Rattle.image_runs.specs.MatchLaws.{most_before_main}
 use Rattle.image_runs.specs.ShadowWalks.{WalksTheShadow, ImagesWalkTheShadow, CompiledWalkTheShadow, AcceptedWalkTheShadow}
 use Rattle.image_runs.proofs.FirstState.{first_states_start}

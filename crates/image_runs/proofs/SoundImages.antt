@@ -11,12 +11,12 @@ use Rattle.lowering_expressions.specs.Scope.{finally_scope}
 use Rattle.lowering_expressions.specs.Expressions.{expression_code}
 use Rattle.seh_ir.specs.Funclets.{finally_begin}
 use Rattle.seh_ir.specs.Statements.{statements_code}
-use Rattle.lowering_invariants.proofs.CallRegions.{has_same_regions}
+use Rattle.lowering_invariants.proofs.Regions.CallRegions.{has_same_regions}
 use Rattle.lowering_invariants.proofs.Flags.{has_flags}
-use Rattle.lowering_invariants.proofs.BlockSeparators.{lowered_is_followed}
-use Rattle.lowering_invariants.proofs.UnwindLabels.{lowered_stays_inside}
-use Rattle.lowering_invariants.proofs.Blind.{lowered_informs_filters}
-use Rattle.lowering_invariants.proofs.ReturnRegions.{lowered_is_apart}
+use Rattle.lowering_invariants.proofs.SeparatorCounts.BlockSeparators.{lowered_is_followed}
+use Rattle.lowering_invariants.proofs.Labels.UnwindLabels.{lowered_stays_inside}
+use Rattle.lowering_invariants.proofs.Places.Blind.{lowered_informs_filters}
+use Rattle.lowering_invariants.proofs.Regions.ReturnRegions.{lowered_is_apart}
 use Rattle.lowering_invariants.proofs.EveryBody.{every_body}
 use Rattle.image_runs.proofs.Lemmas.{lowered_is_whole, all_at, images_are_programs}
 use Rattle.lowering_invariants.proofs.Room.{body_small, has_room}

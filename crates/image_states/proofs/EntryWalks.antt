@@ -26,7 +26,7 @@ use Rattle.frame_rules.proofs.Order.{Ordered, push, allocate, frame, save, order
 use Rattle.frame_rules.proofs.Tails.{no_tail, trails, opens_here}
 use Rattle.match_stack.specs.PlainWalks.{state}
 use Rattle.match_stack.proofs.FrameWords.{eight_numbers}
-use Rattle.match_bodies.proofs.OwedCallers.{base_is}
+use Rattle.match_bodies.proofs.Walks.OwedCallers.{base_is}
 use Rattle.match_bodies.specs.Callers.{Owed, IsOwed, FindsOwed, caller_owed, caller_left}
 
 -- ---- a walk's answer

@@ -12,7 +12,7 @@ use Rattle.frame_layout.specs.Plans as layouts
 use Rattle.frame_rules.specs.Plan.{FramePlan}
 use Rattle.frame_rules.specs.Plan as rules
 use Rattle.match_bodies.specs.CodeSites.{body_plan, cold_code_of}
-use Rattle.match_bodies.proofs.BodyFrames.{told_by}
+use Rattle.match_bodies.proofs.Steps.BodyFrames.{told_by}
 use Rattle.linear_code.specs.declared.instruction.Instruction.TheVariants as instructions
 use Rattle.x64_templates.specs.Epilogues as epilogues
 use Rattle.image_tables.specs.Entries as tables

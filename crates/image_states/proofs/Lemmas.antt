@@ -19,4 +19,4 @@ pub use Rattle.image_tables.proofs.Table.{text_is, end_inside, is, rdata_is, tab
 pub use Rattle.image_tables.proofs.RoutineRanges.{routines_have}
 pub use Rattle.image_link.proofs.Nearness.{routines_near}
 pub use Rattle.x64_templates.proofs.Accesses.{digits}
-pub use Rattle.match_bodies.proofs.HiddenBytes.{pointer_is_seen}
+pub use Rattle.match_bodies.proofs.Places.HiddenBytes.{pointer_is_seen}

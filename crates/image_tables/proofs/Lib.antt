@@ -34,3 +34,12 @@ pub mod RegionRows
 pub mod RoutineRows
 pub mod Shape
 pub mod FrameSizes
+pub mod Octets
+pub mod InstructionOctets
+pub mod TableOctets
+pub mod InfoOctets
+pub mod WrittenOctets
+pub mod NameOctets
+pub mod ProgramOctets
+pub mod LinkedOctets
+pub mod GlobalOctets

@@ -11,7 +11,7 @@ use Rattle.lowering_expressions.specs.declared.scope.LoweringContext.{LoweringCo
 use Rattle.lowering_expressions.specs.Expressions.{constant}
 use Rattle.lowering_invariants.specs.ColdParts.{IsApart, IsColdPart, HasColdParts}
 use Rattle.lowering_invariants.specs.ReturnRegions.{is_call}
-use Rattle.lowering_invariants.proofs.ColdParts.{lowered_has_cold_parts}
+use Rattle.lowering_invariants.proofs.ColdCode.ColdParts.{lowered_has_cold_parts}
 use Rattle.seh_ir.specs.Funclets.{finally_begin}
 use Rattle.seh_ir.specs.Lowered.{first_separators, open_code, close_code, body_start}
 use Rattle.seh_ir.proofs.FunctionCodes.{open_length}

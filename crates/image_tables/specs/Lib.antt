@@ -11,3 +11,4 @@ pub mod FrameLaws
 pub mod RegionRows
 pub mod ShapeLaws
 pub mod Words
+pub mod OctetLaws

@@ -3,7 +3,7 @@ use Rattle.std.proofs.Common.{◌≡◌, ℕ, List, [], ◌∷◌, map, refl, su
 use Rattle.std.specs.List.{AllByRecursion}
 use Rattle.std.specs.Prelude.{slice_get, Option, Some, None}
 use Rattle.lowering_invariants.specs.Words.{Expression, Program, Function, Statements, LinearBody, LinearFunction, LinearFunclet, BodyName, FunctionBody, FuncletBody, function_body, funclet_body, body_of, Owner, Names, finally_funclet, lowered_function, all_funclets, lowered, filter_funclet}
-use Rattle.lowering_invariants.proofs.StackTargets.{same_it, all_at}
+use Rattle.lowering_invariants.proofs.Stacks.StackTargets.{same_it, all_at}
 use Rattle.lowering_invariants.proofs.Lemmas.{funclets_any}
 
 module _ (P : LinearBody → Type 0)

@@ -4,7 +4,7 @@ use Rattle.std.specs.List.{AllByRecursion}
 use Rattle.std.specs.Prelude.{None}
 use Rattle.lowering_invariants.specs.Words.{Function, LinearFunclet, statements_notes, Owner, all_locals, scope_of, lowered_funclets, all_funclets, lowered, HasFlag, LoweredHasFlags}
 use Rattle.lowering_invariants.proofs.Lemmas.{all_append, HoldsOfFunclets, funclets_known}
-use Rattle.lowering_invariants.proofs.StackTargets.{all_at}
+use Rattle.lowering_invariants.proofs.Stacks.StackTargets.{all_at}
 
 abbrev Flagged : LinearFunclet → Type 0
 Flagged f = HasFlag f.body f.kind

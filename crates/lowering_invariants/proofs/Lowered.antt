@@ -10,8 +10,8 @@ use Rattle.linear_code.specs.Program.{depth_weight}
 use Rattle.lowering_invariants.specs.Words.{Program, Function, asking, IsSound, funclets, count_up, function_sound, functions_sound, LinearBody, LinearFunction, LinearFunclet, FunctionBody, FuncletBody, function_body, funclet_body, body_of, Owner, own_locals, all_locals, scope_of, lowered_function, lowered_funclets, all_funclets, lowered, IsCalled, IsVectoredHandler, IsCallee, IsVectoredCallee, IsInstructionOf, IsBodyOf, AreBodies, LoweredIsWhole}
 use Rattle.c_checked.specs.Sound as sound
 use Rattle.lowering_invariants.proofs.Lemmas.{first_are, Range, part_of, both_parts, no_part, one_part, statements_count, count_front, count_back, IsSegmentAt, front, back, whole_is_at, both_left, both_right, lowered_is_linked}
-use Rattle.lowering_invariants.proofs.FirstSeparators.{open_every, function_body_code, function_end, begin_every, end_every, code_every, body_at}
-use Rattle.lowering_invariants.proofs.StackTargets.{same_it, all_at}
+use Rattle.lowering_invariants.proofs.SeparatorCounts.FirstSeparators.{open_every, function_body_code, function_end, begin_every, end_every, code_every, body_at}
+use Rattle.lowering_invariants.proofs.Stacks.StackTargets.{same_it, all_at}
 use Rattle.lowering_invariants.proofs.Calls.{HasCallees}
 use Rattle.lowering_invariants.proofs.Wholes.{Fine, statements_have, typed}
 use Rattle.lowering_follows.proofs.SoundStatements.{function_fits}

@@ -1,10 +1,10 @@
 -- What holds of each configuration that the linear code of a sound program comes to.
 use Rattle.lowering_invariants.specs.Words.{lowered, ReachedIsStacked, ReachedHasActivations, ReachedIsSmall, ReachedHasDepths}
 use Rattle.lowering_invariants.proofs.Lowered.{lowered_is_whole}
-use Rattle.lowering_invariants.proofs.TurnActivations.{reached_both}
-use Rattle.lowering_invariants.proofs.TurnNumbers.{reached_small}
-use Rattle.lowering_invariants.proofs.DepthStatements.{bodies_lead}
-use Rattle.lowering_invariants.proofs.TurnDepths.{reached_deep}
+use Rattle.lowering_invariants.proofs.Stacks.TurnActivations.{reached_both}
+use Rattle.lowering_invariants.proofs.Stacks.TurnNumbers.{reached_small}
+use Rattle.lowering_invariants.proofs.Places.DepthStatements.{bodies_lead}
+use Rattle.lowering_invariants.proofs.Stacks.TurnDepths.{reached_deep}
 
 pub is_stacked : ReachedIsStacked
 is_stacked program h c r = (reached_both (lowered program) (lowered_is_whole program h) c r).0

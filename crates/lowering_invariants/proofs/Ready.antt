@@ -8,7 +8,7 @@ use Rattle.linear_code.specs.declared.instruction.Instruction.TheVariants as ins
 use Rattle.lowering_follows.specs.StepsPerTurn.{steps_per_turn_of}
 use Rattle.lowering_invariants.proofs.Lemmas.{lowered_shows_no_more}
 use Rattle.lowering_invariants.specs.Ready.{IsHeld, IsNextSlot, IsRead, held, IsReady}
-use Rattle.lowering_invariants.proofs.Turns.{there, come}
+use Rattle.lowering_invariants.proofs.Stacks.Turns.{there, come}
 
 -- ---- slots
 

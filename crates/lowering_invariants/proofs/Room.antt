@@ -6,10 +6,10 @@ use Rattle.lowering_invariants.specs.Words.{Program, IsSound, Slot, Local, Tempo
 use Rattle.linear_code.specs.declared.instruction.Instruction.TheVariants as instructions
 use Rattle.linear_code.specs.BodyState.{Counts}
 use Rattle.linear_code.specs.Meaning.{IsSlot, HasSlots}
-use Rattle.lowering_invariants.proofs.Small.{lowered_is_small}
+use Rattle.lowering_invariants.proofs.SmallNumbers.Small.{lowered_is_small}
 use Rattle.lowering_invariants.specs.Room.{counts_of, PassesWell, BodyHasRoom}
 use Rattle.lowering_invariants.proofs.EveryBody.{every_body}
-use Rattle.lowering_invariants.proofs.StackTargets.{same_it, all_at}
+use Rattle.lowering_invariants.proofs.Stacks.StackTargets.{same_it, all_at}
 
 -- a body has as many temporaries and places of arguments as its code uses
 record IsCounted (b : LinearBody) : Type 0 where

@@ -3,7 +3,7 @@ use Rattle.std.proofs.Common.{◌≡◌, ℕ, zero, suc, ◌+◌, List, [], ◌�
 use Rattle.std.specs.Prelude.{get_or, slice_get, Some}
 use Rattle.lowering_invariants.specs.Words.{Instruction, with_tested, after, depths, depth_at}
 use Rattle.linear_code.specs.declared.instruction.Instruction.TheVariants as instructions
-use Rattle.lowering_invariants.proofs.StackTargets.{same_it}
+use Rattle.lowering_invariants.proofs.Stacks.StackTargets.{same_it}
 
 -- the depth after a list
 abbrev pub past : List Instruction → ℕ → ℕ

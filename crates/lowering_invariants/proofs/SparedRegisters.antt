@@ -22,8 +22,8 @@ use Rattle.lowering_registers.specs.RegisterLaws.{IsUnshared}
 use Rattle.lowering_registers.proofs.RegisterLocals.{are_few, are_unshared, are_in_order}
 use Rattle.lowering_invariants.specs.Registers.{SlotsHave, FlagHas, IsInFrame, SparesRegisters, HasRegisters, LoweredSparesRegisters, LoweredHasRegisters}
 use Rattle.lowering_invariants.proofs.Lemmas.{all_append, OptionalHas, AllDeclaredHave, FilterHas, StatementHas, StatementsHave, HoldsOfInstructions, statements_all, any_numbers, HoldsOfFunclets, all_funclets_every}
-use Rattle.lowering_invariants.proofs.NamedLocals.{NamesHave, NamedHave, expression_has}
-use Rattle.lowering_invariants.proofs.StackTargets.{all_at}
+use Rattle.lowering_invariants.proofs.Places.NamedLocals.{NamesHave, NamedHave, expression_has}
+use Rattle.lowering_invariants.proofs.Stacks.StackTargets.{all_at}
 
 -- ---- what a statement names, its parts name
 

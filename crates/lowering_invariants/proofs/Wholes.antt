@@ -6,7 +6,7 @@ use Rattle.std.specs.Prelude.{true, false, slice_get, Option, Some, None}
 use Rattle.c_checked.specs.declared.function.DataPart.{DataPart}
 use Rattle.seh_ir.specs.Funclets.{finally_begin}
 use Rattle.seh_ir.specs.Statements.{reset_code}
-use Rattle.lowering_invariants.proofs.DepthStatements.{begin_three}
+use Rattle.lowering_invariants.proofs.Places.DepthStatements.{begin_three}
 use Rattle.lowering_invariants.specs.Bodies.{IsInstructionOf}
 use Rattle.lowering_invariants.specs.Words.{Expression, Program, funclets, count_up, funclets_in, Filter, Always, Funclet, Statement, Declare, Block, Evaluate, If, IfElse, For, DoWhile, Return, Break, Continue, Leave, TryExcept, TryFinally, Statements, Empty, Then, Local, Instruction, Region, LinearProgram, LinearBody, LinearFunclet, BodyName, FuncletBody, funclet_body, body_of, instruction_in, expression_size, statements_size, discarded_size, condition_size, all_declared_size, statement_size, Owner, Names, Way, Nowhere, Jumps, LoweringContext, except_names, filter_names, finally_names, finally_scope, expression_code, return_code, returned_code, statements_code, statements_regions, except_kind, region, statement_regions, finally_funclet, filter_funclets, in_funclet, statement_funclets, statements_funclets, IsFinallyKind, function_of, owner_of, IsFuncletOf, IsKindOf, IsRegionOf, IsBodyOf, parent_of}
 use Rattle.c_checked.specs.Sound.{filter_funclet}
@@ -17,7 +17,7 @@ use Rattle.lowering_invariants.proofs.Lemmas.{Range, part_of, both_parts, no_par
 use Rattle.lowering_expressions.specs.declared.scope.Way.TheVariants.{Unwinds}
 use Rattle.seh_ir.specs.Funclets as funclets_of
 use Rattle.lowering_invariants.proofs.Calls.{HasCallees, AllCall, append, expression_calls}
-use Rattle.lowering_invariants.proofs.StackTargets.{same_it}
+use Rattle.lowering_invariants.proofs.Stacks.StackTargets.{same_it}
 use Rattle.seh_ir.proofs.StatementParts.{FilterHas, OptionalHas, StatementHas}
 use Rattle.seh_ir.proofs.EveryStatement.{HoldsOfPieces, any_neutral, any_place, any_ways, statements_every}
 use Rattle.lowering_sizes.specs.Sizes.{statements_notes}

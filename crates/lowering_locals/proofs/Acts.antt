@@ -7,9 +7,9 @@ use Rattle.source_meaning.specs.declared.ended.Ended.TheVariants as ends
 use Rattle.linear_code.specs.declared.instruction.Instruction.TheVariants as instructions
 use Rattle.lowering_locals.proofs.Lemmas.{Turn, Halts, Moves, pick_turn, some_turn, deeper_turn, kept, same_it, seen_cases}
 use Rattle.std.proofs.lemmas.List.{take_all}
-use Rattle.lowering_invariants.proofs.StackTurns.{left_askable}
-use Rattle.lowering_invariants.proofs.TurnStack.{instruction_fits}
-use Rattle.lowering_invariants.proofs.ActivationOwners.{as_many, left_over}
+use Rattle.lowering_invariants.proofs.Stacks.StackTurns.{left_askable}
+use Rattle.lowering_invariants.proofs.Stacks.TurnStack.{instruction_fits}
+use Rattle.lowering_invariants.proofs.Stacks.ActivationOwners.{as_many, left_over}
 use Rattle.lowering_locals.proofs.MarkKeeping.{taken_marks, marks_long}
 use Rattle.lowering_locals.proofs.Covered.{covered_next}
 use Rattle.lowering_locals.proofs.Events.{adds_none}

@@ -6,7 +6,7 @@ use Rattle.linear_code.specs.Program.{depth_weight}
 use Rattle.lowering_locals.specs.Words.{Deep, LinearProgram, LinearFunction, Frame, Waits, Configuration, Seen, Finished, Next, pick, with_some, deeper, last_temporaries, body_of, begin_function, waiting, act, instruction_at, instruction_in, start, main_arguments, Marks, next_marks, AreAlike, GoAlike, start_marks, called, IsReached}
 use Rattle.linear_code.specs.declared.instruction.Instruction.TheVariants as instructions
 use Rattle.lowering_invariants.specs.SmallNumbers.{AreSmall, HasSmallNumbers}
-use Rattle.lowering_invariants.proofs.TurnNumbers.{stays_small, reached_small}
+use Rattle.lowering_invariants.proofs.Stacks.TurnNumbers.{stays_small, reached_small}
 use Rattle.lowering_locals.specs.Agreement.{AgreementContinues, AgreementAtCall, AgreementAtStart, AgreeingAreSmall}
 use Rattle.lowering_locals.proofs.Lists.{as_long}
 use Rattle.lowering_locals.proofs.Alike.{is_over, steps_are_alike, calls_are_alike, starts_are_alike, marked_is_reached, marked_continues}

@@ -4,9 +4,9 @@ use Rattle.std.proofs.lemmas.Bool.{lt-ltb}
 use Rattle.std.proofs.lemmas.List.{length-take, length-take-le}
 use Rattle.std.specs.Prelude.{Bool, true, false, min, nat_lt, take, drop, replicate, slice_get, Option, Some, None}
 use Rattle.linear_code.specs.declared.instruction.Instruction.TheVariants as instructions
-use Rattle.lowering_invariants.proofs.ActivationOwners.{as_many}
-use Rattle.lowering_invariants.proofs.TurnActivations.{reached_both}
-use Rattle.lowering_invariants.proofs.TurnNumbers.{stays_small}
+use Rattle.lowering_invariants.proofs.Stacks.ActivationOwners.{as_many}
+use Rattle.lowering_invariants.proofs.Stacks.TurnActivations.{reached_both}
+use Rattle.lowering_invariants.proofs.Stacks.TurnNumbers.{stays_small}
 use Rattle.lowering_locals.specs.Words.{Instruction, LinearProgram, LinearFunction, BodyName, FunctionBody, FuncletBody, Frame, Store, Waits, Configuration, left_store, begin_function, instruction_at, owners_of, IsWhole, Marks, set_mark, with_mark, first_marks, flag_set, local_written, begins_block, activations_left, arguments_passed, function_of_body, begun_marks, marks_left, next_marks, AreLocalsAlike, AreActivationsAlike, GoAlike}
 use Rattle.lowering_locals.specs.Agreement.{AgreeOnSet, AgreementAtBeginning}
 use Rattle.lowering_locals.proofs.Lists.{as_long, unset_alike}

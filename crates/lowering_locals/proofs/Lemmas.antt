@@ -10,6 +10,6 @@ pub use Rattle.seh_ir.proofs.DeclaredCodes.{declared_length}
 pub use Rattle.seh_ir.proofs.FunctionCodes.{open_length}
 pub use Rattle.lowering_follows.proofs.FuncletNumbers.{counted, count_front, count_back}
 pub use Rattle.lowering_follows.proofs.Segments.{IsSegmentAt, front, back, whole_is_at}
-pub use Rattle.lowering_invariants.proofs.FirstSeparators.{first_every, function_end}
+pub use Rattle.lowering_invariants.proofs.SeparatorCounts.FirstSeparators.{first_every, function_end}
 pub use Rattle.lowering_invariants.proofs.Moves.{Turn, Halts, Moves, pick_turn, some_turn, deeper_turn, kept}
-pub use Rattle.lowering_invariants.proofs.StackTargets.{same_it, all_at, all_map}
+pub use Rattle.lowering_invariants.proofs.Stacks.StackTargets.{same_it, all_at, all_map}

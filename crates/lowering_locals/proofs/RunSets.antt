@@ -6,7 +6,7 @@ use Rattle.std.specs.Prelude.{Bool, true, false, nat_lt, take, slice_get, replic
 use Rattle.lowering_locals.specs.Words.{Slot, Local, Temporary, Instruction, LinearProgram, LinearFunction, BodyName, FunctionBody, FuncletBody, Frame, Waits, Configuration, is_constant, instruction_at, start, main_arguments, owner_of, IsWhole, owners_of, AreActivations, HasActivations, with_own, WorksOn, Marks, marks_of, first_marks, begins_block, flag_set, local_written, with_mark, activations_left, arguments_passed, function_of_body, begun_marks, marks_left, next_marks, AreActivationsAlike, AreAlike, IsSet, AreOperandsSet, ReadsSet, ComesMarked, start_marks, IsMarked, ReadsNoUnset, SeenNames, function_locals, owner_locals, locals_at, ReadsIn, OperandsIn, Leads, IsSetMap, Marked, IsRecorded, IsGiven, Before, Written, Flag, Passed, IsStep, started_with}
 use Rattle.linear_code.specs.declared.instruction.Instruction.TheVariants as instructions
 use Rattle.lowering_locals.proofs.Lemmas.{same_it, is_parameter}
-use Rattle.lowering_invariants.proofs.TurnActivations.{reached_both}
+use Rattle.lowering_invariants.proofs.Stacks.TurnActivations.{reached_both}
 use Rattle.lowering_locals.proofs.Alike.{steps_are_alike, starts_are_alike, marked_is_reached, marked_continues}
 use Rattle.lowering_locals.specs.SetLaws.{SetMapReadsNoUnset}
 use Rattle.lowering_locals.proofs.MarkKeeping.{with_keeps, written_marked, with_long, taken_marks, more_keeps, last_marks, first_set, marks_long, own_long, alike_itself}

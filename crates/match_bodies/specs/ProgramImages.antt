@@ -77,11 +77,22 @@ host_service_of Walk = services.Walk
 host_service_of (AddVectored f) = services.AddVectored
 host_service_of (RemoveVectored f) = services.RemoveVectored
 
+-- the sizes in bytes of `jmp [rip + away]`, a thunk; of `lea r64, [rip + away]`, which puts an
+-- address into a register; and of the name thunk of a function
+abbrev pub thunk_size : ℕ
+thunk_size = 6
+
+abbrev pub address_size : ℕ
+address_size = 7
+
+abbrev pub name_thunk_size : ℕ
+name_thunk_size = 15
+
 -- a call goes through a thunk alone, but for those that name a function: their stub puts the
--- function's name thunk into a register first, 7 bytes before the thunk
+-- function's name thunk into a register first
 abbrev pub stub_code : ImagePlan → BuiltIn → ℕ → List Instr
-stub_code p (AddVectored f) at = address_in Rdx (at + 7) (p.handler f) ∷ []
-stub_code p (RemoveVectored f) at = address_in Rcx (at + 7) (p.handler f) ∷ []
+stub_code p (AddVectored f) at = address_in Rdx (at + address_size) (p.handler f) ∷ []
+stub_code p (RemoveVectored f) at = address_in Rcx (at + address_size) (p.handler f) ∷ []
 stub_code p f at = []
 
 -- the frame of a body, by its layout, with the entry that the body begins in
@@ -174,13 +185,13 @@ module _ (t : Functions) (fs : List Funclet) (program : LinearProgram) (p : Imag
   -- a thunk of the image, through a slot of the image
   pub record HasService (m : Memory) (at : ℕ) (service : Service) : Type 0 where
     pub thunk : HasThunk m at (address_of service)
-    pub inside : IsInImage at (at + 6)
-    pub slot : IsInImage (at + 6 + thunk.away) (at + 6 + thunk.away + 8)
+    pub inside : IsInImage at (at + thunk_size)
+    pub slot : IsInImage (at + thunk_size + thunk.away) (at + thunk_size + thunk.away + 8)
 
   -- a stub at an address names a function of the program, whose name thunk is near the stub
   pub record NamesFunction (at f : ℕ) : Type 0 where
     pub is_function : f < length program.functions
-    pub near : IsNear (at + 7) (p.handler f)
+    pub near : IsNear (at + address_size) (p.handler f)
 
   abbrev pub StubNames : BuiltIn → Type 0
   StubNames (AddVectored f) = NamesFunction (q.thunk (AddVectored f)) f
@@ -198,7 +209,7 @@ module _ (t : Functions) (fs : List Funclet) (program : LinearProgram) (p : Imag
   -- adds none has none
   pub record HasName (m : Memory) (f : ℕ) : Type 0 where
     pub code : HasCode m (p.handler f) (name_thunk (p.handler f) (q.function f))
-    pub inside : IsInImage (p.handler f) (p.handler f + 15)
+    pub inside : IsInImage (p.handler f) (p.handler f + name_thunk_size)
 
   -- a program adds vectored handlers
   pub record AddsHandlers : Type 0 where
@@ -379,8 +390,9 @@ module _ (t : Functions) (fs : List Funclet) (program : LinearProgram) (p : Imag
   -- services
   pub record FindsCallersOutside : Type 0 where
     pub thunks : (m : Memory) (f : BuiltIn) (d : ℕ) → CallsBuiltIn program f
-        → d < sizes (stub_code p f (q.thunk f)) + 6 → FindsReturn t m (q.thunk f + d)
-    pub names : (m : Memory) (f d : ℕ) → AddsHandlers → f < length program.functions → d < 15
+        → d < sizes (stub_code p f (q.thunk f)) + thunk_size → FindsReturn t m (q.thunk f + d)
+    pub names : (m : Memory) (f d : ℕ) → AddsHandlers → f < length program.functions
+        → d < name_thunk_size
         → FindsReturn t m (p.handler f + d)
     pub local_unwind : (m : Memory) → FindsReturn t m q.local_unwind
     pub check_stack : (m : Memory) (d : ℕ) → d < sizes check_stack

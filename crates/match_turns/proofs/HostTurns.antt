@@ -8,7 +8,7 @@ use Rattle.x64_machine.specs.declared.outcome.Stop.TheVariants as stops
 use Rattle.match_turns.proofs.Lemmas.{host_keeps, fault_keeps}
 use Rattle.match_turns.specs.DispatchOutcome.{Represents, Shows}
 use Rattle.match_turns.specs.AskOutcome.{KeepsHere}
-use Rattle.match_turns.proofs.DispatchOutcomeSteps.{outcome_same, matched_by_turn}
+use Rattle.match_turns.proofs.Dispatches.DispatchOutcomeSteps.{outcome_same, matched_by_turn}
 
 module _ (t : Functions) (fs : List Funclet) where
   -- what a step is where RIP is in the host's page

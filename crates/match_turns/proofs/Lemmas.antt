@@ -30,39 +30,39 @@ pub use Rattle.match_stack.proofs.FuncletEntry.{set_small, few_items}
 pub use Rattle.match_stack.proofs.HostRegisters.{nine_numbers}
 pub use Rattle.match_stack.proofs.ListEnds.{end_within, in_stack}
 pub use Rattle.match_stack.proofs.ListKeeping.{reads_other, kept_by_other_memories, reaches_above, kept_by_stores_below}
-pub use Rattle.match_bodies.proofs.ActivationPlaces.{locals_count, got_before, got_last, activations_are_at}
-pub use Rattle.match_bodies.proofs.ActivationStores.{same_activations, activated}
-pub use Rattle.match_bodies.proofs.BodyCallers.{gives_caller, begin_finds}
-pub use Rattle.match_bodies.proofs.BodyFrames.{locals_own, body_owed, frame_from, frame_owed, frame_stays, frame_with, slots_within, small_others}
-pub use Rattle.match_bodies.proofs.BodyResumption.{IsFront, waits_in_body, all_front, no_front}
-pub use Rattle.match_bodies.proofs.BodyViews.{IsCounted, locals_small, sp_low, frame_top, room_here, holds_here, slots_here, AsFunction, AsFunclet, kind, is_machine, locals_here}
-pub use Rattle.match_bodies.proofs.CallKeeping.{calls_keep, CalleeBegins, callee_begins, thunk_keeps}
-pub use Rattle.match_bodies.proofs.ChainKeeping.{reaches_keeps, stays_well_formed, Keeps, keeps_then, enters_keeps}
-pub use Rattle.match_bodies.proofs.ComputeStep.{stored, writes, leaves_stored, fits_when_read}
-pub use Rattle.match_bodies.proofs.EntryKeeping.{arguments_plain, plain_both, passing_plain, parameters_steady, entry_ran, kept_plain, EntryRan, base_plain}
-pub use Rattle.match_bodies.proofs.FrameMaking.{making_steps}
-pub use Rattle.match_bodies.proofs.PlannedPrologues.{frame_there}
-pub use Rattle.match_bodies.proofs.InstructionEffects.{others_of}
-pub use Rattle.match_bodies.proofs.NextInstruction.{represents_next, new_on, further}
-pub use Rattle.match_bodies.proofs.NextSlots.{Ran, frame_after}
-pub use Rattle.match_bodies.proofs.LocalPlaces.{places_are, place_of_local, leaves_same, leaves_set}
-pub use Rattle.match_bodies.proofs.OwedCallers.{finds_return, frame_is_owed, owed_return, owed_with, returns_alone}
-pub use Rattle.match_bodies.proofs.PlainSteps.{GoesInside, from_here, label_small, moves_to, at_other, reached_here, is_read}
-pub use Rattle.match_bodies.proofs.ProgramKeeping.{program_stays, KeepsImage}
-pub use Rattle.match_bodies.proofs.ReturnAddresses.{label_found, argument_found}
-pub use Rattle.match_bodies.proofs.LabelPlaces.{template_there, label_near, end_near, code_ends, address_next}
-pub use Rattle.match_bodies.proofs.RoutineWalks.{reaches_steps, StepsTo, steps_split, keeps_split, AllPlain, AllSteady, plain_steady, enters_steps, read_here, Beneath, beneath_by, callers_above, gives_above, Finds, ran}
-pub use Rattle.match_bodies.proofs.SilentTurns.{none_inside, reaches_silently, enters_silently, program_reaches, KeepsCode, program_kept, reaches_comes, funclet_makes, silent_here}
-pub use Rattle.match_bodies.proofs.HiddenBytes.{IsSaid, said_of_hidden, pointer_is_seen}
-pub use Rattle.match_bodies.proofs.SlotPlaces.{KeepsSlot, stack_is_hidden, SlotsPlaced}
-pub use Rattle.match_bodies.proofs.SlotWrites.{locals_after, temporaries_after, FitsAfter, one_more, set_length, local_after}
-pub use Rattle.match_bodies.proofs.StackTop.{body_on_top, OnTop}
-pub use Rattle.match_bodies.proofs.StackWalks.{on_stack, stack_rises, keep_then}
-pub use Rattle.match_bodies.proofs.StackWords.{may_read_written, word_is, word_of}
-pub use Rattle.match_bodies.proofs.StepNeeds.{askable_here, some_is, counted_here, code_at, label_in, body_there, owned_count, leaf_or_funclet, owner_waits, ready_here, held_here, goes_inside, around_here}
-pub use Rattle.match_bodies.proofs.TemplateKeeping.{information_keeps, finish_keeps, operands_keep}
-pub use Rattle.match_bodies.proofs.ArrivedParameters.{each}
-pub use Rattle.match_bodies.proofs.TemplateRuns.{v, frame, slots, same_state, template_here, has_slots, sp_is, next_address, code_end, base, code, y, silent_at, Surroundings, get_or_is}
-pub use Rattle.match_bodies.proofs.TemplateShadows.{kept_by_view, is_here, is_after, ends_at, RunsKeep, one_piece, caller_here, beyond_here, ends_gives, IsPast, past_ends, kept_here, Below}
-pub use Rattle.match_bodies.proofs.TemplateSizes.{template_some, first_in_code}
-pub use Rattle.match_bodies.proofs.TemplateSlots.{Leaves}
+pub use Rattle.match_bodies.proofs.Places.ActivationPlaces.{locals_count, got_before, got_last, activations_are_at}
+pub use Rattle.match_bodies.proofs.Places.ActivationStores.{same_activations, activated}
+pub use Rattle.match_bodies.proofs.Walks.BodyCallers.{gives_caller, begin_finds}
+pub use Rattle.match_bodies.proofs.Steps.BodyFrames.{locals_own, body_owed, frame_from, frame_owed, frame_stays, frame_with, slots_within, small_others}
+pub use Rattle.match_bodies.proofs.Steps.BodyResumption.{IsFront, waits_in_body, all_front, no_front}
+pub use Rattle.match_bodies.proofs.Steps.BodyViews.{IsCounted, locals_small, sp_low, frame_top, room_here, holds_here, slots_here, AsFunction, AsFunclet, kind, is_machine, locals_here}
+pub use Rattle.match_bodies.proofs.Keeping.CallKeeping.{calls_keep, CalleeBegins, callee_begins, thunk_keeps}
+pub use Rattle.match_bodies.proofs.Keeping.ChainKeeping.{reaches_keeps, stays_well_formed, Keeps, keeps_then, enters_keeps}
+pub use Rattle.match_bodies.proofs.Steps.ComputeStep.{stored, writes, leaves_stored, fits_when_read}
+pub use Rattle.match_bodies.proofs.Keeping.EntryKeeping.{arguments_plain, plain_both, passing_plain, parameters_steady, entry_ran, kept_plain, EntryRan, base_plain}
+pub use Rattle.match_bodies.proofs.Prologues.FrameMaking.{making_steps}
+pub use Rattle.match_bodies.proofs.Prologues.PlannedPrologues.{frame_there}
+pub use Rattle.match_bodies.proofs.Steps.InstructionEffects.{others_of}
+pub use Rattle.match_bodies.proofs.Steps.NextInstruction.{represents_next, new_on, further}
+pub use Rattle.match_bodies.proofs.Places.NextSlots.{Ran, frame_after}
+pub use Rattle.match_bodies.proofs.Places.LocalPlaces.{places_are, place_of_local, leaves_same, leaves_set}
+pub use Rattle.match_bodies.proofs.Walks.OwedCallers.{finds_return, frame_is_owed, owed_return, owed_with, returns_alone}
+pub use Rattle.match_bodies.proofs.Steps.PlainSteps.{GoesInside, from_here, label_small, moves_to, at_other, reached_here, is_read}
+pub use Rattle.match_bodies.proofs.Keeping.ProgramKeeping.{program_stays, KeepsImage}
+pub use Rattle.match_bodies.proofs.Walks.ReturnAddresses.{label_found, argument_found}
+pub use Rattle.match_bodies.proofs.Places.LabelPlaces.{template_there, label_near, end_near, code_ends, address_next}
+pub use Rattle.match_bodies.proofs.Walks.RoutineWalks.{reaches_steps, StepsTo, steps_split, keeps_split, AllPlain, AllSteady, plain_steady, enters_steps, read_here, Beneath, beneath_by, callers_above, gives_above, Finds, ran}
+pub use Rattle.match_bodies.proofs.Walks.SilentTurns.{none_inside, reaches_silently, enters_silently, program_reaches, KeepsCode, program_kept, reaches_comes, funclet_makes, silent_here}
+pub use Rattle.match_bodies.proofs.Places.HiddenBytes.{IsSaid, said_of_hidden, pointer_is_seen}
+pub use Rattle.match_bodies.proofs.Places.SlotPlaces.{KeepsSlot, stack_is_hidden, SlotsPlaced}
+pub use Rattle.match_bodies.proofs.Places.SlotWrites.{locals_after, temporaries_after, FitsAfter, one_more, set_length, local_after}
+pub use Rattle.match_bodies.proofs.Places.StackTop.{body_on_top, OnTop}
+pub use Rattle.match_bodies.proofs.Walks.StackWalks.{on_stack, stack_rises, keep_then}
+pub use Rattle.match_bodies.proofs.Places.StackWords.{may_read_written, word_is, word_of}
+pub use Rattle.match_bodies.proofs.Steps.StepNeeds.{askable_here, some_is, counted_here, code_at, label_in, body_there, owned_count, leaf_or_funclet, owner_waits, ready_here, held_here, goes_inside, around_here}
+pub use Rattle.match_bodies.proofs.Keeping.TemplateKeeping.{information_keeps, finish_keeps, operands_keep}
+pub use Rattle.match_bodies.proofs.Places.ArrivedParameters.{each}
+pub use Rattle.match_bodies.proofs.Templates.TemplateRuns.{v, frame, slots, same_state, template_here, has_slots, sp_is, next_address, code_end, base, code, y, silent_at, Surroundings, get_or_is}
+pub use Rattle.match_bodies.proofs.Templates.TemplateShadows.{kept_by_view, is_here, is_after, ends_at, RunsKeep, one_piece, caller_here, beyond_here, ends_gives, IsPast, past_ends, kept_here, Below}
+pub use Rattle.match_bodies.proofs.Templates.TemplateSizes.{template_some, first_in_code}
+pub use Rattle.match_bodies.proofs.Templates.TemplateSlots.{Leaves}

@@ -7,9 +7,9 @@ use Rattle.pe_write.specs.Written.{written}
 use Rattle.pe_write.proofs.Back.{read_again}
 use Rattle.pe_write.proofs.Programs.{can_be_written, image_is}
 use Rattle.image_link.specs.Fits.{FitsProgram}
-use Rattle.image_octets.specs.OctetLaws.{AreOctets}
-use Rattle.image_octets.proofs.GlobalOctets.{resolved_octets}
-use Rattle.image_octets.proofs.LinkedOctets.{linked_are_octets}
+use Rattle.image_tables.specs.OctetLaws.{AreOctets}
+use Rattle.image_tables.proofs.GlobalOctets.{resolved_octets}
+use Rattle.image_tables.proofs.LinkedOctets.{linked_are_octets}
 use Rattle.image_runs.specs.ImageMeaning.{IsImageOf}
 use Rattle.image_tables.proofs.Table.{is}
 use Rattle.seh.specs.Existence.{ImagesExist}

@@ -5,7 +5,7 @@ use Rattle.seh_dispatch.specs.Words.{RunEnd, Memory, Cpu, HostedProcessor, State
 use Rattle.x64_decoded.specs.declared.cache.InstructionCache.{InstructionCache}
 use Rattle.x64_decoded.specs.Caches.{IsCoherent}
 use Rattle.x64_decoded.proofs.Staying.{cache_stays}
-use Rattle.host_fixed.proofs.Turning.{hosts_keep}
+use Rattle.host_model.proofs.FixedTurning.{hosts_keep}
 
 -- the state after a step that was made
 made_state : (h : HostedProcessor) (d : Cpu) (m n : Memory) (a : Answer State) → true ≡ is_ok a

@@ -190,7 +190,7 @@ fn put_entries<O: Sink>(out: &mut Lines<'_, O>, names: &NameTable<'_>, tables: &
 }
 
 /// The names of an image's functions; none where the table of names is refused.
-fn names<'a>(image: &ImageView<'a>) -> NameTable<'a>
+fn names<'a>(image: &'a ImageView<'_>) -> NameTable<'a>
     ensures { result ≡ rows_read (names_of image.now) }
 {
     match image.names() {

@@ -5,7 +5,7 @@ use crate::ways::{COMPILED, MEANING, TEXT, WAYS, all_show};
 use std::process::Abort;
 use test_texts::{
     binary, cold_parts, data_stack, depths, examples, handlers, many_locals, refused, texts, unary,
-    vectored, walks,
+    vectored, vectored_rules, walks,
 };
 
 /// Expressions, calls and loops show what they mean, and a recursion returns as often as it called.
@@ -123,7 +123,7 @@ fn vectored(rt: HostRuntime) {
     all_show(&rt, rt.alloc(), &WAYS, &TEXT, vectored::WITHIN);
     all_show(&rt, rt.alloc(), &MEANING, &TEXT, vectored::DEEPER);
     all_show(&rt, rt.alloc(), &MEANING, &TEXT, vectored::STEPS);
-    all_show(&rt, rt.alloc(), &WAYS, &TEXT, vectored::RULES);
+    all_show(&rt, rt.alloc(), &WAYS, &TEXT, vectored_rules::RULES);
 }
 
 /// Each program shows what is beside it.

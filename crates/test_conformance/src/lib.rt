@@ -1,8 +1,8 @@
 //! The programs of conformance/, each with what it has to show: tables, and no code.
 //!
 //! Written by conformance/tables: a table for each rule of conformance/cases, and one for each
-//! depth of conformance/pairs. The form of a row is that of `test_texts`; its lines are those without
-//! `--trace`.
+//! depth of conformance/pairs. The form of a row is that of `test_texts`; its lines are those
+//! without `--trace`.
 #![tactic(auto)]
 
 pub mod pairs_1;

@@ -8,9 +8,16 @@
 pub const PROGRAM: &str = r"
 $0$ edges[$2$] = {$1$};
 void both($0$ a, $0$ b){
-  put(a + b); put(a - b); put(a * b); put(a & b); put(a | b); put(a ^ b); put(a << b); put(a >> b); put(a < b); put(a <= b); put(a > b); put(a >= b); put(a == b); put(a != b);
-  __try{ put(a / b); } __except(1){ put(GetExceptionCode()); } __try{ put(a % b); } __except(1){ put(GetExceptionCode()); }
-} int main(void){ int i; int j; for (i = 0; i < $2$; i++) for (j = 0; j < $2$; j++) both(edges[i], edges[j]); return 0; }";
+  put(a + b); put(a - b); put(a * b); put(a & b); put(a | b); put(a ^ b); put(a << b);
+  put(a >> b); put(a < b); put(a <= b); put(a > b); put(a >= b); put(a == b); put(a != b);
+  __try{ put(a / b); } __except(1){ put(GetExceptionCode()); }
+  __try{ put(a % b); } __except(1){ put(GetExceptionCode()); }
+}
+int main(void) {
+  int i; int j;
+  for (i = 0; i < $2$; i++) for (j = 0; j < $2$; j++) both(edges[i], edges[j]);
+  return 0;
+}";
 
 /// Types that are promoted to `int`.
 pub const NARROW: &str = r"

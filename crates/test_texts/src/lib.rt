@@ -20,4 +20,5 @@ pub mod refused;
 pub mod texts;
 pub mod unary;
 pub mod vectored;
+pub mod vectored_rules;
 pub mod walks;

@@ -8,7 +8,9 @@
 pub const UNARY_PROGRAM: &str = r"
 $0$ edges[$2$] = {$1$};
 void one($0$ a){
-  put(-a); put(+a); put(~a); put(!a); put((char)a); put((unsigned char)a); put((short)a); put((unsigned short)a); put((int)a); put((unsigned)a); put((long long)a); put((unsigned long long)a);
+  put(-a); put(+a); put(~a); put(!a); put((char)a); put((unsigned char)a); put((short)a);
+  put((unsigned short)a); put((int)a); put((unsigned)a); put((long long)a);
+  put((unsigned long long)a);
   put(a++); put(a); put(--a); put(a--); put(++a);
 } int main(void){ int i; for (i = 0; i < $2$; i++) one(edges[i]); return 0; }";
 
@@ -72,25 +74,37 @@ exit 0
 pub const ASSIGNMENTS: &str = r"
 $0$ v;
 int main(void){
-  v = $1$; v += 1; put(v); v = $1$; v += 3; put(v); v = $1$; v += -1; put(v); v = $2$; v += 1; put(v); v = $2$; v += 3; put(v); v = $2$; v += -1; put(v);
-  v = $1$; v -= 1; put(v); v = $1$; v -= 3; put(v); v = $1$; v -= -1; put(v); v = $2$; v -= 1; put(v); v = $2$; v -= 3; put(v); v = $2$; v -= -1; put(v);
-  v = $1$; v *= 1; put(v); v = $1$; v *= 3; put(v); v = $1$; v *= -1; put(v); v = $2$; v *= 1; put(v); v = $2$; v *= 3; put(v); v = $2$; v *= -1; put(v);
-  v = $1$; v &= 1; put(v); v = $1$; v &= 3; put(v); v = $1$; v &= -1; put(v); v = $2$; v &= 1; put(v); v = $2$; v &= 3; put(v); v = $2$; v &= -1; put(v);
-  v = $1$; v |= 1; put(v); v = $1$; v |= 3; put(v); v = $1$; v |= -1; put(v); v = $2$; v |= 1; put(v); v = $2$; v |= 3; put(v); v = $2$; v |= -1; put(v);
-  v = $1$; v ^= 1; put(v); v = $1$; v ^= 3; put(v); v = $1$; v ^= -1; put(v); v = $2$; v ^= 1; put(v); v = $2$; v ^= 3; put(v); v = $2$; v ^= -1; put(v);
-  v = $1$; v <<= 1; put(v); v = $1$; v <<= 7; put(v); v = $1$; v <<= 33; put(v); v = $2$; v <<= 1; put(v); v = $2$; v <<= 7; put(v); v = $2$; v <<= 33; put(v);
-  v = $1$; v >>= 1; put(v); v = $1$; v >>= 7; put(v); v = $1$; v >>= 33; put(v); v = $2$; v >>= 1; put(v); v = $2$; v >>= 7; put(v); v = $2$; v >>= 33; put(v);";
+  v = $1$; v += 1; put(v); v = $1$; v += 3; put(v); v = $1$; v += -1; put(v); v = $2$; v += 1;
+  put(v); v = $2$; v += 3; put(v); v = $2$; v += -1; put(v);
+  v = $1$; v -= 1; put(v); v = $1$; v -= 3; put(v); v = $1$; v -= -1; put(v); v = $2$; v -= 1;
+  put(v); v = $2$; v -= 3; put(v); v = $2$; v -= -1; put(v);
+  v = $1$; v *= 1; put(v); v = $1$; v *= 3; put(v); v = $1$; v *= -1; put(v); v = $2$; v *= 1;
+  put(v); v = $2$; v *= 3; put(v); v = $2$; v *= -1; put(v);
+  v = $1$; v &= 1; put(v); v = $1$; v &= 3; put(v); v = $1$; v &= -1; put(v); v = $2$; v &= 1;
+  put(v); v = $2$; v &= 3; put(v); v = $2$; v &= -1; put(v);
+  v = $1$; v |= 1; put(v); v = $1$; v |= 3; put(v); v = $1$; v |= -1; put(v); v = $2$; v |= 1;
+  put(v); v = $2$; v |= 3; put(v); v = $2$; v |= -1; put(v);
+  v = $1$; v ^= 1; put(v); v = $1$; v ^= 3; put(v); v = $1$; v ^= -1; put(v); v = $2$; v ^= 1;
+  put(v); v = $2$; v ^= 3; put(v); v = $2$; v ^= -1; put(v);
+  v = $1$; v <<= 1; put(v); v = $1$; v <<= 7; put(v); v = $1$; v <<= 33; put(v); v = $2$; v <<= 1;
+  put(v); v = $2$; v <<= 7; put(v); v = $2$; v <<= 33; put(v);
+  v = $1$; v >>= 1; put(v); v = $1$; v >>= 7; put(v); v = $1$; v >>= 33; put(v); v = $2$; v >>= 1;
+  put(v); v = $2$; v >>= 7; put(v); v = $2$; v >>= 33; put(v);";
 
 /// The divisions after them, of a type in which none overflows.
 pub const DIVISIONS: &str = r"
-  v = $1$; v /= 1; put(v); v = $1$; v /= 3; put(v); v = $1$; v /= -1; put(v); v = $2$; v /= 1; put(v); v = $2$; v /= 3; put(v); v = $2$; v /= -1; put(v);
-  v = $1$; v %= 1; put(v); v = $1$; v %= 3; put(v); v = $1$; v %= -1; put(v); v = $2$; v %= 1; put(v); v = $2$; v %= 3; put(v); v = $2$; v %= -1; put(v);
+  v = $1$; v /= 1; put(v); v = $1$; v /= 3; put(v); v = $1$; v /= -1; put(v); v = $2$; v /= 1;
+  put(v); v = $2$; v /= 3; put(v); v = $2$; v /= -1; put(v);
+  v = $1$; v %= 1; put(v); v = $1$; v %= 3; put(v); v = $1$; v %= -1; put(v); v = $2$; v %= 1;
+  put(v); v = $2$; v %= 3; put(v); v = $2$; v %= -1; put(v);
   return 0; }";
 
 /// The divisions of a type in which the least number divided by -1 overflows.
 pub const SIGNED_DIVISIONS: &str = r"
-  v = $1$; v /= 1; put(v); v = $1$; v /= 3; put(v); v = $2$; v /= 1; put(v); v = $2$; v /= 3; put(v); v = $2$; v /= -1; put(v);
-  v = $1$; v %= 1; put(v); v = $1$; v %= 3; put(v); v = $2$; v %= 1; put(v); v = $2$; v %= 3; put(v); v = $2$; v %= -1; put(v);
+  v = $1$; v /= 1; put(v); v = $1$; v /= 3; put(v); v = $2$; v /= 1; put(v); v = $2$; v /= 3;
+  put(v); v = $2$; v /= -1; put(v);
+  v = $1$; v %= 1; put(v); v = $1$; v %= 3; put(v); v = $2$; v %= 1; put(v); v = $2$; v %= 3;
+  put(v); v = $2$; v %= -1; put(v);
   return 0; }";
 
 /// Of 8 and 16 bits, and unsigned of 32 and 64 bits.
@@ -200,14 +214,39 @@ exit 0
 /// The type of two operands.
 pub const MIXED: &str = r"
 # operands of two types:
-void f0(int a, unsigned b){ put(a + b); put(a - b); put(a * b); put(a < b); put(a > b); put(a == b); put(a >> b); put(b >> a); put(a / b); put(a % b); }
-void f1(int a, long long b){ put(a + b); put(a - b); put(a * b); put(a < b); put(a > b); put(a == b); put(a >> b); put(b >> a); put(a / b); put(a % b); }
-void f2(unsigned a, long long b){ put(a + b); put(a - b); put(a * b); put(a < b); put(a > b); put(a == b); put(a >> b); put(b >> a); put(a / b); put(a % b); }
-void f3(long long a, unsigned long long b){ put(a + b); put(a - b); put(a * b); put(a < b); put(a > b); put(a == b); put(a >> b); put(b >> a); put(a / b); put(a % b); }
-void f4(char a, unsigned b){ put(a + b); put(a - b); put(a * b); put(a < b); put(a > b); put(a == b); put(a >> b); put(b >> a); put(a / b); put(a % b); }
-void f5(unsigned short a, int b){ put(a + b); put(a - b); put(a * b); put(a < b); put(a > b); put(a == b); put(a >> b); put(b >> a); put(a / b); put(a % b); }
-void f6(int a, unsigned long long b){ put(a + b); put(a - b); put(a * b); put(a < b); put(a > b); put(a == b); put(a >> b); put(b >> a); put(a / b); put(a % b); }
-int main(void){ f0(-1, 1); f0(-2, 3); f0(5, -1); f1(-1, 1); f1(-2, 3); f1(5, -1); f2(-1, 1); f2(-2, 3); f2(5, -1); f3(-1, 1); f3(-2, 3); f3(5, -1); f4(-1, 1); f4(-2, 3); f4(5, -1); f5(-1, 1); f5(-2, 3); f5(5, -1); f6(-1, 1); f6(-2, 3); f6(5, -1); return 0; }
+void f0(int a, unsigned b) {
+  put(a + b); put(a - b); put(a * b); put(a < b); put(a > b); put(a == b); put(a >> b);
+  put(b >> a); put(a / b); put(a % b);
+}
+void f1(int a, long long b) {
+  put(a + b); put(a - b); put(a * b); put(a < b); put(a > b); put(a == b); put(a >> b);
+  put(b >> a); put(a / b); put(a % b);
+}
+void f2(unsigned a, long long b) {
+  put(a + b); put(a - b); put(a * b); put(a < b); put(a > b); put(a == b); put(a >> b);
+  put(b >> a); put(a / b); put(a % b);
+}
+void f3(long long a, unsigned long long b) {
+  put(a + b); put(a - b); put(a * b); put(a < b); put(a > b); put(a == b); put(a >> b);
+  put(b >> a); put(a / b); put(a % b);
+}
+void f4(char a, unsigned b) {
+  put(a + b); put(a - b); put(a * b); put(a < b); put(a > b); put(a == b); put(a >> b);
+  put(b >> a); put(a / b); put(a % b);
+}
+void f5(unsigned short a, int b) {
+  put(a + b); put(a - b); put(a * b); put(a < b); put(a > b); put(a == b); put(a >> b);
+  put(b >> a); put(a / b); put(a % b);
+}
+void f6(int a, unsigned long long b) {
+  put(a + b); put(a - b); put(a * b); put(a < b); put(a > b); put(a == b); put(a >> b);
+  put(b >> a); put(a / b); put(a % b);
+}
+int main(void) {
+  f0(-1, 1); f0(-2, 3); f0(5, -1); f1(-1, 1); f1(-2, 3); f1(5, -1); f2(-1, 1); f2(-2, 3);
+  f2(5, -1); f3(-1, 1); f3(-2, 3); f3(5, -1); f4(-1, 1); f4(-2, 3); f4(5, -1); f5(-1, 1);
+  f5(-2, 3); f5(5, -1); f6(-1, 1); f6(-2, 3); f6(5, -1); return 0;
+}
 => 0 0 / 4294967294 / 4294967295 / 0 / 1 / 0 / -1 / 0 / 4294967295 / 0
 1 / 4294967291 / 4294967290 / 0 / 1 / 0 / -1 / 0 / 1431655764 / 2
 4 / 6 / 4294967291 / 1 / 0 / 0 / 0 / 134217727 / 0 / 5

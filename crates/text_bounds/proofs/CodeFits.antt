@@ -21,7 +21,7 @@ use Rattle.lowering_invariants.specs.Registers.{HasRegisters}
 use Rattle.lowering_invariants.specs.Slots as small
 use Rattle.lowering_invariants.specs.Slots.{IsAmong, IsField, IsPlain, IsSmallBody, HasFlag, IsSmallFunclet, IsSmallFunction}
 use Rattle.lowering_invariants.proofs.SparedRegisters.{lowered_has}
-use Rattle.lowering_invariants.proofs.ColdParts.{lowered_has_cold_parts}
+use Rattle.lowering_invariants.proofs.ColdCode.ColdParts.{lowered_has_cold_parts}
 use Rattle.linear_machine.specs.Frames.{FunctionBody, function_body}
 use Rattle.text_bounds.proofs.StatementNesting.{accepted_is_small}
 use Rattle.x64_emit.specs.Near.{IsFieldNear}

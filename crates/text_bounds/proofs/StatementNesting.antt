@@ -11,7 +11,7 @@ use Rattle.c_syntax.specs.Statement.{Local}
 use Rattle.c_resolved.specs.Statements.{optional}
 use Rattle.c_syntax.specs.Limits.{every_limit, EachWithinFirst, height_of, height_of_locals, height_of_for_initialiser, expressions_over, expressions_over_all, statements_over, statements_over_all, over_block_item}
 use Rattle.text_bounds.proofs.Lemmas.{accepted_is_sound}
-use Rattle.lowering_invariants.proofs.Small.{lowered_is_small}
+use Rattle.lowering_invariants.proofs.SmallNumbers.Small.{lowered_is_small}
 use Rattle.text_bounds.specs.NestingLaws.{ResolvedIsShallow, AcceptedIsSmall}
 use Rattle.text_bounds.proofs.OperatorNesting.{ShallowIf}
 use Rattle.text_bounds.proofs.ExpressionNesting.{resolved_shallow}

@@ -1,4 +1,4 @@
-use Rattle.lowering_invariants.proofs.Separators as lemma
+use Rattle.lowering_invariants.proofs.SeparatorCounts.Separators as lemma
 use Rattle.lowering_invariants.proofs.place_laws.lowered_has_separators.Goals as goal
 
 pub returns : goal.returns

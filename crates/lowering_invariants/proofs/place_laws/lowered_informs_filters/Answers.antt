@@ -1,4 +1,4 @@
-use Rattle.lowering_invariants.proofs.Blind as lemma
+use Rattle.lowering_invariants.proofs.Places.Blind as lemma
 use Rattle.lowering_invariants.proofs.place_laws.lowered_informs_filters.Goals as goal
 
 pub returns : goal.returns

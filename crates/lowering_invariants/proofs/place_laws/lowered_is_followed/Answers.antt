@@ -1,4 +1,4 @@
-use Rattle.lowering_invariants.proofs.BlockSeparators as lemma
+use Rattle.lowering_invariants.proofs.SeparatorCounts.BlockSeparators as lemma
 use Rattle.lowering_invariants.proofs.place_laws.lowered_is_followed.Goals as goal
 
 pub returns : goal.returns

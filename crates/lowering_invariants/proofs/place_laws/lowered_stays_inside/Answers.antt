@@ -1,4 +1,4 @@
-use Rattle.lowering_invariants.proofs.UnwindLabels as lemma
+use Rattle.lowering_invariants.proofs.Labels.UnwindLabels as lemma
 use Rattle.lowering_invariants.proofs.place_laws.lowered_stays_inside.Goals as goal
 
 pub returns : goal.returns

@@ -1,4 +1,4 @@
-use Rattle.match_bodies.proofs.BodySteps as lemma
+use Rattle.match_bodies.proofs.Steps.BodySteps as lemma
 use Rattle.match_bodies.proofs.step_laws.laws.Goals as goal
 
 pub returns : goal.returns

@@ -1,4 +1,4 @@
-use Rattle.match_turns.proofs.FinallyCallSteps as lemma
+use Rattle.match_turns.proofs.FinallyBlocks.FinallyCallSteps as lemma
 use Rattle.match_turns.proofs.block_laws.laws.Goals as goal
 
 pub returns : goal.returns

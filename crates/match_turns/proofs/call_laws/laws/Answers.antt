@@ -1,4 +1,4 @@
-use Rattle.match_turns.proofs.CallSteps as lemma
+use Rattle.match_turns.proofs.Calls.CallSteps as lemma
 use Rattle.match_turns.proofs.call_laws.laws.Goals as goal
 
 pub returns : goal.returns

@@ -1,4 +1,4 @@
-use Rattle.match_turns.proofs.FuncletReturnSteps as lemma
+use Rattle.match_turns.proofs.Funclets.FuncletReturnSteps as lemma
 use Rattle.match_turns.proofs.end_laws.laws.Goals as goal
 
 pub returns : goal.returns

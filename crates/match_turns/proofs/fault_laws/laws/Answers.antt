@@ -1,6 +1,6 @@
-use Rattle.match_turns.proofs.OperationMeaning as meant
-use Rattle.match_turns.proofs.OperationOperands as fetching
-use Rattle.match_turns.proofs.OperationSteps as steps
+use Rattle.match_turns.proofs.Operations.OperationMeaning as meant
+use Rattle.match_turns.proofs.Operations.OperationOperands as fetching
+use Rattle.match_turns.proofs.Operations.OperationSteps as steps
 use Rattle.match_turns.proofs.fault_laws.laws.Goals as goal
 
 pub returns : goal.returns

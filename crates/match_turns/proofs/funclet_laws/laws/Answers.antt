@@ -1,4 +1,4 @@
-use Rattle.match_turns.proofs.FuncletSteps as lemma
+use Rattle.match_turns.proofs.Funclets.FuncletSteps as lemma
 use Rattle.match_turns.proofs.funclet_laws.laws.Goals as goal
 
 pub returns : goal.returns

@@ -1,7 +1,7 @@
-use Rattle.match_turns.proofs.RaiseCall as raising
-use Rattle.match_turns.proofs.LocalUnwindCall as unwinding
-use Rattle.match_turns.proofs.RaiseContinuation as continuing
-use Rattle.match_turns.proofs.BodyContinuation as joining
+use Rattle.match_turns.proofs.Raises.RaiseCall as raising
+use Rattle.match_turns.proofs.FinallyBlocks.LocalUnwindCall as unwinding
+use Rattle.match_turns.proofs.Raises.RaiseContinuation as continuing
+use Rattle.match_turns.proofs.Bodies.BodyContinuation as joining
 use Rattle.match_turns.proofs.raise_laws.laws.Goals as goal
 
 pub returns : goal.returns

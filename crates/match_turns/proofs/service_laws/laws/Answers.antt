@@ -1,4 +1,4 @@
-use Rattle.match_turns.proofs.ServiceSteps as lemma
+use Rattle.match_turns.proofs.Services.ServiceSteps as lemma
 use Rattle.match_turns.proofs.service_laws.laws.Goals as goal
 
 pub returns : goal.returns

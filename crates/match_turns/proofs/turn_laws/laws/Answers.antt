@@ -1,6 +1,6 @@
 use Rattle.match_turns.specs.Words.{setting_of}
-use Rattle.match_turns.proofs.DispatchStart as asked
-use Rattle.match_turns.proofs.DispatchReturnSteps as funclets
+use Rattle.match_turns.proofs.Dispatches.DispatchStart as asked
+use Rattle.match_turns.proofs.Dispatches.DispatchReturnSteps as funclets
 use Rattle.match_turns.proofs.turn_laws.laws.Goals as goal
 
 pub returns : goal.returns

@@ -1,0 +1,3 @@
+-- Labels that unwindings go to.
+pub mod UnwindLabels
+pub mod UnwindTargets

@@ -1,0 +1,4 @@
+-- Numbers in code that is lowered are small.
+pub mod SmallLists
+pub mod SmallStores
+pub mod Small

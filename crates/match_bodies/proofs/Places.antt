@@ -1,0 +1,19 @@
+-- Where locals, slots, arguments and saved registers lie in a frame.
+pub mod StackTop
+pub mod LocalRegisters
+pub mod LabelPlaces
+pub mod ActivationPlaces
+pub mod LocalStores
+pub mod FramePlaces
+pub mod LeafRegisters
+pub mod ArrivedParameters
+pub mod StackWords
+pub mod LocalPlaces
+pub mod ReachedSlots
+pub mod SlotPlaces
+pub mod HiddenBytes
+pub mod ArgumentSpace
+pub mod HomeSpace
+pub mod NextSlots
+pub mod ActivationStores
+pub mod SlotWrites
