@@ -38,7 +38,8 @@ loop-k-preserved g c =
           (c.loop-k.k + 1) c.in-Ok.found.caller (set c.loop-k.frames c.loop-k.k f))
           c.c_frame.ensures
           ∙ sym (frame_more c.args.own t c.args.base m c.args.size n j c.loop-k.k c.loop-k.here
-          c.loop-k.frames c.in-Ok.found (omega arith) i (sym (c.in-Ok.ensures up))) ∙ c.loop-k.invariant.rest up;
+          c.loop-k.frames c.in-Ok.found (omega arith) i (sym (c.in-Ok.ensures up)))
+          ∙ c.loop-k.invariant.rest up;
     }
 
 pub returns : goal.returns
