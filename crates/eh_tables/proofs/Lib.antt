@@ -1,4 +1,5 @@
 pub mod Chains
+pub mod CoveringAlike
 pub mod EitherAlike
 pub mod EitherChains
 pub mod Headers

@@ -1,6 +1,6 @@
 //! What is written is read again, and what is read alike.
 
-ghost use Rattle.eh_tables.specs.EitherEntries.{ReadsVersion1Alike};
+ghost use Rattle.eh_tables.specs.EitherEntries.{FindsAlike, ReadsVersion1Alike};
 ghost use Rattle.eh_tables.specs.ReadAgain.{InfoIsReadAgain, ScopeRecordsAreReadAgain, RangesAreReadAgain, TableIsReadAgain};
 
 /// What `write_unwind`, `write_scopes` and `write_pdata` append is read again as the same values,
@@ -13,7 +13,10 @@ pub fn read_again()
     ensures table { TableIsReadAgain }
 {}
 
-/// An entry whose infos have version 1 is read alike where version 2 is read too.
+/// An entry that is read where version 1 alone is has that version, and is read alike where version
+/// 2 is read too. In a table that was read whole, the entry that covers an address is the one that
+/// a look-up finds, by each way.
 pub fn version_1_alike()
-    ensures { ReadsVersion1Alike }
+    ensures entries { ReadsVersion1Alike }
+    ensures found { FindsAlike }
 {}
