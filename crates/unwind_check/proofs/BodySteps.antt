@@ -8,10 +8,12 @@ use Rattle.virtual_unwind.specs.Tail.{FetchedInstr, tail_at}
 use Rattle.frame_rules.specs.Body.{written, restored_by, with_restored}
 use Rattle.unwind_check.specs.declared.rule.Fault.{Fault}
 use Rattle.unwind_check.specs.declared.rule.Rule.TheVariants.{Decode, StackWrite, Unsaved}
-use Rattle.unwind_check.specs.Boundaries.{fault, Decoded, between}
+use Rattle.unwind_check.specs.Boundaries.{fault}
+use Rattle.unwind_tails.specs.Instructions.{Decoded, between}
 use Rattle.unwind_check.specs.Bodies.{keeps_stack, keeps_saved, body_from}
-use Rattle.unwind_check.specs.Steps.{Known, HaveSame, shown, ShowsStep, HasFirst, HasNone, body_between, known_or, load_or, plain_load, past_plain, past_rest, step_of}
-use Rattle.unwind_check.proofs.Decoding.{none_more, at_end}
+use Rattle.unwind_check.specs.Steps.{Known, HaveSame, shown, ShowsStep, body_between, known_or, load_or, plain_load, past_plain, past_rest, step_of}
+use Rattle.unwind_tails.specs.Instructions.{HasFirst, HasNone}
+use Rattle.unwind_tails.proofs.Decoding.{none_more, at_end}
 use Rattle.unwind_check.proofs.SameLoads.{same_none}
 use Rattle.unwind_check.proofs.Passing.{failing, going, starting, skipping}
 

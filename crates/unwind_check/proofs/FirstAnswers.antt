@@ -7,7 +7,8 @@ use Rattle.frame_rules.specs.States.{HasItems}
 use Rattle.frame_rules.proofs.Tails.{items_rise}
 use Rattle.unwind_check.specs.declared.rule.Rule.{Rule}
 use Rattle.unwind_check.specs.declared.rule.Fault.{Fault}
-use Rattle.unwind_check.specs.Boundaries.{IsBoundary, fault, is_some}
+use Rattle.unwind_check.specs.Boundaries.{IsBoundary, fault}
+use Rattle.unwind_tails.specs.Instructions.{is_some}
 use Rattle.unwind_check.specs.FailingRules.{CodeEntry, Fails, place_of}
 use Rattle.unwind_check.proofs.BodyPlaces.{IsBefore, is_first, fault_fails}
 

@@ -12,7 +12,8 @@ use Rattle.frame_rules.proofs.Tails.{items_rise}
 use Rattle.unwind_check.specs.declared.rule.Rule.{Rule}
 use Rattle.unwind_check.specs.declared.rule.Rule.TheVariants.{Decode, Chain, Codes, Prologue, StackWrite, Unsaved, Epilogue}
 use Rattle.unwind_check.specs.declared.rule.Fault.{Fault}
-use Rattle.unwind_check.specs.Boundaries.{IsBoundary, fault, unless, or_next, is_some}
+use Rattle.unwind_check.specs.Boundaries.{IsBoundary, fault, unless, or_next}
+use Rattle.unwind_tails.specs.Instructions.{is_some}
 use Rattle.unwind_check.specs.Codes.{keep_codes}
 use Rattle.unwind_check.specs.Bodies.{body_from}
 use Rattle.unwind_check.specs.Chains.{names_entry, is_secondary, is_fragment, keeps_chain, primary}

@@ -9,7 +9,8 @@ use Rattle.frame_rules.specs.Validated.{turned, fits}
 use Rattle.frame_rules.proofs.Tails.{items_rise}
 use Rattle.unwind_check.specs.declared.rule.Rule.TheVariants.{Decode, Prologue}
 use Rattle.unwind_check.specs.declared.rule.Fault.{Fault}
-use Rattle.unwind_check.specs.Boundaries.{fault, unless, Decoded, if_inside, from_item, or_end, decoded}
+use Rattle.unwind_check.specs.Boundaries.{fault, unless}
+use Rattle.unwind_tails.specs.Instructions.{Decoded, if_inside, from_item, or_end, decoded}
 use Rattle.unwind_check.specs.Prologues.{Site, is_probed, cont, by_three, prologue_from, is_call_of}
 use Rattle.unwind_check.specs.Faults.{prologue_of, site}
 use Rattle.unwind_check.specs.FailingRules.{CodeEntry, prologue_instrs, Leads, here, past_one, past_three, AreOther, HasOtherInstr, LacksInstr}

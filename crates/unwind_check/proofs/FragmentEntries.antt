@@ -10,7 +10,8 @@ use Rattle.virtual_unwind.specs.Tail.{FetchedInstr}
 use Rattle.frame_rules.specs.Body.{Body, following, is_body}
 use Rattle.frame_rules.specs.States.{HasItems}
 use Rattle.unwind_check.specs.declared.rule.Rule.TheVariants.{Decode, Chain}
-use Rattle.unwind_check.specs.Boundaries.{Decoded, unless, between, is_some}
+use Rattle.unwind_tails.specs.Instructions.{Decoded, between, is_some}
+use Rattle.unwind_check.specs.Boundaries.{unless}
 use Rattle.unwind_check.specs.Bodies.{body_from}
 use Rattle.unwind_check.specs.Chains.{names_entry, has_no_codes, is_secondary, is_fragment}
 use Rattle.unwind_check.specs.Faults.{prologue_end, prologue_of, body_of, begins, fragment_fault, entry_fault}

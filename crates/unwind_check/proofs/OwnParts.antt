@@ -10,7 +10,8 @@ use Rattle.virtual_unwind.specs.Tail.{FetchedInstr}
 use Rattle.frame_rules.specs.Codes.{allocation, pushes}
 use Rattle.frame_rules.specs.Epilogue.{is_pop, gives_back, pops, is_epilogue}
 use Rattle.frame_rules.specs.Body.{are_restored}
-use Rattle.unwind_check.specs.Steps.{instrs, is_own_part}
+use Rattle.unwind_tails.specs.Instructions.{instrs}
+use Rattle.unwind_check.specs.Steps.{is_own_part}
 
 -- ---- an epilogue has an instruction for each push, one that gives back the allocation, and an end
 

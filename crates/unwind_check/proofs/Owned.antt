@@ -15,7 +15,9 @@ use Rattle.frame_rules.proofs.Tails.{items_rise}
 use Rattle.unwind_check.specs.declared.rule.Fault.{Fault}
 use Rattle.unwind_check.specs.declared.rule.Rule.TheVariants.{Epilogue}
 use Rattle.unwind_check.specs.Bodies.{is_own}
-use Rattle.unwind_check.specs.Steps.{Known, known_or, past_rest, counted, instrs, is_own_part}
+use Rattle.unwind_check.specs.Steps.{Known, known_or, past_rest, is_own_part}
+use Rattle.unwind_tails.specs.Tails.{counted}
+use Rattle.unwind_tails.specs.Instructions.{instrs}
 use Rattle.unwind_check.proofs.Tails.{Stops, Goes, taken}
 
 finish : (x : FetchedInstr) (xs : List FetchedInstr) (rest is : List Instr) → x.instr ∷ rest ≡ is

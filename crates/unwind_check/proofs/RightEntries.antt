@@ -17,7 +17,8 @@ use Rattle.frame_rules.proofs.Keeping.{turned_onto}
 use Rattle.unwind_check.specs.declared.rule.Rule.{Rule}
 use Rattle.unwind_check.specs.declared.rule.Rule.TheVariants.{Decode, Codes, Prologue}
 use Rattle.unwind_check.specs.declared.rule.Fault.{Fault}
-use Rattle.unwind_check.specs.Boundaries.{Decoded, unless, or_next, between, is_some}
+use Rattle.unwind_tails.specs.Instructions.{Decoded, between, is_some}
+use Rattle.unwind_check.specs.Boundaries.{unless, or_next}
 use Rattle.unwind_check.specs.Codes.{ends, are_at_ends, have_registers, keep_codes}
 use Rattle.unwind_check.specs.Prologues.{prologue_from}
 use Rattle.unwind_check.specs.Bodies.{body_from}

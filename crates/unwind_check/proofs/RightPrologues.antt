@@ -13,10 +13,11 @@ use Rattle.frame_rules.specs.Validated.{fits}
 use Rattle.frame_rules.proofs.Keeping.{codes_of, fit, misses_one}
 use Rattle.frame_rules.proofs.Tails.{items_rise}
 use Rattle.unwind_check.specs.declared.rule.Rule.TheVariants.{Prologue}
-use Rattle.unwind_check.specs.Boundaries.{fault, with_item, between}
+use Rattle.unwind_check.specs.Boundaries.{fault}
+use Rattle.unwind_tails.specs.Instructions.{with_item, between}
 use Rattle.unwind_check.specs.Prologues.{Site, is_call_of, cont, by_three, prologue_from}
 use Rattle.unwind_check.specs.RightFunctions.{CallsProbe}
-use Rattle.unwind_check.proofs.Decoding.{goes_on, at_end}
+use Rattle.unwind_tails.proofs.Decoding.{goes_on, at_end}
 
 -- ---- what is in memory is what is decoded
 

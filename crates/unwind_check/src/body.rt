@@ -5,18 +5,21 @@ ghost use Rattle.std.specs.Prelude.{◌≡◌, ℕ, List, ◌+◌, ◌<◌, ◌�
 ghost use Rattle.virtual_unwind.specs.Tail.{tail_at};
 ghost use Rattle.virtual_unwind.specs.Undone.{operations};
 ghost use Rattle.frame_rules.specs.Body as rules;
-ghost use Rattle.unwind_check.specs.Boundaries.{between};
+ghost use Rattle.unwind_tails.specs.Instructions.{between};
 ghost use Rattle.unwind_check.specs.Steps as spec;
+ghost use Rattle.unwind_tails.specs.Instructions as instrs;
+ghost use Rattle.unwind_tails.specs.TailEnds.{AreEnded};
 
-use crate::decoded::{first_between, item_before};
-use crate::epilogue::is_epilogue;
-use crate::fetched::FetchedInstr;
 use crate::loads::{are_restored, has, restored_by};
 use crate::rule::{Fault, Rule};
-use crate::tail::{Tail, tail_from};
 use crate::written::{keeps_saved, keeps_stack};
 use eh_tables::{Info, UnwindCode};
 use std::alloc::{AllocError, Global};
+use unwind_tails::decoded::{first_between, item_before};
+use unwind_tails::epilogue::is_epilogue;
+use unwind_tails::fetched::FetchedInstr;
+use unwind_tails::known_tails::KnownTails;
+use unwind_tails::tail::{Tail, tail_from};
 use x64_memory::space::CodeSpace;
 
 /// Whether the first so many instructions from an address on are a whole epilogue of the function,
@@ -123,6 +126,7 @@ fn pass_plain(
 fn pass_rest<S: CodeSpace>(
     alloc: Global,
     space: &S,
+    known: &mut KnownTails,
     info: &Info,
     codes: &[UnwindCode],
     at: u64,
@@ -131,15 +135,18 @@ fn pass_rest<S: CodeSpace>(
     item: &FetchedInstr,
 ) -> Result<Result<u64, Fault>, AllocError>
     requires codes { codes.now ≡ info.now.codes }
-    requires first { spec.HasFirst (S.memory space.now) at end item.now }
+    requires first { instrs.HasFirst (S.memory space.now) at end item.now }
     requires low { end < 2 ^ 63 }
-    ensures { IfOk result (λ r. (rs : List ℕ) → spec.HaveSame loaded.old.items rs
+    requires known { AreEnded (S.memory space.now) known.old }
+    ensures step { IfOk result (λ r. (rs : List ℕ) → spec.HaveSame loaded.old.items rs
         → spec.ShowsStep loaded.new.items r (spec.past_rest info.now at rs item.now
         (between (S.memory space.now) (at + item.now.size) end).items
         (tail_at info.now.frame_register (S.memory space.now) at))) }
+    ensures known { AreEnded (S.memory space.now) known.new }
 {
     let rule = Rule::Epilogue;
-    match tail_from(space, info.frame_register(), at, end, item) {
+    let tail = tail_from(alloc, space, known, info.frame_register(), at, end, item)?;
+    match tail {
         Tail::Missing => {
             let passed = pass_plain(info, codes, at, loaded, item)?;
             Ok(passed)
@@ -162,6 +169,7 @@ fn pass_rest<S: CodeSpace>(
 fn step<S: CodeSpace>(
     alloc: Global,
     space: &S,
+    known: &mut KnownTails,
     info: &Info,
     codes: &[UnwindCode],
     at: u64,
@@ -171,14 +179,16 @@ fn step<S: CodeSpace>(
     left: u64,
 ) -> Result<Result<u64, Fault>, AllocError>
     requires codes { codes.now ≡ info.now.codes }
-    requires first { spec.HasFirst (S.memory space.now) at end item.now }
+    requires first { instrs.HasFirst (S.memory space.now) at end item.now }
     requires low { end < 2 ^ 63 }
-    ensures { IfOk result (λ r. (rs : List ℕ) → spec.HaveSame loaded.old.items rs
+    requires known { AreEnded (S.memory space.now) known.old }
+    ensures step { IfOk result (λ r. (rs : List ℕ) → spec.HaveSame loaded.old.items rs
         → spec.ShowsStep loaded.new.items r (spec.step_of (S.memory space.now) info.now at rs
         item.now (between (S.memory space.now) (at + item.now.size) end).items left)) }
+    ensures known { AreEnded (S.memory space.now) known.new }
 {
     if left == 0 {
-        let passed = pass_rest(alloc, space, info, codes, at, end, loaded, item)?;
+        let passed = pass_rest(alloc, space, known, info, codes, at, end, loaded, item)?;
         Ok(passed)
     } else {
         loaded.clear();
@@ -192,6 +202,7 @@ fn step<S: CodeSpace>(
 pub fn body_fault<S: CodeSpace>(
     alloc: Global,
     space: &S,
+    known: &mut KnownTails,
     info: &Info,
     codes: &[UnwindCode],
     begin: u64,
@@ -200,8 +211,10 @@ pub fn body_fault<S: CodeSpace>(
     requires codes { codes.now ≡ info.now.codes }
     requires order { begin ≤ end }
     requires low { end < 2 ^ 63 }
-    ensures { IfOk result
+    requires known { AreEnded (S.memory space.now) known.old }
+    ensures fault { IfOk result
         (λ o. o ≡ spec.body_between (S.memory space.now) info.now begin end [] 0) }
+    ensures known { AreEnded (S.memory space.now) known.new }
 {
     let mut at = begin;
     let mut loaded = Vec::new(alloc);
@@ -213,7 +226,18 @@ pub fn body_fault<S: CodeSpace>(
                 return Ok(Some(Fault { at, rule }));
             }
             Some(item) => {
-                let passed = step(alloc, space, info, codes, at, end, &mut loaded, &item, left)?;
+                let passed = step(
+                    alloc,
+                    space,
+                    known,
+                    info,
+                    codes,
+                    at,
+                    end,
+                    &mut loaded,
+                    &item,
+                    left,
+                )?;
                 match passed {
                     Err(fault) => return Ok(Some(fault)),
                     Ok(still) => {

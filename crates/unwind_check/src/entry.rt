@@ -3,19 +3,22 @@
 ghost use Rattle.std.specs.Prelude.{◌≡◌, ◌≤◌, ◌+◌, ◌<◌, ◌^◌, [], IfOk, IfNone};
 ghost use Rattle.frame_rules.specs.Prologue.{bytes};
 ghost use Rattle.frame_rules.specs.Validated.{turned};
-ghost use Rattle.unwind_check.specs.Boundaries.{between};
+ghost use Rattle.unwind_tails.specs.Instructions.{between};
 ghost use Rattle.unwind_check.specs.Chains as chains;
 ghost use Rattle.unwind_check.specs.Faults as spec;
+ghost use Rattle.unwind_tails.specs.TailEnds.{AreEnded};
 
 use crate::body::body_fault;
 use crate::chain::is_secondary;
 use crate::code_order::is_ordered;
 use crate::codes::keep_codes;
-use crate::decoded::{DecodedInstrs, decoded_between, ends, has_item};
+use crate::ends::ends;
 use crate::prologue::prologue_fault;
 use crate::rule::{Fault, Rule};
 use eh_tables::{Info, UnwindCode};
 use std::alloc::{AllocError, Global};
+use unwind_tails::decoded::{DecodedInstrs, decoded_between, has_item};
+use unwind_tails::known_tails::KnownTails;
 use x64_memory::space::CodeSpace;
 
 /// The codes of an info, in their order, and in the order of execution.
@@ -33,8 +36,9 @@ fn ordered_codes(alloc: Global, info: &Info) -> Result<OrderedCodes, AllocError>
     let mut steps = Vec::new(alloc);
     for code in info.codes() {
         codes.push(code)?;
-        steps.insert(0, code)?;
+        steps.push(code)?;
     }
+    steps.reverse();
     Ok(OrderedCodes { codes, steps })
 }
 
@@ -42,6 +46,7 @@ fn ordered_codes(alloc: Global, info: &Info) -> Result<OrderedCodes, AllocError>
 fn parts_fault<S: CodeSpace>(
     alloc: Global,
     space: &S,
+    known: &mut KnownTails,
     probe: &[u8],
     begin: u64,
     middle: u64,
@@ -55,9 +60,11 @@ fn parts_fault<S: CodeSpace>(
     requires prologue_low { begin + bytes prologue.now.items < 2 ^ 63 }
     requires order { middle ≤ end }
     requires low { end < 2 ^ 63 }
+    requires known { AreEnded (S.memory space.now) known.old }
     ensures fault { IfOk result (λ o. o ≡ spec.fault_of_parts (S.memory space.now) probe.now begin
         middle info.now prologue.now (between (S.memory space.now) middle end)) }
     ensures near { info.now.frame_offset < 2 ^ 8 }
+    ensures known { AreEnded (S.memory space.now) known.new }
 {
     let frame = info.frame_register();
     let offset = info.frame_offset() as u64;
@@ -66,13 +73,14 @@ fn parts_fault<S: CodeSpace>(
     let whole = prologue.is_whole();
     match prologue_fault(space, probe, begin, frame, offset, whole, 0, steps, first) {
         Some(fault) => Ok(Some(fault)),
-        None => body_fault(alloc, space, info, &codes.codes, middle, end),
+        None => body_fault(alloc, space, known, info, &codes.codes, middle, end),
     }
 }
 
 fn codes_fault<S: CodeSpace>(
     alloc: Global,
     space: &S,
+    known: &mut KnownTails,
     probe: &[u8],
     begin: u64,
     middle: u64,
@@ -85,9 +93,11 @@ fn codes_fault<S: CodeSpace>(
     requires low { end < 2 ^ 63 }
     requires middle { middle ≡ spec.prologue_end begin end info.now }
     requires prologue { prologue.now ≡ spec.prologue_of (S.memory space.now) begin end info.now }
+    requires known { AreEnded (S.memory space.now) known.old }
     ensures fault { IfOk result (λ o. o
         ≡ spec.codes_fault (S.memory space.now) probe.now begin end info.now) }
     ensures near { IfOk result (λ o. IfNone o (info.now.frame_offset < 2 ^ 8)) }
+    ensures known { AreEnded (S.memory space.now) known.new }
 {
     let all = ordered_codes(alloc, info)?;
     let first = prologue.items();
@@ -98,7 +108,7 @@ fn codes_fault<S: CodeSpace>(
         Rule::Prologue
     } else {
         return parts_fault(
-            alloc, space, probe, begin, middle, end, info, &all, prologue,
+            alloc, space, known, probe, begin, middle, end, info, &all, prologue,
         );
     };
     Ok(Some(Fault { at: begin, rule }))
@@ -109,6 +119,7 @@ fn codes_fault<S: CodeSpace>(
 fn fragment_fault<S: CodeSpace>(
     alloc: Global,
     space: &S,
+    known: &mut KnownTails,
     begin: u64,
     middle: u64,
     end: u64,
@@ -118,9 +129,11 @@ fn fragment_fault<S: CodeSpace>(
     requires order { middle ≤ end }
     requires low { end < 2 ^ 63 }
     requires middle { middle ≡ spec.prologue_end begin end info.now }
+    requires known { AreEnded (S.memory space.now) known.old }
     ensures fault { IfOk result (λ o. o ≡ spec.fragment_fault (S.memory space.now) begin end
         info.now primary.now (chains.is_secondary info.now primary.now)) }
     ensures near { info.now.frame_offset < 2 ^ 8 }
+    ensures known { AreEnded (S.memory space.now) known.new }
 {
     if !is_secondary(info, primary) {
         return Ok(Some(Fault {
@@ -129,7 +142,7 @@ fn fragment_fault<S: CodeSpace>(
         }));
     }
     let all = ordered_codes(alloc, primary)?;
-    body_fault(alloc, space, primary, &all.codes, middle, end)
+    body_fault(alloc, space, known, primary, &all.codes, middle, end)
 }
 
 /// The first fault of an entry: at its first boundary at which a rule fails, the first rule that
@@ -140,6 +153,7 @@ fn fragment_fault<S: CodeSpace>(
 pub fn entry_fault<S: CodeSpace>(
     alloc: Global,
     space: &S,
+    known: &mut KnownTails,
     probe: &[u8],
     begin: u64,
     end: u64,
@@ -148,10 +162,12 @@ pub fn entry_fault<S: CodeSpace>(
 ) -> Result<Option<Fault>, AllocError>
     requires begin { begin < 2 ^ 63 }
     requires low { end < 2 ^ 63 }
+    requires known { AreEnded (S.memory space.now) known.old }
     ensures fault { IfOk result (λ o. o
         ≡ spec.info_fault (S.memory space.now) probe.now begin end info.now info.now.parent
         named.now) }
     ensures near { IfOk result (λ o. IfNone o (info.now.frame_offset < 2 ^ 8)) }
+    ensures known { AreEnded (S.memory space.now) known.new }
 {
     let size = info.prologue_size() as u64;
     let middle = begin + size;
@@ -169,9 +185,11 @@ pub fn entry_fault<S: CodeSpace>(
         }));
     }
     match info.parent() {
-        None => codes_fault(alloc, space, probe, begin, middle, end, info, &prologue),
+        None => codes_fault(
+            alloc, space, known, probe, begin, middle, end, info, &prologue,
+        ),
         Some(_) => match named {
-            Some(primary) => fragment_fault(alloc, space, begin, middle, end, info, primary),
+            Some(primary) => fragment_fault(alloc, space, known, begin, middle, end, info, primary),
             None => Ok(Some(Fault {
                 at: begin,
                 rule: Rule::Chain,

@@ -4,10 +4,10 @@ ghost use Rattle.std.specs.Prelude.{◌≡◌};
 ghost use Rattle.virtual_unwind.specs.Undone.{operations};
 ghost use Rattle.frame_rules.specs.Body as bodies;
 
-use crate::epilogue::is_above;
 use crate::prologue_instrs::is_stack;
 use eh_tables::{UnwindCode, UnwindOperation};
 use seh_num::width::Width;
+use unwind_tails::epilogue::is_above;
 use x64_instr::instruction::Instr;
 use x64_instr::operand::{MemRef, Operand, RegisterOrMemory};
 

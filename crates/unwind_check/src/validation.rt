@@ -4,6 +4,7 @@ ghost use Rattle.std.specs.Prelude.{◌≡◌, ◌<◌, Some, length, option_map
 ghost use Rattle.std.specs.Result.{result_ok};
 ghost use Rattle.eh_tables.specs.Tables.{TablesAreWhole, entries_of, entry_at};
 ghost use Rattle.unwind_check.specs.EntryVerdicts.{IsEntryVerdict, AreEntryVerdicts};
+ghost use Rattle.unwind_tails.specs.TailEnds.{AreEnded};
 ghost use Rattle.unwind_check.specs.Verdicts.{IsVerdict};
 
 use crate::chain::info_named;
@@ -11,6 +12,7 @@ use crate::entry::entry_fault;
 use crate::rule::{EntryVerdict, Verdict};
 use eh_tables::{Info, Tables};
 use std::alloc::{AllocError, Global};
+use unwind_tails::known_tails::KnownTails;
 use x64_memory::space::CodeSpace;
 
 /// The verdict on the entry of an index, of which `info` is the unwind info. Of the infos that this
@@ -18,6 +20,7 @@ use x64_memory::space::CodeSpace;
 fn entry_verdict<S: CodeSpace>(
     alloc: Global,
     space: &S,
+    known: &mut KnownTails,
     probe: &[u8],
     tables: &Tables,
     index: u64,
@@ -27,17 +30,20 @@ fn entry_verdict<S: CodeSpace>(
     requires within { index < length tables.now.ranges }
     requires own { Some info.now
         ≡ option_map (λ e. e.info) (result_ok (entry_at tables.now index)) }
-    ensures { IfOk result (λ v. IfOk (entry_at tables.now index) (λ e. IsEntryVerdict (record {
-      memory = S.memory space.now;
-      probe = probe.now;
-      ranges = tables.now.ranges;
-    }) e v)) }
+    requires known { AreEnded (S.memory space.now) known.old }
+    ensures verdict { IfOk result (λ v. IfOk (entry_at tables.now index) (λ e.
+        IsEntryVerdict (record {
+          memory = S.memory space.now;
+          probe = probe.now;
+          ranges = tables.now.ranges;
+        }) e v)) }
+    ensures known { AreEnded (S.memory space.now) known.new }
 {
     let range = tables.range(index);
     let begin = range.begin as u64;
     let end = range.end as u64;
     let named = info_named(tables, info);
-    let fault = entry_fault(alloc, space, probe, begin, end, info, &named)?;
+    let fault = entry_fault(alloc, space, known, probe, begin, end, info, &named)?;
     Ok(EntryVerdict { begin, fault })
 }
 
@@ -58,11 +64,12 @@ pub fn validate<S: CodeSpace>(
       ranges = tables.now.ranges;
     }) (entries_of tables.now) v) }
 {
+    let mut known = KnownTails::new(alloc);
     for index in 0..tables.len() {
         let Some(info) = tables.info(index) else {
             continue;
         };
-        let verdict = entry_verdict(alloc, space, probe, tables, index, &info)?;
+        let verdict = entry_verdict(alloc, space, &mut known, probe, tables, index, &info)?;
         match verdict.fault {
             Some(fault) => return Ok(Verdict::No { index, fault }),
             None => {}
@@ -88,12 +95,13 @@ pub fn validate_entries<S: CodeSpace>(
       ranges = tables.now.ranges;
     }) (entries_of tables.now) v.items) }
 {
+    let mut known = KnownTails::new(alloc);
     let mut verdicts = Vec::new(alloc);
     for index in 0..tables.len() {
         let Some(info) = tables.info(index) else {
             continue;
         };
-        let verdict = entry_verdict(alloc, space, probe, tables, index, &info)?;
+        let verdict = entry_verdict(alloc, space, &mut known, probe, tables, index, &info)?;
         verdicts.push(verdict)?;
     }
     Ok(verdicts)

@@ -12,25 +12,26 @@ loop-at-init g c = record {
     same = same_none c.new-loaded.result.items c.new-loaded.ensures.items;
     is = refl;
   };
+  ended = c.requires.known;
 }
 
-pub returns-in-None : goal.returns-in-None
-returns-in-None g c =
+pub returns-in-None-clause-fault : goal.returns-in-None-clause-fault
+returns-in-None-clause-fault g c =
     let m = g.S.CodeSpace.memory c.args.space.now in
     let i = c.args.info.now in
     missing m i c.loop-at.loaded.items c.loop-at.at c.args.end c.loop-at.left
     (body_between m i c.args.begin c.args.end [] 0) c.loop-at.invariant.ahead c.in-None.ensures
     c.loop-at-test.true
 
-pub returns-in-Err : goal.returns-in-Err
-returns-in-Err g c =
+pub returns-in-Err-clause-fault : goal.returns-in-Err-clause-fault
+returns-in-Err-clause-fault g c =
     let m = g.S.CodeSpace.memory c.args.space.now in
     let i = c.args.info.now in
     let a = c.loop-at.invariant.ahead in
     fails m i c.loop-at.loaded.items c.loop-at.at c.args.end c.loop-at.left
     (body_between m i c.args.begin c.args.end [] 0) a c.in-Some.item c.in-Some.ensures
     c.step.new.loaded.items c.in_ok-passed-in-Some.passed c.in-Err.fault
-    (c.in_ok-passed-in-Some.ensures a.loaded a.same) c.in-Err.is
+    (c.in_ok-passed-in-Some.ensures.step a.loaded a.same) c.in-Err.is
 
 pub overflow_add-at : goal.overflow_add-at
 overflow_add-at g c =
@@ -59,11 +60,12 @@ loop-at-preserved g c =
           (ap (λ k. c.loop-at.at + k) (sym z))
           (goes m i c.loop-at.loaded.items c.loop-at.at c.args.end c.loop-at.left all a
           c.in-Some.item c.in-Some.ensures c.step.new.loaded.items c.in_ok-passed-in-Some.passed
-          c.in-Ok.still (c.in_ok-passed-in-Some.ensures a.loaded a.same) c.in-Ok.is);
+          c.in-Ok.still (c.in_ok-passed-in-Some.ensures.step a.loaded a.same) c.in-Ok.is);
+      ended = c.step.ensures.known;
     }
 
-pub returns : goal.returns
-returns g c =
+pub returns-clause-fault : goal.returns-clause-fault
+returns-clause-fault g c =
     let m = g.S.CodeSpace.memory c.args.space.now in
     let i = c.args.info.now in
     let test = c.loop-at-test.false in

@@ -3,8 +3,8 @@ use Rattle.virtual_unwind.specs.Tail.{FetchedInstr}
 use Rattle.virtual_unwind.specs.Undone.{operations}
 use Rattle.frame_rules.specs.Body.{are_restored}
 use Rattle.frame_rules.specs.Epilogue.{is_epilogue}
-use Rattle.unwind_check.specs.Boundaries.{between}
-use Rattle.unwind_check.specs.Steps.{instrs}
+use Rattle.unwind_tails.specs.Instructions.{between}
+use Rattle.unwind_tails.specs.Instructions.{instrs}
 use Rattle.unwind_check.proofs.SameLoads.{same_restored}
 use Rattle.unwind_check.proofs.OwnParts.{not_restored, too_many, by_whole, count_operations}
 use Rattle.unwind_check.proofs.body.is_own.Goals as goal

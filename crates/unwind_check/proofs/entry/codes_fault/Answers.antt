@@ -1,5 +1,5 @@
 use Rattle.std.proofs.Common.{ap, arith}
-use Rattle.unwind_check.specs.Boundaries.{Decoded}
+use Rattle.unwind_tails.specs.Instructions.{Decoded}
 use Rattle.unwind_check.specs.Faults.{prologue_end}
 use Rattle.frame_rules.specs.Prologue.{bytes}
 use Rattle.unwind_check.proofs.Fitting.{part_fits}

@@ -4,8 +4,8 @@ use Rattle.unwind_check.specs.Verdicts.{ImageCode}
 use Rattle.unwind_check.proofs.TableEntries.{says_of}
 use Rattle.unwind_check.proofs.validation.entry_verdict.Goals as goal
 
-pub returns : goal.returns
-returns g c =
+pub returns-clause-verdict : goal.returns-clause-verdict
+returns-clause-verdict g c =
     let code : ImageCode = record {
       memory = g.S.CodeSpace.memory c.args.space.now;
       probe = c.args.probe.now;

@@ -25,7 +25,8 @@ returns-in-Some-fault g c =
     let k = c.loop-index.index in
     let lt : k < length t.ranges = omega
     (arith, c.loop-index-test.true, c.len-index-end.ensures) in
-    let is = judged code t k c.in_ok-verdict.verdict c.requires lt c.in_ok-verdict.ensures in
+    let v = c.in_ok-verdict.verdict in
+    let is = judged code t k v c.requires lt c.in_ok-verdict.ensures.verdict in
     record {
       before = take k (entries_of t);
       entry = is.entry;
@@ -47,9 +48,11 @@ loop-index-preserved g c =
     let k = c.loop-index.index in
     let lt : k < length t.ranges = omega
     (arith, c.loop-index-test.true, c.len-index-end.ensures) in
-    let is = judged code t k c.in_ok-verdict.verdict c.requires lt c.in_ok-verdict.ensures in
+    let v = c.in_ok-verdict.verdict in
+    let is = judged code t k v c.requires lt c.in_ok-verdict.ensures.verdict in
     record {
       most = omega (arith, lt);
+      ended = c.entry_verdict.ensures.known;
       kept = one_more code (entries_of t) k is.entry is.place c.loop-index.invariant.kept (record {
         rules = subst (AreFaults (entry_in code is.entry)) c.in-None.is is.says.faults;
         near = subst (λ (o : Option Fault). IfNone o (is.entry.info.frame_offset < 2 ^ 8))

@@ -23,9 +23,11 @@ loop-index-preserved g c =
     let k = c.loop-index.index in
     let lt : k < length t.ranges = omega
     (arith, c.loop-index-test.true, c.len-index-end.ensures) in
-    let is = judged code t k c.in_ok-verdict.verdict c.requires lt c.in_ok-verdict.ensures in
+    let v = c.in_ok-verdict.verdict in
+    let is = judged code t k v c.requires lt c.in_ok-verdict.ensures.verdict in
     record {
       most = omega (arith, lt);
+      ended = c.entry_verdict.ensures.known;
       are = subst (AreEntryVerdicts code (take (k + 1) (entries_of t)))
           (sym c.in_ok-push.ensures.items)
           (one_more_verdict code (entries_of t) k is.entry c.loop-index.verdicts.items

@@ -1,6 +1,7 @@
 use Rattle.std.proofs.Common.{◌≤◌, length, take}
 use Rattle.eh_tables.specs.Tables.{entries_of}
 use Rattle.unwind_check.specs.EntryVerdicts.{AreEntryVerdicts}
+use Rattle.unwind_tails.specs.TailEnds.{AreEnded}
 use Rattle.unwind_check.proofs.validation.validate_entries.Given as goal
 
 abbrev pub invariant-loop-index : goal.invariant-loop-index
@@ -9,4 +10,5 @@ invariant-loop-index g l = record {
   are : AreEntryVerdicts
       (record { memory = g.S.CodeSpace.memory l.space; probe = l.probe; ranges = l.tables.ranges })
       (take l.index (entries_of l.tables)) l.verdicts.items;
+  ended : AreEnded (g.S.CodeSpace.memory l.space) l.known;
 }
