@@ -7,7 +7,7 @@ use Rattle.seh_num.specs.Answers.{◌>>=◌}
 use Rattle.flat_memory.specs.Memory.{Memory}
 use Rattle.eh_tables.specs.Answer.{Table}
 use Rattle.eh_tables.specs.Covering.{entry_covering}
-use Rattle.eh_tables.specs.Tables.{Entry, Tables, covers_address}
+use Rattle.eh_tables.specs.Tables.{Entry, Tables, covers_address, entry_at}
 use Rattle.virtual_unwind.specs.Undone.{Answer}
 use Rattle.virtual_unwind.specs.CallerOf.{distance}
 use Rattle.abi_unwind.specs.declared.context.AbiContext.{AbiContext}
@@ -54,6 +54,12 @@ of_entry t base m c None = of_unwind (leaf m c)
 of_entry t base m c (Some e) = do
   parts ← kept t base e (tail_at e.info.frame_register m c.general.rip)
   of_unwind (abi_at m c (distance base c.general.rip) e parts)
+
+-- in the entry of a number
+abbrev pub numbered : Tables → ℕ → Memory → AbiContext → ℕ → Each AbiFrame
+numbered t base m c k = do
+  e ← of_table (entry_at t k)
+  of_entry t base m c (Some e)
 
 unfoldable pub abi_caller_each : Tables → ℕ → Memory → AbiContext → Each AbiFrame
 abi_caller_each t base m c = covering t (distance base c.general.rip) >>= of_entry t base m c

@@ -33,7 +33,7 @@ pub use codes::Codes;
 pub use entry::Entry;
 pub use info::Info;
 pub use laws::{read_again, version_1_alike};
-pub use layout::{EXCEPTION_EXECUTE_HANDLER, MOST_INFO_BYTES, MOST_SLOTS};
+pub use layout::{EXCEPTION_EXECUTE_HANDLER, MOST_INFO_BYTES, MOST_SLOTS, UNWIND_VERSION_2};
 pub use lookup::FunctionEntry;
 pub use range::RuntimeFunction;
 pub use refusal::TableErr;
