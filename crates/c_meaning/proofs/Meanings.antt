@@ -12,6 +12,7 @@ use Rattle.source_machine.specs.Frames as frames
 use Rattle.source_machine.specs.Machine.{Machine}
 use Rattle.source_machine.specs.FrameMeanings.{comes_to}
 use Rattle.source_machine.specs.Runs.{beginning}
+use Rattle.seh_io.specs.Streams.{Faults}
 use Rattle.seh_io.specs.Writer.{TookEvents}
 use Rattle.seh_io.specs.Successive.{took_none}
 use Rattle.seh_io.specs.declared.receiver.Lines.{Lines}
@@ -51,7 +52,7 @@ shows_end (Gives (End e) st) = refl
 shows_end (Gives how st) = refl
 
 -- nothing is the front of what a program shows
-pub nothing_shown : {X N : Type 0} (taken : X → Option (List ℕ)) (faults : X → ℕ)
+pub nothing_shown : {X N : Type 0} (taken : X → Option (List ℕ)) (faults : X → Faults)
     (named : N → ℕ → Option (List ℕ)) (x : Lines X N) (meant : Shown Ended)
     → MeansPart (TookEvents taken faults named) meant x x
 nothing_shown taken faults named x meant =

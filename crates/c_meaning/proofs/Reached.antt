@@ -19,6 +19,7 @@ use Rattle.source_machine.proofs.WholeRuns.{shows_before, all_keep}
 use Rattle.source_values.proofs.Steps.{after_sum, after_more}
 use Rattle.source_steps.specs.declared.machine.Interpreter.{Interpreter}
 use Rattle.source_steps.specs.Machines.{machine_of}
+use Rattle.seh_io.specs.Streams.{Faults}
 use Rattle.seh_io.specs.Writer.{TookEvents}
 use Rattle.seh_io.specs.declared.receiver.Lines.{Lines}
 use Rattle.c_meaning.specs.declared.run.RunErr.{RunErr}
@@ -139,7 +140,7 @@ module _ {X : Type 0} (took : X → List Event → X → Type 0) (program : Prog
           (sym (append-nil r.shown)) p
 
 -- a step whose line failed, after steps whose lines were written
-pub stops : {X N : Type 0} (taken : X → Option (List ℕ)) (faults : X → ℕ)
+pub stops : {X N : Type 0} (taken : X → Option (List ℕ)) (faults : X → Faults)
     (named : N → ℕ → Option (List ℕ)) (program : Program) (from : Machine) (x : Lines X N)
     (m : Interpreter) (next : Next) (y : Lines X N) (m' : Interpreter) (next' : Next)
     (y' : Lines X N)
@@ -170,9 +171,9 @@ stops taken faults named program from x m next y m' next' y' r t is was =
     }
 
 -- a line has failed where the run was stopped by one
-pub has_failed : {X N : Type 0} (taken : X → Option (List ℕ)) (faults : X → ℕ)
+pub has_failed : {X N : Type 0} (taken : X → Option (List ℕ)) (faults : X → Faults)
     (named : N → ℕ → Option (List ℕ)) (program : Program) (from : Machine) (x : Lines X N)
     (m' : Interpreter) (x' : Lines X N) (e : RunErr)
     → HasStopped e taken faults named program from x m' x' → HasFailed e x'.failed
 has_failed taken faults named program from x m' x' Write h = h.failed
-has_failed taken faults named program from x m' x' Memory h = tt
+has_failed taken faults named program from x m' x' Memory h = h

@@ -4,6 +4,7 @@ use Rattle.seh_num.specs.declared.width.Width.TheVariants.{W32}
 use Rattle.seh_num.specs.declared.event.Event.{Event}
 use Rattle.seh_num.specs.Widths.{signed}
 use Rattle.seh_num.specs.Shown.{Shown}
+use Rattle.seh_io.specs.Streams.{Faults}
 use Rattle.seh_io.specs.Writer.{TookEvents}
 use Rattle.seh_io.specs.declared.receiver.Lines.{Lines}
 use Rattle.c_checked.specs.Program.{Program}
@@ -48,7 +49,7 @@ pub record ShownPart {X : Type 0} (took : X → List Event → X → Type 0) (pr
 
 -- a line couldn't be written: the lines of all that so many steps show were, and no step was made
 -- after the next one, which shows it
-pub record Stopped {X N : Type 0} (taken : X → Option (List ℕ)) (faults : X → ℕ)
+pub record Stopped {X N : Type 0} (taken : X → Option (List ℕ)) (faults : X → Faults)
     (named : N → ℕ → Option (List ℕ)) (program : Program) (m : Machine) (x : Lines X N)
     (m' : Interpreter) (x' : Lines X N) : Type 0 where
   pub steps : ℕ
@@ -62,15 +63,15 @@ pub record Stopped {X N : Type 0} (taken : X → Option (List ℕ)) (faults : X 
   pub last : after program (suc steps) m
       ≡ machine_of m' next ((after program steps m).state.events ++ shown)
 
-abbrev pub HasStopped : {X N : Type 0} → RunErr → (X → Option (List ℕ)) → (X → ℕ)
+abbrev pub HasStopped : {X N : Type 0} → RunErr → (X → Option (List ℕ)) → (X → Faults)
     → (N → ℕ → Option (List ℕ)) → Program → Machine → Lines X N → Interpreter → Lines X N → Type 0
 HasStopped Write taken faults named program m x m' x' = Stopped taken faults named program m x m' x'
-HasStopped Memory taken faults named program m x m' x' = Unit {0}
+HasStopped Memory taken faults named program m x m' x' = x'.failed ≡ false
 
--- whether a line has failed, after a run that was stopped; want of memory says nothing
+-- whether a line has failed, after a run that was stopped: none has where memory was wanting
 abbrev pub HasFailed : RunErr → Bool → Type 0
 HasFailed Write failed = failed ≡ true
-HasFailed Memory failed = Unit {0}
+HasFailed Memory failed = failed ≡ false
 
 -- how a program ended, by what its `main` came to
 abbrev pub end_of : Result → Option Ended

@@ -4,7 +4,7 @@
 use Rattle.std.specs.Prelude.{◌≡◌, ℕ, Bool, List, ◌++◌, codes, Option, Some, None}
 use Rattle.std.specs.Fmt.{decimal, signed_decimal}
 use Rattle.seh_num.specs.Shown.{Shown}
-use Rattle.seh_io.specs.Streams.{Rose, Grew}
+use Rattle.seh_io.specs.Streams.{Faults, Faultless, Faulted, Grew}
 use Rattle.seh_io.specs.Text.{code_text, address_text, ended, lines}
 use Rattle.seh_io.specs.Writer.{TookPart}
 use Rattle.source_meaning.specs.declared.ended.Ended.{Ended}
@@ -40,6 +40,7 @@ TookFront (Write taken) before text after = TookPart before text after taken
 TookFront Memory before text after =
     (part : List ℕ) × ((rest : List ℕ) × (text ≡ part ++ rest)) × Grew before part after
 
-abbrev pub MeaningHasCause : MeanErr → ℕ → ℕ → Type 0
-MeaningHasCause (Write taken) faults faults' = Rose faults faults'
-MeaningHasCause Memory faults faults' = Unit {0}
+-- a write that failed was the last one; where memory is wanting none failed
+abbrev pub MeaningHasCause : MeanErr → Faults → Faults → Type 0
+MeaningHasCause (Write taken) faults faults' = Faulted faults faults'
+MeaningHasCause Memory faults faults' = Faultless faults faults'

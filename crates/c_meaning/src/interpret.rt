@@ -1,7 +1,7 @@
 //! The interpreter.
 
-ghost use Rattle.std.specs.Prelude.{◌≡◌, ◌≤◌, ◌++◌, ◌<◌, length, IfOk, IfErr, OnErr};
-ghost use Rattle.seh_io.specs.Streams.{Rose, Grew};
+ghost use Rattle.std.specs.Prelude.{◌≡◌, ◌≤◌, ◌++◌, ◌<◌, length, IfOk, IfErr, OnOk, OnErr};
+ghost use Rattle.seh_io.specs.Streams.{Faultless, Grew};
 ghost use Rattle.c_checked.specs.Whole as whole;
 ghost use Rattle.source_meaning.specs.Meaning as meaning;
 ghost use Rattle.c_meaning.specs.Texts as texts;
@@ -80,7 +80,7 @@ pub fn interpret<O: Sink>(
         (names_of (whole.program program.now))) (O.taken sink.new)) }
     ensures cause { IfErr result (λ e.
         texts.MeaningHasCause e (O.faults sink.old) (O.faults sink.new)) }
-    ensures faults { O.faults sink.old ≤ O.faults sink.new }
+    ensures faultless { OnOk result (Faultless (O.faults sink.old) (O.faults sink.new)) }
 {
     let names = FunctionNames { program };
     let mut lines = Lines::new(sink, trace, &names);

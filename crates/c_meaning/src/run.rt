@@ -75,6 +75,7 @@ fn turn<'p, V: Events>(
     ensures turned { IfOk result (λ after. Turned V.took (whole.program program.now) machine.old
         (views.next_of next.entry) to.old machine.new (views.next_of after) to.new) }
     ensures nothing { OnErr result (V.took to.old [] to.new) }
+    ensures same { OnErr result (to.new ≡ to.old) }
 {
     let MachineStep { next, shown } = machine.step(alloc, program, data_end, next)?;
     match shown {

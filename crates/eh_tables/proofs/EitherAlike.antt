@@ -15,7 +15,6 @@ use Rattle.eh_tables.specs.EitherInfos as either
 use Rattle.eh_tables.specs.EitherInfos.{is_read, leading, listed}
 use Rattle.eh_tables.specs.EitherEntries as entries
 use Rattle.eh_tables.specs.EitherEntries.{ReadsVersion1Alike}
-use Rattle.eh_tables.proofs.Headers.{version_kept}
 use Rattle.eh_tables.proofs.KnownInfos.{carried}
 use Rattle.eh_tables.proofs.Lookups.{given, prepended, holds_then}
 
@@ -124,37 +123,5 @@ entry_alike image index last r e h =
     (λ i. carried (parents 31 image index i.parent) (entries.parents 31 image index i.parent) _ _ e
     (parents_alike 31 image index i.parent) (λ a x. x)))) h
 
--- its own info has version 1
-own_version : (image : Image) (index rva : ℕ) (i : Info) → info image index rva ≡ Ok i
-    → version i.bytes ≡ UNWIND_VERSION
-unfolding info
-own_version image index rva i h =
-    let one = given (stored_info image index rva) _ i h in
-    let two = given (stored_scope_records image rva one.value) _ i one.then in
-    let three = given (codes.checked index (is_framed one.value) 0 255 0 (slots_of one.value)) _ i
-    two.then in
-    let four = given (scopes.checked index image.size 0 (scope_records_in two.value)) _ i
-    three.then in
-    let made : infos.info_of one.value (is_c image one.value) two.value ≡ i = cc in
-    ap (λ (x : Info). version x.bytes) (sym made)
-    ∙ sym (version_kept one.value)
-    ∙ has_version_1 image index rva one.value one.first
-
-entry_version : (image : Image) (index last : ℕ) (r : RuntimeFunction) (e : Entry)
-    → entry image index last r ≡ Ok e → version e.info.bytes ≡ UNWIND_VERSION
-unfolding entry
-entry_version image index last r e h =
-    let one = given (unless (nat_lt r.begin r.end) (refusals.EmptyRange index)) _ e h in
-    let two = given (unless (nat_le last r.begin) (refusals.Unsorted index)) _ e one.then in
-    let three = given (info image index r.unwind_info) _ e two.then in
-    let four = given (parents 31 image index three.value.parent) _ e three.then in
-    let made : record { range = r; info = three.value; parents = four.value } ≡ e = cc in
-    ap (λ (x : Entry). version x.info.bytes) (sym made)
-    ∙ own_version image index r.unwind_info three.value three.first
-
 pub reads_alike : ReadsVersion1Alike
-reads_alike t index e h =
-    record {
-      version = entry_version t.image index _ _ e h;
-      alike = entry_alike t.image index _ _ e h;
-    }
+reads_alike t index e h = entry_alike t.image index _ _ e h

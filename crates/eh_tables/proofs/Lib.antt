@@ -1,11 +1,8 @@
 pub mod Chains
-pub mod CoveringAlike
 pub mod EitherAlike
 pub mod EitherChains
 pub mod Headers
-pub mod CodesAgain
 pub mod InfoSteps
-pub mod InfosAgain
 pub mod KnownEntries
 pub mod KnownInfos
 pub mod Lookups
@@ -14,7 +11,5 @@ pub mod RangesAscending
 pub mod RecordPlaces
 pub mod Rows
 pub mod Slots
-pub mod TablesAgain
 pub mod SeenPlaces
 pub mod UnseenRecords
-pub mod WholeAgain

@@ -1,20 +1,19 @@
 -- Entries whose unwind infos have version 1 or 2.
 --
--- The main definitions: `entry`, `entry_covering`, `ReadsVersion1Alike`, `FindsAlike`.
+-- The main definitions: `entry`, `entry_covering`, `ReadsVersion1Alike`.
 use Rattle.std.specs.Prelude.{◌≡◌, ℕ, zero, suc, nat_lt, nat_le, List, [], slice_index_or, Option, Some, None, Result, Ok, Err}
 use Rattle.seh_num.specs.Answers.{unless, prepend, ◌>>=◌}
 use Rattle.pe_image.specs.Image.{Image}
-use Rattle.eh_tables.specs.declared.layout.TheConstants.{MOST_PARENTS, UNWIND_VERSION}
+use Rattle.eh_tables.specs.declared.layout.TheConstants.{MOST_PARENTS}
 use Rattle.eh_tables.specs.declared.range.RuntimeFunction.{RuntimeFunction}
 use Rattle.eh_tables.specs.declared.refusal.TableErr.{TableErr}
 use Rattle.eh_tables.specs.declared.refusal.TableErr.TheVariants as refusals
 use Rattle.eh_tables.specs.Answer.{Table}
-use Rattle.eh_tables.specs.Covering as covering
 use Rattle.eh_tables.specs.Covering.{index_from}
-use Rattle.eh_tables.specs.Infos.{Info, version}
+use Rattle.eh_tables.specs.Infos.{Info}
 use Rattle.eh_tables.specs.EitherInfos.{info}
 use Rattle.eh_tables.specs.Tables as tables
-use Rattle.eh_tables.specs.Tables.{Entry, Tables, TablesAreWhole, end_before, no_range, holding, entries_of}
+use Rattle.eh_tables.specs.Tables.{Entry, Tables, end_before, no_range}
 
 -- the infos that one is chained to, of at most so many
 abbrev pub parents : ℕ → Image → ℕ → Option RuntimeFunction → Table (List Info)
@@ -51,23 +50,9 @@ entry_asked t (Some index) = entry_at t index >>= λ e. Ok (Some e)
 abbrev pub entry_covering : Tables → ℕ → Table (Option Entry)
 entry_covering t rva = entry_asked t (index_from 0 rva t.ranges)
 
--- ---- what is of version 1 is read alike where version 2 is read too
-
-pub record IsReadAlike (t : Tables) (index : ℕ) (e : Entry) : Type 0 where
-  pub version : version e.info.bytes ≡ UNWIND_VERSION
-  pub alike : entry_at t index ≡ Ok e
+-- ---- an entry of version 1 is read as where the second isn't
 
 abbrev pub ReadsVersion1Alike : Type 0
 ReadsVersion1Alike =
-    (t : Tables) (index : ℕ) (e : Entry) → tables.entry_at t index ≡ Ok e → IsReadAlike t index e
-
--- the entry that covers an address is the one that a look-up finds, by each way; its info has
--- version 1
-pub record IsFoundAlike (t : Tables) (rva : ℕ) : Type 0 where
-  pub first : covering.entry_covering t rva ≡ Ok (holding rva (entries_of t))
-  pub either : entry_covering t rva ≡ Ok (holding rva (entries_of t))
-  pub version : (e : Entry) → holding rva (entries_of t) ≡ Some e
-      → version e.info.bytes ≡ UNWIND_VERSION
-
-abbrev pub FindsAlike : Type 0
-FindsAlike = (t : Tables) (rva : ℕ) → TablesAreWhole t → IsFoundAlike t rva
+    (t : Tables) (index : ℕ) (e : Entry) → tables.entry_at t index ≡ Ok e
+    → entry_at t index ≡ Ok e

@@ -7,11 +7,9 @@ pub mod Found
 pub mod Handler
 pub mod Infos
 pub mod Known
-pub mod ReadAgain
 pub mod Records
 pub mod Refusals
 pub mod Scopes
 pub mod SeenRecords
 pub mod Tables
-pub mod Written
 pub mod Words

@@ -35,9 +35,6 @@ pub const MOST_SLOT_BYTES: usize = 2 * MOST_SLOTS;
 /// The most bytes of a header and its slots, with the slot that makes their count even.
 pub const MOST_INFO_BYTES: usize = UNWIND_CODES + MOST_SLOT_BYTES + 2;
 
-/// The most bytes of an info with what follows its slots, of which an entry is the longest.
-pub const MOST_WHOLE_INFO_BYTES: usize = MOST_INFO_BYTES + RUNTIME_FUNCTION_SIZE;
-
 /// The size of a handler's address, which is relative to the image base.
 pub const HANDLER_SIZE: usize = 4;
 

@@ -4,14 +4,14 @@ use Rattle.std.specs.Prelude.{if◌then◌else◌, nat_lt}
 use Rattle.std.specs.List.{AllByRecursion}
 use Rattle.std.proofs.lemmas.List.{drop_all}
 use Rattle.arrayvec.specs.ArrayVec.{ArrayVec}
-use Rattle.eh_tables.specs.declared.unwind_info.UnwindInfo.{UnwindInfo}
+use Rattle.eh_write.specs.declared.unwind_info.UnwindInfo.{UnwindInfo}
 use Rattle.eh_tables.specs.declared.code.UnwindCode.{UnwindCode}
 use Rattle.eh_tables.specs.declared.code.UnwindOperation.{UnwindOperation}
 use Rattle.eh_tables.specs.declared.code.UnwindOperation.TheVariants.{Push, Allocate, SetFrame, Save, SaveVector, MachineFrame}
-use Rattle.eh_tables.specs.declared.unwind_info.Trailer.TheVariants.{Nothing}
+use Rattle.eh_write.specs.declared.unwind_info.Trailer.TheVariants.{Nothing}
 use Rattle.pe_image.specs.Numbers.{u16, u32}
-use Rattle.eh_tables.specs.Written.{CanBeWritten, OperationFits, AreFalling, IsTrailer, codes_bytes, operation_bytes, slot, is_small, is_short}
-use Rattle.eh_tables.specs.declared.unwind_info.Trailer.{Trailer}
+use Rattle.eh_write.specs.Written.{CanBeWritten, OperationFits, AreFalling, IsTrailer, codes_bytes, operation_bytes, slot, is_small, is_short}
+use Rattle.eh_write.specs.declared.unwind_info.Trailer.{Trailer}
 use Rattle.frame_rules.specs.Prologue.{bytes, items, codes_onto}
 use Rattle.frame_rules.specs.Plan.{spelled_by, instructions_of, turned, steps_of, operations_of}
 use Rattle.frame_rules.specs.Plan as rules

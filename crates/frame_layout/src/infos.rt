@@ -1,7 +1,7 @@
 //! What unwinding needs to know of a frame.
 
 ghost use Rattle.std.specs.Prelude.{◌≡◌, ◌<◌, ◌≤◌, ◌^◌, ℕ, nat_le};
-ghost use Rattle.eh_tables.specs.Written.{CanBeWritten};
+ghost use Rattle.eh_write.specs.Written.{CanBeWritten};
 ghost use Rattle.frame_rules.specs.Plan as rules;
 ghost use Rattle.frame_rules.specs.Bytes.{spell};
 ghost use Rattle.frame_rules.specs.Prologue.{bytes};
@@ -14,7 +14,8 @@ use crate::frame::FrameLayout;
 use crate::instructions::PROBE_FREE;
 use crate::operations::operations;
 use arrayvec::ArrayVec;
-use eh_tables::{RuntimeFunction, Trailer, UnwindCode, UnwindInfo, UnwindOperation};
+use eh_tables::{RuntimeFunction, UnwindCode, UnwindOperation};
+use eh_write::{Trailer, UnwindInfo};
 use template_code::layout::{FRAME_DISTANCE, FRAME_REGISTER};
 
 /// The bytes of what takes a fixed allocation: SUB with an immediate of 8 or 32 bits, or MOV, CALL

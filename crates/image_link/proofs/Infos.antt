@@ -2,12 +2,12 @@
 use Rattle.std.proofs.Common.{◌≡◌, ℕ, suc, ◌+◌, ◌*◌, ◌%◌, ◌<◌, ◌≤◌, replicate, List, [], ◌∷◌, ◌++◌, length, get_or, drop, drop-cons, Option, Some, None, refl, ap, ◌∙◌, arith, length-append}
 use Rattle.std.specs.List.{flat_map}
 use Rattle.std.proofs.lemmas.List.{length-map, length-replicate}
-use Rattle.eh_tables.specs.Written.{codes_bytes}
+use Rattle.eh_write.specs.Written.{codes_bytes}
 use Rattle.frame_layout.specs.Layout.{IsFrame}
 use Rattle.frame_layout.proofs.Steps.{frame_registers}
 use Rattle.frame_layout.proofs.Codes.{codes_few}
 use Rattle.eh_tables.specs.declared.scope.ScopeRecord.{ScopeRecord}
-use Rattle.eh_tables.specs.declared.unwind_info.Trailer.{Trailer}
+use Rattle.eh_write.specs.declared.unwind_info.Trailer.{Trailer}
 use Rattle.image_link.specs.Words.{u32, header, padded, unwind_bytes, trailer_bytes, scope_record_bytes, FrameLayout, info_of, codes_of, IsFrameNear, IsRoutineNear, RoutineView, SiteView, routine_size, cold_size, own_addresses, thunk_at, trailer, scope_record, scope_records, scope_table, info_if, info_bytes, info_room, infos_room, infos, range_at, range_of, ranges, Fragment, fragment, fragments_if, fragments_of, fragments, chained_bytes, parts_at, Layout, Instruction, body_size}
 use Rattle.linear_code.specs.declared.program.LabelRange.{LabelRange}
 use Rattle.template_code.specs.ColdParts.{part_code}

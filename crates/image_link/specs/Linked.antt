@@ -4,7 +4,7 @@
 -- The main definition: `linked`.
 use Rattle.std.specs.Prelude.{◌≡◌, ℕ, ◌+◌, ◌-◌, List, ◌++◌, length, get_or, max, take, drop}
 use Rattle.host_layout.specs.declared.range.TheConstants.{DATA_AT}
-use Rattle.eh_tables.specs.Written.{table_bytes}
+use Rattle.eh_write.specs.Written.{table_bytes}
 use Rattle.pe_write.specs.NameTable.{NameRow}
 use Rattle.pe_write.specs.Program.{ImageContents, rdata_after, xdata_after}
 use Rattle.pe_write.specs.Written.{pages}

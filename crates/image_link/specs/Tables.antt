@@ -10,9 +10,9 @@ use Rattle.std.specs.Prelude.{ℕ, ◌+◌, ◌*◌, Bool, true, false, not, ◌
 use Rattle.eh_tables.specs.declared.layout.TheConstants.{EXCEPTION_EXECUTE_HANDLER}
 use Rattle.eh_tables.specs.declared.range.RuntimeFunction.{RuntimeFunction}
 use Rattle.eh_tables.specs.declared.scope.ScopeRecord.{ScopeRecord}
-use Rattle.eh_tables.specs.declared.unwind_info.Trailer.{Trailer}
-use Rattle.eh_tables.specs.declared.unwind_info.Trailer.TheVariants.{Nothing, Handler}
-use Rattle.eh_tables.specs.Written.{unwind_bytes, scope_bytes}
+use Rattle.eh_write.specs.declared.unwind_info.Trailer.{Trailer}
+use Rattle.eh_write.specs.declared.unwind_info.Trailer.TheVariants.{Nothing, Handler}
+use Rattle.eh_write.specs.Written.{unwind_bytes, scope_bytes}
 use Rattle.std.specs.List.{flat_map}
 use Rattle.linear_code.specs.declared.program.Region.{Region}
 use Rattle.linear_code.specs.declared.program.RegionKind.{RegionKind}

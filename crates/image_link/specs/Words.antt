@@ -10,8 +10,8 @@ unfoldable pub use Rattle.pe_image.specs.Numbers.{u32, u16}
 pub use Rattle.pe_write.specs.ImportTables.{hint_name_size, names_size as import_names_size, tables_size}
 pub use Rattle.pe_write.specs.NameTable.{NameRow, names_offset, names_size, name_table_size}
 pub use Rattle.pe_write.specs.Program.{CanBeImage, ImageContents}
-pub use Rattle.eh_tables.specs.Written.{table_bytes, slot, is_small, is_short, allocation, header, padded, trailer_bytes, scope_record_bytes}
-unfoldable pub use Rattle.eh_tables.specs.Written.{unwind_bytes}
+pub use Rattle.eh_write.specs.Written.{table_bytes, slot, is_small, is_short, allocation, header, padded, trailer_bytes, scope_record_bytes}
+unfoldable pub use Rattle.eh_write.specs.Written.{unwind_bytes}
 pub use Rattle.x64_encode.specs.Chosen.{is_signed}
 unfoldable pub use Rattle.x64_encode.specs.Chosen.{modrm, opcode_register}
 pub use Rattle.template_code.specs.Bytes.{spelled, sizes}

@@ -3,7 +3,8 @@
 ghost use Rattle.std.specs.Prelude.{◌≡◌, ◌+◌, ◌*◌, ◌<◌, ◌^◌, ◌++◌, length, map, OnOk};
 ghost use Rattle.image_link.specs.Tables as spec;
 
-use eh_tables::{RuntimeFunction, write_unwind};
+use eh_tables::RuntimeFunction;
+use eh_write::write_unwind;
 use frame_layout::{FrameLayout, chained_of};
 use std::alloc::AllocError;
 use x64_emit::body::CodeRange;

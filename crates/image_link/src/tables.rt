@@ -2,7 +2,7 @@
 
 ghost use Rattle.std.specs.Prelude.{◌≡◌, ◌+◌, ◌*◌, ◌<◌, ◌≤◌, ◌^◌, ◌++◌, length, OnOk, IfOk};
 ghost use Rattle.std.specs.List.{AllByRecursion};
-ghost use Rattle.eh_tables.specs.Written.{CanBeWritten, IsTrailer, table_bytes};
+ghost use Rattle.eh_write.specs.Written.{CanBeWritten, IsTrailer, table_bytes};
 ghost use Rattle.frame_layout.specs.Layout.{IsFrame};
 ghost use Rattle.frame_layout.specs.Infos.{info_of};
 ghost use Rattle.x64_emit.specs.Linking.{address_or};
@@ -15,10 +15,8 @@ use crate::fragments::{Fragment, put_chains, put_fragments};
 use crate::place::Place;
 use crate::routine::Routine;
 use crate::text::{Site, thunk_at};
-use eh_tables::{
-    EXCEPTION_EXECUTE_HANDLER, RuntimeFunction, ScopeRecord, Trailer, UnwindInfo, write_pdata,
-    write_scopes, write_unwind,
-};
+use eh_tables::{EXCEPTION_EXECUTE_HANDLER, RuntimeFunction, ScopeRecord};
+use eh_write::{Trailer, UnwindInfo, write_pdata, write_scopes, write_unwind};
 use frame_layout::{FrameLayout, unwind_of};
 use host_layout::imported::ImportedService;
 use linear_code::program::{Region, RegionKind};

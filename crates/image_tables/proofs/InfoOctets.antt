@@ -5,9 +5,9 @@ use Rattle.std.specs.List.{AllByRecursion}
 use Rattle.std.proofs.lemmas.Bool.{leb-true, and_parts}
 use Rattle.seh_num.specs.Widths.{if_set}
 use Rattle.pe_image.specs.Numbers.{u16, u32}
-use Rattle.eh_tables.specs.Written.{slot, is_short, is_small, operation_bytes, codes_bytes, header, padded, trailer_bytes, trailer_flags, unwind_bytes}
-use Rattle.eh_tables.specs.declared.unwind_info.Trailer.{Trailer}
-use Rattle.eh_tables.specs.declared.unwind_info.Trailer.TheVariants.{Nothing, Handler, Parent}
+use Rattle.eh_write.specs.Written.{slot, is_short, is_small, operation_bytes, codes_bytes, header, padded, trailer_bytes, trailer_flags, unwind_bytes}
+use Rattle.eh_write.specs.declared.unwind_info.Trailer.{Trailer}
+use Rattle.eh_write.specs.declared.unwind_info.Trailer.TheVariants.{Nothing, Handler, Parent}
 use Rattle.frame_layout.specs.declared.frame.FrameLayout.{FrameLayout}
 use Rattle.frame_layout.specs.Infos.{info_of, chained_info, codes_of}
 use Rattle.eh_tables.specs.declared.range.RuntimeFunction.{RuntimeFunction}

@@ -6,11 +6,11 @@ use Rattle.std.proofs.lemmas.List.{length-replicate}
 use Rattle.eh_tables.specs.declared.range.RuntimeFunction.{RuntimeFunction}
 use Rattle.image_tables.proofs.Lemmas.{can_be_written}
 use Rattle.image_tables.specs.Words.{if_set, Nothing, chained_info, CHAINED_SIZE, CanBeWritten, IsRuntimeFunction, Image, ScopeRecord, is_c_handler, unwind_bytes, Region, UnwindOperation, FrameLayout, info_of, codes_of, CSpecificHandler, RoutineView, SiteView, own_addresses, thunk_at, is_finally, has_except, has_finally, trailer, scope_records, scope_table, info_if, info_bytes, has_rows, IsUnwindInfo, HasTrailer, has_c_handler, parent_of, header, padded, trailer_bytes, scope_record_bytes, IsTrailer}
-use Rattle.eh_tables.specs.declared.unwind_info.Trailer.{Trailer}
+use Rattle.eh_write.specs.declared.unwind_info.Trailer.{Trailer}
 use Rattle.pe_image.specs.Numbers.{u32}
 use Rattle.eh_tables.specs.declared.code.UnwindOperation.TheVariants.{Push, Allocate, SetFrame, Save, SaveVector, MachineFrame}
-use Rattle.eh_tables.specs.ReadAgain.{IsOperation}
-use Rattle.eh_tables.specs.Written.{codes_bytes}
+use Rattle.eh_write.specs.ReadAgain.{IsOperation}
+use Rattle.eh_write.specs.Written.{codes_bytes}
 use Rattle.frame_layout.specs.Layout.{IsFrame}
 use Rattle.frame_layout.specs.Plans.{IsStep}
 use Rattle.frame_layout.proofs.Codes.{codes_all, codes_even, codes_steps}

@@ -5,7 +5,7 @@ use Rattle.std.proofs.Common.{ℕ, suc, ◌+◌, Bool, true, false, List, [], �
 use Rattle.host_layout.specs.declared.imported.ImportedService.{ImportedService}
 use Rattle.host_layout.specs.declared.imported.ImportedService.TheVariants.{CSpecificHandler}
 use Rattle.linear_code.specs.declared.program.Region.{Region}
-use Rattle.eh_tables.specs.Written.{unwind_bytes}
+use Rattle.eh_write.specs.Written.{unwind_bytes}
 use Rattle.frame_layout.specs.declared.frame.FrameLayout.{FrameLayout}
 use Rattle.frame_layout.specs.Infos.{info_of}
 use Rattle.frame_layout.proofs.Counts.{all_both}

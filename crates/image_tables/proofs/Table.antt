@@ -6,11 +6,11 @@ use Rattle.std.proofs.lemmas.List.{map-append, length-map}
 use Rattle.image_tables.specs.Words.{Image, step_of, site_blocks, stored, is_c_handler, Table, Entry, or_none, ◌>>=◌, unwind_bytes, CSpecificHandler, ImageContents, CanBeImage, sizes_of, text_at, rdata_at, xdata_at, Region, Instruction, LabelRange, LinearProgram, FrameLayout, Layout, info_of, thunk, distance, chosen, spelled, body_size, part_code, FitsProgram, RoutineView, routines, IsFrameNear, IsRoutineNear, SiteView, routine_size, cold_size, total, cold_total, entry_size, own_addresses, thunk_at, front_code, routines_bytes, all_apart_bytes, bounds, trailer, scope_record, scope_records, scope_table, info_if, info_bytes, linked, Placed, PlacedPart, Cursor, put, past, end_of, parts_from, parts_of, placed_from, first_cursor, site_of, infos_begin, placed, HasRanges, HasRegions, range_of, scopes_of, has_rows, entry_if, part_entry, chained_if, entries, AreInOrder, MOST_IMAGE, IsStoredAt, IsRuntimeFunction, WrittenEntry, HasScopes, IsEntryWritten, as_read, ranges_of, info_written, Tables, directory, all_entries, tables, scope_bytes, table_bytes, service_thunk, info_bytes_of, infos, chained_info, chained_bytes, chained_infos, CHAINED_SIZE, fragments_of, fragments, all_ranges, unwind_of, TablesAreRead, front_size, slot_of, routines_begin, cold_begin, chained_begin}
 use Rattle.image_tables.specs.Entries.{entries_of, chained_of}
 use Rattle.eh_tables.specs.declared.range.RuntimeFunction.{RuntimeFunction}
-use Rattle.eh_tables.specs.ReadAgain.{IsInfoWritten}
-use Rattle.eh_tables.specs.ReadAgain as written_order
+use Rattle.eh_write.specs.ReadAgain.{IsInfoWritten}
+use Rattle.eh_write.specs.ReadAgain as written_order
 use Rattle.eh_tables.specs.Tables as reading
-use Rattle.eh_tables.proofs.TablesAgain.{reads_ranges}
-use Rattle.eh_tables.proofs.WholeAgain.{reads_table}
+use Rattle.eh_write.proofs.TablesAgain.{reads_ranges}
+use Rattle.eh_write.proofs.WholeAgain.{reads_table}
 use Rattle.pe_write.specs.Program as images
 use Rattle.x64_emit.specs.Bodies.{part_ranges}
 use Rattle.image_link.specs.declared.fragments.Fragment.{Fragment}

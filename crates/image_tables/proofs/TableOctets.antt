@@ -1,11 +1,11 @@
 -- Unwind infos, scope tables and function tables are written as octets.
 use Rattle.std.proofs.Common.{List, ◌++◌, length}
 use Rattle.std.specs.List.{flat_map}
-use Rattle.eh_tables.specs.Written.{u32, range_bytes, table_bytes, scope_record_bytes, scope_bytes, trailer_bytes}
+use Rattle.eh_write.specs.Written.{u32, range_bytes, table_bytes, scope_record_bytes, scope_bytes, trailer_bytes}
 use Rattle.eh_tables.specs.declared.range.RuntimeFunction.{RuntimeFunction}
 use Rattle.eh_tables.specs.declared.scope.ScopeRecord.{ScopeRecord}
-use Rattle.eh_tables.specs.declared.unwind_info.Trailer.{Trailer}
-use Rattle.eh_tables.specs.declared.unwind_info.Trailer.TheVariants.{Nothing, Handler, Parent}
+use Rattle.eh_write.specs.declared.unwind_info.Trailer.{Trailer}
+use Rattle.eh_write.specs.declared.unwind_info.Trailer.TheVariants.{Nothing, Handler, Parent}
 use Rattle.image_tables.specs.OctetLaws.{AreOctets}
 use Rattle.image_tables.proofs.Octets.{joined, mapped, four_bytes}
 

@@ -3,7 +3,7 @@ use Rattle.std.proofs.Common.{◌*◌, ◌≡◌, ℕ, suc, ◌+◌, ◌%◌, �
 use Rattle.std.specs.List.{AllByRecursion}
 use Rattle.std.proofs.lemmas.List.{map-append, length-map}
 use Rattle.eh_tables.specs.declared.range.RuntimeFunction.{RuntimeFunction}
-use Rattle.eh_tables.specs.ReadAgain.{WrittenInfo}
+use Rattle.eh_write.specs.ReadAgain.{WrittenInfo}
 use Rattle.x64_emit.specs.Bodies.{part_ranges}
 use Rattle.image_link.specs.declared.fragments.Fragment.{Fragment}
 use Rattle.image_link.specs.Places.{parts_at}

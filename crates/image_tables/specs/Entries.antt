@@ -5,8 +5,8 @@
 use Rattle.std.specs.Prelude.{ℕ, Bool, true, false, if◌then◌else◌, List, [], ◌∷◌, ◌++◌, map, Option, Some, None}
 use Rattle.eh_tables.specs.declared.range.RuntimeFunction.{RuntimeFunction}
 use Rattle.eh_tables.specs.declared.scope.ScopeRecord.{ScopeRecord}
-use Rattle.eh_tables.specs.declared.unwind_info.UnwindInfo.{UnwindInfo}
-use Rattle.eh_tables.specs.ReadAgain.{info_written}
+use Rattle.eh_write.specs.declared.unwind_info.UnwindInfo.{UnwindInfo}
+use Rattle.eh_write.specs.ReadAgain.{info_written}
 use Rattle.eh_tables.specs.Tables.{Entry}
 use Rattle.host_layout.specs.declared.imported.ImportedService.TheVariants.{CSpecificHandler}
 use Rattle.linear_code.specs.declared.program.Region.{Region}

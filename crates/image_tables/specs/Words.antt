@@ -30,14 +30,14 @@ pub use Rattle.pe_write.specs.Program.{image_of, ImageContents, CanBeImage, size
 pub use Rattle.eh_tables.specs.Answer.{Table}
 pub use Rattle.eh_tables.specs.Handler.{plain_slot, after_rex, begins_with_rex, jump_slot, is_c_name}
 unfoldable pub use Rattle.eh_tables.specs.Handler.{is_c_handler}
-pub use Rattle.eh_tables.specs.ReadAgain.{IsUnwindInfo, HasTrailer, has_c_handler, parent_of, IsScopeRecord, IsStoredAt, IsRuntimeFunction, WrittenEntry, HasScopes, IsEntryWritten, as_read, ranges_of, info_written}
+pub use Rattle.eh_write.specs.ReadAgain.{IsUnwindInfo, HasTrailer, has_c_handler, parent_of, IsScopeRecord, IsStoredAt, IsRuntimeFunction, WrittenEntry, HasScopes, IsEntryWritten, as_read, ranges_of, info_written}
 pub use Rattle.eh_tables.specs.Tables.{Entry, holding, or_none, entries_of, entry_or, Tables, all_entries, tables}
 unfoldable pub use Rattle.eh_tables.specs.Tables.{directory}
-pub use Rattle.eh_tables.specs.Written.{slot, is_small, is_short, allocation, header, padded, trailer_bytes, scope_record_bytes, CanBeWritten, IsTrailer, trailer_flags, scope_bytes, table_bytes}
-unfoldable pub use Rattle.eh_tables.specs.Written.{unwind_bytes}
+pub use Rattle.eh_write.specs.Written.{slot, is_small, is_short, allocation, header, padded, trailer_bytes, scope_record_bytes, CanBeWritten, IsTrailer, trailer_flags, scope_bytes, table_bytes}
+unfoldable pub use Rattle.eh_write.specs.Written.{unwind_bytes}
 pub use Rattle.eh_tables.specs.declared.code.UnwindOperation.{UnwindOperation}
 pub use Rattle.eh_tables.specs.declared.scope.ScopeRecord.{ScopeRecord}
-pub use Rattle.eh_tables.specs.declared.unwind_info.Trailer.TheVariants.{Nothing}
+pub use Rattle.eh_write.specs.declared.unwind_info.Trailer.TheVariants.{Nothing}
 pub use Rattle.x64_instr.specs.declared.instruction.Instr.{Instr}
 pub use Rattle.x64_instr.specs.declared.register.Reg.TheVariants.{Rax, Rcx, Rsp}
 pub use Rattle.x64_encode.specs.Chosen.{chosen, is_encodable, is_signed, little}

@@ -1,3 +1,4 @@
+pub mod FirstRows
 pub mod ImportCount
 pub mod Imported
 pub mod ImportsRead

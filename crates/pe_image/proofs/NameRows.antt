@@ -9,7 +9,7 @@ use Rattle.seh_num.specs.Answers.{unless, or_refused, prepend, onto, ◌>>=◌}
 use Rattle.pe_image.specs.declared.name_table.NameErr.{NameErr}
 use Rattle.pe_image.specs.Field.{field}
 use Rattle.pe_image.specs.Imports.{terminated}
-use Rattle.pe_image.specs.NameRows.{NameRow, NameSection, name_at, with_name, place_of, begin_in, end_in, number_in, name_in, row_in, in_order, row_at, rows_from, rows_of, rows_read, no_row, row_or, row_holding, name_or, name_of, NumbersAscend}
+use Rattle.pe_image.specs.NameRows.{NameRow, NameSection, name_at, with_name, place_of, begin_in, end_in, number_in, name_in, row_in, in_order, row_at, rows_from, rows_of, rows_read, no_row, row_or, row_holding, name_or, name_of}
 
 -- ---- names that are ended
 
@@ -391,19 +391,3 @@ unnamed_number number [] none = refl
 unnamed_number number (r ∷ rs) none =
     ap (name_or (name_of number rs) r.name) (ne_eqb r.number number (none 0 (omega arith)))
     ∙ unnamed_number number rs (λ j l. none (suc j) (omega arith))
-
--- rows with a greater number than the one before each
-pub ascend : (rows : List NameRow)
-    → ((k : ℕ) → k + 1 < length rows
-    → (get_or rows k no_row).number < (get_or rows (k + 1) no_row).number) → NumbersAscend rows
-ascend rows next j zero lt in_rows = absurd (omega arith)
-ascend rows next j (suc k) lt in_rows =
-    let up : k + 1 ≡ suc k = omega arith in
-    let last = subst (λ i. (get_or rows k no_row).number < (get_or rows i no_row).number) up
-    (next k (omega arith)) in
-    elim (cases_lt j k) [
-      | inl low ↦ let before = ascend rows next j k low (omega arith) in omega arith
-      | inr ge ↦
-          let same : k ≡ j = omega arith in
-          subst (λ i. (get_or rows i no_row).number < (get_or rows (suc k) no_row).number) same last
-    ]

@@ -3,7 +3,9 @@
 -- and the address of its name, which a 0 ends in the same section.
 --
 -- The main definitions: `rows_of`, `names_of`, `function_name`.
-use Rattle.std.specs.Prelude.{ℕ, zero, suc, ◌+◌, ◌-◌, ◌*◌, ◌<◌, Bool, true, false, ◌&&◌, nat_lt, nat_le, nat_eq, if◌then◌else◌, List, [], ◌∷◌, drop, length, slice_index_or, option_map, Option, Some, None, Result, Ok, Err}
+use Rattle.std.specs.Prelude.{ℕ, zero, suc, ◌+◌, ◌-◌, ◌*◌, ◌<◌, Bool, true, false, ◌&&◌, nat_lt, nat_le, nat_eq, if◌then◌else◌, List, [], ◌∷◌, drop, length, slice_index_or, option_map, Option, Some, None, Result, Ok, Err, ◌≡◌, IfSome}
+use Rattle.std.specs.Ordering.{nat_cmp}
+use Rattle.std.specs.BTreeMap.{BTreeMap, get}
 use Rattle.seh_num.specs.Answers.{unless, or_refused, prepend, ◌>>=◌}
 use Rattle.pe_image.specs.declared.layout.TheConstants.{SEHNAME_NAME, NAME_COUNT_SIZE, NAME_ROW_SIZE, NAME_ROW_END, NAME_ROW_NUMBER, NAME_ROW_NAME}
 use Rattle.pe_image.specs.declared.name_table.NameErr.{NameErr}
@@ -75,8 +77,7 @@ rows_from s (suc n) index last = do
 -- the rows of a table of names, each a range of code with its function's number and name, or the
 -- first by its index that isn't right. A row isn't right where it or its name isn't stored whole,
 -- its range is empty, or it begins before the range before it ends. `row_holding` is the row whose
--- range holds an address, `name_at_begin` the name of the one that begins there, `name_of` the name
--- in the first row with a number (own).
+-- range holds an address, `name_of` the name in the first row with a number (own).
 abbrev pub rows_of : NameSection → Result (List NameRow) NameErr
 rows_of s = do
   _ ← unless (is_there s.raw 0 NAME_COUNT_SIZE) (record { row = 0 })
@@ -125,16 +126,9 @@ abbrev pub row_holding : ℕ → List NameRow → Option NameRow
 row_holding rva [] = None
 row_holding rva (r ∷ rs) = row_or (row_holding rva rs) r (nat_le r.begin rva && nat_lt rva r.end)
 
--- the name in the row whose range begins at an address: that which holds it, if it begins there
-abbrev pub name_if_begun : ℕ → Option NameRow → Option (List ℕ)
-name_if_begun rva None = None
-name_if_begun rva (Some r) = if nat_eq r.begin rva then Some r.name else None
-
-abbrev pub name_at_begin : ℕ → List NameRow → Option (List ℕ)
-name_at_begin rva rows = name_if_begun rva (row_holding rva rows)
-
--- each row has a greater number than the one before
-abbrev pub NumbersAscend : List NameRow → Type 0
-NumbersAscend rows =
-    (j k : ℕ) → j < k → k < length rows
-    → (slice_index_or rows j no_row).number < (slice_index_or rows k no_row).number
+-- the first row of each number, by its index
+abbrev pub AreFirstRows : BTreeMap ℕ ℕ → List NameRow → Type 0
+AreFirstRows firsts rows =
+    (number : ℕ) → IfSome (get nat_cmp firsts number) (λ k. k < length rows)
+    × (option_map (λ k. (slice_index_or rows k no_row).name) (get nat_cmp firsts number)
+    ≡ name_of number rows)

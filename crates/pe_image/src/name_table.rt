@@ -1,13 +1,19 @@
 //! The table of names: where the code of each function lies, and what the function is called.
 
-ghost use Rattle.std.specs.Prelude.{◌≡◌, ◌<◌, ◌≤◌, ◌^◌, ◌+◌, ℕ, [], nat_lt, drop, length, is_some, IsTrue, option_map, slice_index_or, IfOk, IfErr, IfSome, Ok, Err};
+ghost use Rattle.std.specs.Prelude.{◌≡◌, ◌<◌, ◌≤◌, ◌^◌, ◌+◌, ℕ, [], nat_lt, drop, length, is_some, option_map, slice_index_or, Some, IfOk, IfErr, IfSome, Ok, Err};
+ghost use Rattle.pe_image.specs.Image.{section_named};
 ghost use Rattle.pe_image.specs.Imports.{terminated};
 ghost use Rattle.pe_image.specs.NameRows as spec;
+ghost use Rattle.pe_image.specs.declared.layout.TheConstants.{SEHNAME_NAME};
 
 use crate::fields::u32_at;
-use crate::layout::{NAME_COUNT_SIZE, NAME_ROW_END, NAME_ROW_NAME, NAME_ROW_NUMBER, NAME_ROW_SIZE};
+use crate::layout::{
+    NAME_COUNT_SIZE, NAME_ROW_END, NAME_ROW_NAME, NAME_ROW_NUMBER, NAME_ROW_SIZE, SEHNAME_NAME,
+};
 use crate::names::first_zero;
-use crate::section::SectionView;
+use crate::section::{SectionView, section_named};
+use std::alloc::{AllocError, Global};
+use std::collections::BTreeMap;
 use std::marker::Model;
 
 /// The first row of a table of names that isn't right, by its index.
@@ -237,14 +243,12 @@ impl<'a> NameRows<'a> {
         Some((range.begin as u64, range.number))
     }
 
-    /// The name in the row whose range begins at an address.
-    fn name_at_begin(&self, rva: u64) -> Option<&'a [u8]>
-        ensures { option_map (λ b. b.now) result ≡ spec.name_at_begin rva self.now }
+    /// The name of a row.
+    fn name(&self, index: u32) -> Option<&'a [u8]>
+        requires { index < length self.now }
+        ensures { option_map (λ b. b.now) result
+            ≡ Some (slice_index_or self.now index spec.no_row).name }
     {
-        let index = self.place(rva)?;
-        if self.range(index).begin as u64 != rva {
-            return None;
-        }
         self.section.name(index)
     }
 
@@ -254,43 +258,51 @@ impl<'a> NameRows<'a> {
     {
         for index in 0..self.count {
             if self.range(index).number == number {
-                return self.section.name(index);
+                return self.name(index);
             }
         }
         None
     }
 
-    /// Whether their numbers ascend.
-    fn numbers_ascend(&self) -> bool
-        ensures { IsTrue result → spec.NumbersAscend self.now }
+    /// The first row of each number.
+    fn first_rows(&self, alloc: Global) -> Result<BTreeMap<u32, u32>, AllocError>
+        ensures { IfOk result (λ m. spec.AreFirstRows m self.now) }
     {
-        for index in 1..self.count {
-            if self.range(index).number <= self.range(index - 1).number {
-                return false;
-            }
+        let mut first_rows = BTreeMap::new(alloc);
+        let mut index = self.count;
+        while index > 0 {
+            index -= 1;
+            first_rows.insert(self.range(index).number, index)?;
         }
-        true
+        Ok(first_rows)
     }
 
-    /// The name in the row with a number, where the numbers ascend.
-    fn name_by_halves(&self, number: u32) -> Option<&'a [u8]>
-        requires { spec.NumbersAscend self.now }
-        ensures { option_map (λ b. b.now) result ≡ spec.name_of number self.now }
+    /// Those of the table of names in some sections, or the first that isn't right.
+    fn in_sections(sections: &[SectionView<'a>]) -> Result<NameRows<'a>, NameErr>
+        ensures rows { IfOk result
+            (λ t. spec.names_in (section_named SEHNAME_NAME sections.now) ≡ Ok t) }
+        ensures refusal { IfErr result
+            (λ e. spec.names_in (section_named SEHNAME_NAME sections.now) ≡ Err e) }
     {
-        let mut low = 0;
-        let mut high = self.count;
-        while low < high {
-            let middle = low + (high - low) / 2;
-            let found = self.range(middle).number;
-            if found < number {
-                low = middle + 1;
-            } else if number < found {
-                high = middle;
-            } else {
-                return self.section.name(middle);
-            }
+        match section_named(sections, SEHNAME_NAME) {
+            Some(section) => NameRows::read(section),
+            None => Ok(NameRows::empty()),
         }
-        None
+    }
+}
+
+/// The first row of each number in the table of names in some sections; none where the table is
+/// refused.
+pub fn first_rows(
+    alloc: Global,
+    sections: &[SectionView<'_>],
+) -> Result<BTreeMap<u32, u32>, AllocError>
+    ensures { IfOk result (λ m. spec.AreFirstRows m
+        (spec.rows_read (spec.names_in (section_named SEHNAME_NAME sections.now)))) }
+{
+    match NameRows::in_sections(sections) {
+        Ok(rows) => rows.first_rows(alloc),
+        Err(_) => Ok(BTreeMap::new(alloc)),
     }
 }
 
@@ -299,19 +311,19 @@ impl<'a> NameRows<'a> {
 #[derive(Drop)]
 pub struct NameTable<'a> {
     rows: NameRows<'a>,
-    /// Whether the numbers of functions ascend too.
-    ascending: bool,
+    /// The first row of each number, if they were found.
+    first_rows: Option<&'a BTreeMap<u32, u32>>,
 }
 
 impl<'a> Model for NameTable<'a> {
-    ghost use Rattle.std.specs.Prelude.{◌≡◌, List, true};
-    ghost use Rattle.pe_image.specs.NameRows.{NameRow, NumbersAscend};
+    ghost use Rattle.std.specs.Prelude.{List, IfSome};
+    ghost use Rattle.pe_image.specs.NameRows.{NameRow, AreFirstRows};
 
     ghost Value = { List NameRow };
 
     ghost view = { λ t. t.rows };
 
-    ghost invariant = { λ t. t.ascending ≡ true → NumbersAscend t.rows };
+    ghost invariant = { λ t. IfSome t.first_rows (λ m. AreFirstRows m.now t.rows) };
 }
 
 impl<'a> NameTable<'a> {
@@ -321,7 +333,7 @@ impl<'a> NameTable<'a> {
     {
         NameTable {
             rows: NameRows::empty(),
-            ascending: false,
+            first_rows: None,
         }
     }
 
@@ -333,12 +345,31 @@ impl<'a> NameTable<'a> {
         ensures refusal { IfErr result
             (λ e. spec.rows_of (spec.name_section section.now) ≡ Err e) }
     {
-        let rows = match NameRows::read(section) {
-            Ok(rows) => rows,
-            Err(e) => return Err(e),
-        };
-        let ascending = rows.numbers_ascend();
-        Ok(NameTable { rows, ascending })
+        match NameRows::read(section) {
+            Ok(rows) => Ok(NameTable {
+                rows,
+                first_rows: None,
+            }),
+            Err(e) => Err(e),
+        }
+    }
+
+    /// The table in an image's sections, with the first row of each number if they were found.
+    pub(crate) fn in_sections(
+        sections: &[SectionView<'a>],
+        first_rows: Option<&'a BTreeMap<u32, u32>>,
+    ) -> Result<NameTable<'a>, NameErr>
+        requires { IfSome first_rows (λ m. spec.AreFirstRows m.now
+            (spec.rows_read (spec.names_in (section_named SEHNAME_NAME sections.now)))) }
+        ensures rows { IfOk result
+            (λ t. spec.names_in (section_named SEHNAME_NAME sections.now) ≡ Ok t) }
+        ensures refusal { IfErr result
+            (λ e. spec.names_in (section_named SEHNAME_NAME sections.now) ≡ Err e) }
+    {
+        match NameRows::in_sections(sections) {
+            Ok(rows) => Ok(NameTable { rows, first_rows }),
+            Err(e) => Err(e),
+        }
     }
 
     /// The same table: it borrows what the image stores, and takes no memory.
@@ -347,7 +378,7 @@ impl<'a> NameTable<'a> {
     {
         NameTable {
             rows: self.rows.copied(),
-            ascending: self.ascending,
+            first_rows: self.first_rows,
         }
     }
 
@@ -359,23 +390,15 @@ impl<'a> NameTable<'a> {
         self.rows.row(rva)
     }
 
-    /// The name in the row whose range begins at an address, if there is one. The rows are searched
-    /// by halves.
-    pub fn name_at_begin(&self, rva: u64) -> Option<&'a [u8]>
-        ensures { option_map (λ b. b.now) result ≡ spec.name_at_begin rva self.now }
-    {
-        self.rows.name_at_begin(rva)
-    }
-
-    /// The name of the function of a number: that of the first row with the number. Where the
-    /// numbers ascend, as in an image of ours, the rows are searched by halves.
+    /// The name of the function of a number: that of the first row with the number. An image in a
+    /// file has a map of these rows. In another table the rows are looked through.
     pub fn name(&self, number: u32) -> Option<&'a [u8]>
         ensures { option_map (λ b. b.now) result ≡ spec.name_of number self.now }
     {
-        if self.ascending {
-            self.rows.name_by_halves(number)
-        } else {
-            self.rows.first_name(number)
-        }
+        let Some(first_rows) = self.first_rows else {
+            return self.rows.first_name(number);
+        };
+        let index = first_rows.get(&number)?;
+        self.rows.name(*index)
     }
 }

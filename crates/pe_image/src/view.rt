@@ -14,16 +14,16 @@ use crate::image_layout::ImageLayout;
 use crate::import::stored;
 use crate::import_check::check_imports;
 use crate::imports::{Imports, bound_names};
-use crate::layout::{IMAGE_DIRECTORY_ENTRY_EXCEPTION, IMAGE_DIRECTORY_ENTRY_IMPORT, SEHNAME_NAME};
-use crate::name_table::{NameErr, NameTable};
+use crate::layout::{IMAGE_DIRECTORY_ENTRY_EXCEPTION, IMAGE_DIRECTORY_ENTRY_IMPORT};
+use crate::name_table::{NameErr, NameTable, first_rows};
 use crate::reading::{
     check_headers, directory, entry_point, image_base, image_end, image_size, section_count,
     sections_at,
 };
 use crate::refusal::ImageErr;
-use crate::section::{SectionView, section_named, stored_from};
+use crate::section::{SectionView, stored_from};
 use crate::table::sections;
-use std::alloc::Global;
+use std::alloc::{AllocError, Global};
 use std::collections::BTreeMap;
 use std::marker::Model;
 
@@ -38,16 +38,20 @@ pub struct ImageView<'a> {
     exceptions: DataDirectory,
     name_ends: BTreeMap<u64, u64>,
     names: BTreeMap<u64, &'a [u8]>,
+    /// The first row of each number in the table of names, if they were found.
+    first_rows: Option<BTreeMap<u32, u32>>,
 }
 
 impl<'a> Model for ImageView<'a> {
-    ghost use Rattle.std.specs.Prelude.{◌≡◌, ℕ, IsOk, option_map};
+    ghost use Rattle.std.specs.Prelude.{◌≡◌, ℕ, IsOk, IfSome, option_map};
     ghost use Rattle.std.specs.Ordering.{nat_cmp};
     ghost use Rattle.std.specs.BTreeMap.{get};
     ghost use Rattle.pe_image.specs.Bound.{bound_name};
-    ghost use Rattle.pe_image.specs.Image.{Image, AreAscending};
+    ghost use Rattle.pe_image.specs.Image.{Image, AreAscending, section_named};
     ghost use Rattle.pe_image.specs.Imports.{imports_in, or_none};
+    ghost use Rattle.pe_image.specs.NameRows.{AreFirstRows, names_in, rows_read};
     ghost use Rattle.pe_image.specs.Names.{AreEnds};
+    ghost use Rattle.pe_image.specs.declared.layout.TheConstants.{SEHNAME_NAME};
 
     ghost Value = { Image };
 
@@ -64,7 +68,9 @@ impl<'a> Model for ImageView<'a> {
         × (IsOk (imports_in v.sections.items v.import_directory))
         × (AreEnds v.sections.items v.name_ends)
         × ((slot : ℕ) → option_map (λ b. b.now) (get nat_cmp v.names slot)
-        ≡ bound_name slot (or_none (imports_in v.sections.items v.import_directory))) };
+        ≡ bound_name slot (or_none (imports_in v.sections.items v.import_directory)))
+        × (IfSome v.first_rows (λ m. AreFirstRows m
+        (rows_read (names_in (section_named SEHNAME_NAME v.sections.items))))) };
 }
 
 impl<'a> ImageView<'a> {
@@ -77,7 +83,8 @@ impl<'a> ImageView<'a> {
         ensures image { IfOk result (λ view. IsImage bytes.now view) }
         ensures refusal { IfErr result (λ e. ImageIsRefused bytes.now e) }
     {
-        ImageView::read_in(alloc, bytes, ImageLayout::File)
+        let view = ImageView::read_in(alloc, bytes, ImageLayout::File)?;
+        Ok(view.with_first_rows(alloc)?)
     }
 
     /// Reads an image in a layout, with the checks of [`ImageView::read`]. Of a mapped image all of
@@ -137,7 +144,16 @@ impl<'a> ImageView<'a> {
             exceptions: directory(bytes, IMAGE_DIRECTORY_ENTRY_EXCEPTION),
             name_ends,
             names,
+            first_rows: None,
         })
+    }
+
+    /// The same, which has found the first row of each number in the table of names.
+    fn with_first_rows(mut self, alloc: Global) -> Result<ImageView<'a>, AllocError>
+        ensures { IfOk result (λ view. view ≡ self.entry) }
+    {
+        self.first_rows = Some(first_rows(alloc, &self.sections)?);
+        Ok(self)
     }
 
     /// The image base, at which the image lies in memory.
@@ -191,14 +207,11 @@ impl<'a> ImageView<'a> {
     /// image without such a section has none. Of a mapped image all of the section's size is read,
     /// as of each of its sections.
     #[tactic(auto, unfolding(crate::specs::NameRows::names_of))]
-    pub fn names(&self) -> Result<NameTable<'a>, NameErr>
+    pub fn names(&self) -> Result<NameTable<'_>, NameErr>
         ensures rows { IfOk result (λ t. names_of self.now ≡ Ok t) }
         ensures refusal { IfErr result (λ e. names_of self.now ≡ Err e) }
     {
-        match section_named(&self.sections, SEHNAME_NAME) {
-            Some(section) => NameTable::read(section),
-            None => Ok(NameTable::empty()),
-        }
+        NameTable::in_sections(&self.sections, self.first_rows.as_ref())
     }
 
     /// Where the function table lies.

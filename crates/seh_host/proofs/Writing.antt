@@ -5,7 +5,7 @@ use Rattle.std.proofs.lemmas.List.{append-nil}
 use Rattle.seh_host.specs.Words.{RunEnd, named_by, image_named, lines, end_line, text, Writer, writer_of, Wrote, TookEvents, TookPart, Functions, Host, Live, Ended, end_of, Running, made, shown_made, after_turn, shown_of, run_of, run_names, answer_of, end_within}
 use Rattle.seh_num.specs.declared.event.Event.{Event}
 use Rattle.seh_num.specs.Shown.{Shown}
-use Rattle.seh_io.specs.Streams.{Grew}
+use Rattle.seh_io.specs.Streams.{Faults, Grew}
 use Rattle.pe_image.specs.NameRows.{NameRow}
 use Rattle.seh_host.specs.declared.names.ImageNames.{ImageNames}
 use Rattle.seh_io.specs.declared.receiver.Lines.{Lines}
@@ -114,16 +114,16 @@ module _ (n k : ℕ) (trace : Bool) (r r' : Running) (x z : Writer) (le : k ≤ 
 -- ---- one turn more, with the lines of what it shows
 
 -- lines with the names of what runs
-lines_named : {X : Type 0} (taken : X → Option (List ℕ)) (faults : X → ℕ) (l n : Lines X ImageNames)
-    (rows : List NameRow) (es : List Event) → l.names.now.table ≡ rows
+lines_named : {X : Type 0} (taken : X → Option (List ℕ)) (faults : X → Faults)
+    (l n : Lines X ImageNames) (rows : List NameRow) (es : List Event) → l.names.now.table ≡ rows
     → TookEvents taken faults image_named l es n
     → Wrote (writer_of taken faults l) (lines l.trace es (named_by rows)) (writer_of taken faults n)
 lines_named taken faults l n rows es same took =
     subst (λ (named : List NameRow). Wrote (writer_of taken faults l)
     (lines l.trace es (named_by named)) (writer_of taken faults n)) same took.wrote
 
-module _ {X : Type 0} (taken : X → Option (List ℕ)) (faults : X → ℕ) (l0 l n : Lines X ImageNames)
-    (count i : ℕ) (r0 r r' : Running)
+module _ {X : Type 0} (taken : X → Option (List ℕ)) (faults : X → Faults)
+    (l0 l n : Lines X ImageNames) (count i : ℕ) (r0 r r' : Running)
     (at : r ≡ made i r0) (is : l.failed ≡ false) (same : l0.names.now.table ≡ r0.functions.rows)
     (took : TookEvents taken faults image_named l0 (shown_made i r0) l) (goes : r' ≡ after_turn r)
     (shows : TookEvents taken faults image_named l (shown_of r) n) where
@@ -171,7 +171,7 @@ module _ {X : Type 0} (taken : X → Option (List ℕ)) (faults : X → ℕ) (l0
       (λ _. (far.0 ∙ sym near.0, far.1 ∙ sym near.1)) i (omega arith) before_it
 
 -- all turns made
-pub all_made : {X : Type 0} (taken : X → Option (List ℕ)) (faults : X → ℕ)
+pub all_made : {X : Type 0} (taken : X → Option (List ℕ)) (faults : X → Faults)
     (l0 n : Lines X ImageNames) (count i : ℕ) (r0 r' : Running)
     → i ≡ count → r' ≡ made i r0 → n.failed ≡ false
     → l0.names.now.table ≡ r0.functions.rows
@@ -191,7 +191,7 @@ pub none_made : (r : Running) → r ≡ made 0 r
 unfolding after_turns
 none_made r = refl
 
-pub none_taken : {X : Type 0} (taken : X → Option (List ℕ)) (faults : X → ℕ)
+pub none_taken : {X : Type 0} (taken : X → Option (List ℕ)) (faults : X → Faults)
     (l : Lines X ImageNames) (r : Running)
     → TookEvents taken faults image_named l (shown_made 0 r) l
 unfolding shown_in_turns
@@ -227,7 +227,7 @@ whatever y z u v q was = record {
   whole = λ is. absurd (true≢false (sym (q.nothing was).1 ∙ is));
   nothing = q.nothing;
   cause = λ is. absurd (true≢false (sym was ∙ is));
-  faults = q.faults;
+  faultless = q.faultless;
   counted = q.counted;
 }
 

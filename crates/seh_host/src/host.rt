@@ -25,7 +25,7 @@ pub struct Host<'image, 'bytes> {
     pub(crate) space: PageMap,
     pub(crate) end: Option<RunEnd>,
     pub(crate) tables: Tables<'image, 'bytes>,
-    pub(crate) names: NameTable<'bytes>,
+    pub(crate) names: NameTable<'image>,
     pub(crate) filter: FuncletFilter,
     pub(crate) funclets: Vec<Funclet>,
     pub(crate) instructions: InstructionCache,

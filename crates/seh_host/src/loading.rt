@@ -81,7 +81,7 @@ fn mapped(alloc: Global, image: &ImageView<'_>) -> Result<PageMap, AllocError>
 
 /// The names of an image's functions, or the first reason that it isn't loaded. Its function table
 /// was read whole.
-fn read_names<'bytes>(image: &ImageView<'bytes>) -> Result<NameTable<'bytes>, LoadErr>
+fn read_names<'image>(image: &'image ImageView<'_>) -> Result<NameTable<'image>, LoadErr>
     ensures read { IfOk result (λ t. t ≡ name_rows image.now) }
     ensures place { IfOk result (λ _. has_place image.now ≡ true) }
     ensures accepted { IfOk result (λ _. model.later_refusal image.now ≡ None) }

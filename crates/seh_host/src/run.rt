@@ -2,7 +2,7 @@
 
 ghost use Rattle.std.specs.Prelude.{◌≡◌, ◌≤◌, ◌+◌, ℕ, List, [], ◌∷◌, false, IfOk, IfErr, OnOk, OnErr, length};
 ghost use Rattle.seh_num.specs.declared.event.Event.{Event as Event'};
-ghost use Rattle.seh_io.specs.Streams.{Rose, Grew, HasCount};
+ghost use Rattle.seh_io.specs.Streams.{Faultless, Faulted, Grew, HasCount};
 ghost use Rattle.seh_io.specs.Text.{text};
 ghost use Rattle.seh_io.specs.Writer.{TookPart, writer_of};
 ghost use Rattle.host_model.specs.HostStep as model;
@@ -113,8 +113,8 @@ pub fn run<O: Sink>(
     ensures image { image_of host.new ≡ image_of host.old }
     ensures stopped { IfErr result (λ _. StoppedText turns trace (running_of host.old)
         (O.taken sink.old) (running_of host.new) (O.taken sink.new)) }
-    ensures cause { OnErr result (Rose (O.faults sink.old) (O.faults sink.new)) }
-    ensures faults { O.faults sink.old ≤ O.faults sink.new }
+    ensures faultless { OnOk result (Faultless (O.faults sink.old) (O.faults sink.new)) }
+    ensures cause { OnErr result (Faulted (O.faults sink.old) (O.faults sink.new)) }
     ensures counted { CountedTurns turns (running_of host.old) (event_count host.old)
         (running_of host.new) (event_count host.new) }
     ensures all_counted { OnOk result (HasCount

@@ -31,12 +31,6 @@ grew_next a b c xs i n p q =
     subst (λ ys. Grew a ys c) (next_bytes i n xs)
     (grew_more a b c (take i xs) (take n (take (length xs - i) (drop i xs))) p q)
 
-pub grew_still : (a b c : Option (List ℕ)) (xs ys : List ℕ) (n : ℕ) → n ≡ 0 → Grew a xs b
-    → Grew b (take n ys) c → Grew a xs c
-grew_still a b c xs ys n e p q =
-    let r = subst (λ (k : ℕ). Grew b (take k ys) c) e q in
-    subst (λ t. Grew a t c) (append-nil xs) (grew_more a b c xs [] p r)
-
 -- a source that has lost more than so many bytes held more
 pub held_more : (a b : Option (List ℕ)) (xs : List ℕ) (most : ℕ) → Lost a xs b → most < length xs
     → ForSome a (λ all. most < length all)

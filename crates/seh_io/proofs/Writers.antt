@@ -2,7 +2,7 @@
 use Rattle.std.proofs.Common.{◌≡◌, ℕ, ◌+◌, ◌≤◌, List, [], ◌++◌, take, drop, length, arith, refl, sym, ap, add-zero, min, subst, true, false}
 use Rattle.std.specs.Prelude.{Option, Result, Ok, Err, MatchResult, OnOk, IfErr}
 use Rattle.std.proofs.lemmas.List.{length-take-le, take-append-drop}
-use Rattle.seh_io.specs.Streams.{Grew, Rose, last_count}
+use Rattle.seh_io.specs.Streams.{Faults, Grew, Faultless, Faulted, last_count}
 use Rattle.seh_io.specs.Writer.{Writer, writer, Wrote, TookPart}
 use Rattle.seh_io.specs.declared.writing.WriteFault.{WriteFault}
 use Rattle.seh_io.proofs.Moves.{grew_nothing}
@@ -15,26 +15,26 @@ wrote_nothing w text was = record {
   begins = (text, refl);
   grew = grew_nothing w.taken;
   whole = λ is. not_both w.failed was is;
-  nothing = λ _. (refl, was);
+  nothing = λ _. (refl, was, refl);
   cause = λ is _. not_both w.failed was is;
-  faults = omega arith;
+  faultless = λ _. refl;
   counted = ap (λ n. min n last_count) (sym (add-zero w.count));
 }
 
 -- one whose write fails has taken a part
-pub wrote_part : (count count' : ℕ) (taken taken' : Option (List ℕ)) (faults faults' : ℕ)
+pub wrote_part : (count count' : ℕ) (taken taken' : Option (List ℕ)) (faults faults' : Faults)
     (text : List ℕ) (k : ℕ) → k ≤ length text → Grew taken (take k text) taken'
-    → Rose faults faults' → faults ≤ faults' → count' ≡ min (count + k) last_count
+    → Faulted faults faults' → count' ≡ min (count + k) last_count
     → Wrote (writer false count taken faults) text (writer true count' taken' faults')
-wrote_part count count' taken taken' faults faults' text k within grew rose rising counted =
+wrote_part count count' taken taken' faults faults' text k within grew last counted =
     record {
       part = take k text;
       begins = (drop k text, sym (take-append-drop k text));
       grew = grew;
       whole = λ is. not_both true refl is;
       nothing = λ is. not_both false is refl;
-      cause = λ _ _. rose;
-      faults = rising;
+      cause = λ _ _. last;
+      faultless = λ is. not_both true refl is;
       counted = omega (arith, length-take-le k text within);
     }
 

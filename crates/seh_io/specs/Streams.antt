@@ -1,5 +1,5 @@
--- Streams of bytes: what a call moved, and the count of faults.
-use Rattle.std.specs.Prelude.{◌≡◌, ℕ, ◌+◌, ◌-◌, ◌^◌, ◌<◌, ◌==◌, min, Bool, List, ◌++◌}
+-- Streams of bytes: what a call moved, and the faults.
+use Rattle.std.specs.Prelude.{◌≡◌, ℕ, ◌+◌, ◌-◌, ◌^◌, ◌==◌, min, Bool, true, false, List, ◌++◌}
 use Rattle.std.specs.Prelude.{Option, Some}
 use Rattle.std.specs.Option.{ForSome}
 use Rattle.std.specs.List.{list_any}
@@ -16,9 +16,30 @@ next_count n = min (n + 1) last_count
 abbrev pub HasCount : ℕ → ℕ → Type 0
 HasCount n m = min m last_count ≡ min n last_count
 
--- a count of faults rose; one that is at its last value can't, and rose too
-abbrev pub Rose : ℕ → ℕ → Type 0
-Rose old new = new < last_count → old < new
+-- the faults of a stream: how many there were, at most the last value of a count, and whether the
+-- last call was one
+pub record Faults : Type 0 where
+  pub count : ℕ
+  pub failed : Bool
+
+abbrev pub faults_of : ℕ → Bool → Faults
+faults_of count failed = record { count = count; failed = failed }
+
+-- after a call without a fault
+abbrev pub succeeded : Faults → Faults
+succeeded old = faults_of old.count false
+
+-- after a call that was a fault
+abbrev pub faulted : Faults → Faults
+faulted old = faults_of (next_count old.count) true
+
+-- no call was a fault; a count at its last value can't tell
+abbrev pub Faultless : Faults → Faults → Type 0
+Faultless old new = new.count ≡ old.count
+
+-- one call was a fault, and it was the last: none was made after it
+abbrev pub Faulted : Faults → Faults → Type 0
+Faulted old new = new ≡ faulted old
 
 -- where it is known what a source holds: it began with these bytes, and holds the rest now
 abbrev pub Lost : Option (List ℕ) → List ℕ → Option (List ℕ) → Type 0

@@ -1,11 +1,11 @@
 -- What a writer or a list did with one text or event and then with another. These are lemmas: the
 -- impls of `Events` give them as ghost members, which can cite nothing but specs.
-use Rattle.std.proofs.Common.{◌≡◌, ℕ, ◌<◌, Bool, true, false, List, [], ◌∷◌, ◌++◌, min, arith, refl, sym, ap, ◌∙◌, append_assoc, append-nil, add-zero, length-append, inl, inr, subst}
+use Rattle.std.proofs.Common.{◌≡◌, ℕ, Bool, true, false, List, [], ◌∷◌, ◌++◌, min, arith, refl, sym, ap, ◌∙◌, append_assoc, append-nil, add-zero, length-append, inl, inr, subst}
 use Rattle.std.specs.Prelude.{Option, Some}
 use Rattle.std.proofs.lemmas.Bool.{cases_Bool, true≢false}
 use Rattle.seh_num.specs.declared.event.Event.{Event}
 use Rattle.seh_io.specs.declared.receiver.Lines.{Lines}
-use Rattle.seh_io.specs.Streams.{Grew, last_count}
+use Rattle.seh_io.specs.Streams.{Faults, Grew, Faultless, Faulted, next_count, last_count, faults_of}
 use Rattle.seh_io.specs.Text.{line, lines}
 use Rattle.seh_io.specs.Writer.{Writer, writer_of, Wrote, TookEvents, Kept}
 
@@ -19,6 +19,10 @@ grew_more a b c xs ys p q before known =
 pub not_both : (b : Bool) {A : Type 0} → b ≡ true → b ≡ false → A
 not_both b p q = absurd (true≢false (sym p ∙ q))
 
+-- a fault after calls without one
+pub faulted_later : (f g h : Faults) → Faultless f g → Faulted g h → Faulted f h
+faulted_later f g h same last = last ∙ ap (λ n. faults_of (next_count n) true) same
+
 -- no text changes nothing
 pub wrote_none : (w : Writer) → Wrote w [] w
 wrote_none w = record {
@@ -26,9 +30,9 @@ wrote_none w = record {
   begins = ([], refl);
   grew = λ before known. known ∙ ap Some (sym (append-nil before));
   whole = λ _. refl;
-  nothing = λ was. (refl, was);
+  nothing = λ was. (refl, was, refl);
   cause = λ is was. not_both w.failed was is;
-  faults = omega arith;
+  faultless = λ _. refl;
   counted = ap (λ n. min n last_count) (sym (add-zero w.count));
 }
 
@@ -45,9 +49,8 @@ module _ (x y z : Writer) (t u : List ℕ) (p : Wrote x t y) (q : Wrote y u z) w
     grew = grew_more x.taken y.taken z.taken p.part q.part p.grew q.grew;
     whole = λ done. ap (λ s. s ++ q.part) (p.whole is) ∙ ap (λ s. t ++ s) (q.whole done);
     nothing = λ was. not_both y.failed ((p.nothing was).1) is;
-    cause =
-        λ _ was. (λ below. let rose = q.cause is was below in let rising = p.faults in omega arith);
-    faults = omega (arith, p.faults, q.faults);
+    cause = λ _ was. faulted_later x.faults y.faults z.faults (p.faultless is) (q.cause is was);
+    faultless = λ done. q.faultless done ∙ p.faultless is;
     counted = omega (arith, p.counted, q.counted, length-append p.part q.part);
   }
 
@@ -65,11 +68,13 @@ module _ (x y z : Writer) (t u : List ℕ) (p : Wrote x t y) (q : Wrote y u z) w
         );
         grew = grew_more x.taken y.taken z.taken p.part q.part p.grew q.grew;
         whole = λ done. not_both z.failed ((q.nothing was).1) done;
-        nothing = λ before. (same ∙ (p.nothing before).0, (q.nothing was).1);
-        cause =
-            λ is _. (λ below. let rising = q.faults in let rose : y.faults < last_count
-            → x.faults < y.faults = p.cause is was in omega (arith, rose));
-        faults = omega (arith, p.faults, q.faults);
+        nothing = λ before. (
+          same ∙ (p.nothing before).0,
+          (q.nothing was).1,
+          (q.nothing was).2 ∙ (p.nothing before).2,
+        );
+        cause = λ is _. (q.nothing was).2 ∙ p.cause is was;
+        faultless = λ done. not_both z.failed ((q.nothing was).1) done;
         counted = omega (arith, p.counted, q.counted, length-append p.part q.part);
       }
 
@@ -86,7 +91,7 @@ lines_append trace (e ∷ es) fs names =
     ∙ sym (append_assoc (line trace e names) (lines trace es names) (lines trace fs names))
 
 -- no event changes nothing
-pub took_none : {X N : Type 0} (taken : X → Option (List ℕ)) (faults : X → ℕ)
+pub took_none : {X N : Type 0} (taken : X → Option (List ℕ)) (faults : X → Faults)
     (named : N → ℕ → Option (List ℕ)) (x : Lines X N) → TookEvents taken faults named x [] x
 took_none taken faults named x =
     record {
@@ -97,7 +102,7 @@ took_none taken faults named x =
     }
 
 -- events and then more are all of them
-pub took_more : {X N : Type 0} (taken : X → Option (List ℕ)) (faults : X → ℕ)
+pub took_more : {X N : Type 0} (taken : X → Option (List ℕ)) (faults : X → Faults)
     (named : N → ℕ → Option (List ℕ)) (x y z : Lines X N) (es fs : List Event)
     → TookEvents taken faults named x es y → TookEvents taken faults named y fs z
     → TookEvents taken faults named x (es ++ fs) z

@@ -1,7 +1,7 @@
 //! A source and a sink over memory, without faults of their own.
 
-ghost use Rattle.std.specs.Prelude.{◌≡◌, ◌+◌, ◌-◌, ◌≤◌, Some, [], ◌++◌, length, drop, take, min, IfOk, OnErr, OnOk, IsOk};
-ghost use Rattle.seh_io.specs.Streams.{next_count};
+ghost use Rattle.std.specs.Prelude.{◌≡◌, ◌+◌, ◌-◌, ◌≤◌, Some, [], ◌++◌, length, drop, take, min, IfOk, OnErr, OnOk, IsOk, false};
+ghost use Rattle.seh_io.specs.Streams.{next_count, faults_of, succeeded};
 
 use crate::sink::Sink;
 use crate::source::{Failed, Source};
@@ -26,7 +26,7 @@ impl<'a> SliceSource<'a> {
 impl Source for SliceSource<'_> {
     ghost left = { λ s. Some s.rest.now };
 
-    ghost faults = { λ _. 0 };
+    ghost faults = { λ _. faults_of 0 false };
 
     fn read(&mut self, buf: &mut [u8]) -> Result<usize, Failed> {
         let count = self.rest.len().min(buf.len());
@@ -44,6 +44,8 @@ pub struct VecSink {
     pub bytes: Vec<u8>,
     /// How often there was no memory for a piece.
     pub faults: u64,
+    /// Whether there was none for the last piece.
+    pub failed: bool,
 }
 
 impl VecSink {
@@ -51,10 +53,12 @@ impl VecSink {
     pub fn new(alloc: Global) -> VecSink
         ensures empty { result.bytes.items ≡ [] }
         ensures faults { result.faults ≡ 0 }
+        ensures failed { result.failed ≡ false }
     {
         VecSink {
             bytes: Vec::new(alloc),
             faults: 0,
+            failed: false,
         }
     }
 }
@@ -62,15 +66,14 @@ impl VecSink {
 impl Sink for VecSink {
     ghost taken = { λ s. Some s.bytes.items };
 
-    ghost faults = { λ s. s.faults };
+    ghost faults = { λ s. faults_of s.faults s.failed };
 
     fn write(&mut self, piece: &[u8]) -> Result<usize, Failed> {
-        match self.bytes.extend_from_slice(piece) {
-            Ok(()) => Ok(piece.len()),
-            Err(_) => {
-                self.faults = self.faults.saturating_add(1);
-                Err(Failed)
-            }
+        self.failed = self.bytes.extend_from_slice(piece).is_err();
+        if self.failed {
+            self.faults = self.faults.saturating_add(1);
+            return Err(Failed);
         }
+        Ok(piece.len())
     }
 }

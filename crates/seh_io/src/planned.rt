@@ -1,7 +1,7 @@
 //! A source and a sink over memory whose calls fail as planned.
 
-ghost use Rattle.std.specs.Prelude.{◌≡◌, ◌+◌, ◌-◌, ◌<◌, ◌≤◌, Some, [], ◌++◌, length, drop, take, min, is_err, IfOk, OnErr, OnOk, IsTrue, IsErr, vec_len};
-ghost use Rattle.seh_io.specs.Streams.{next_count, is_among, Lost, Grew, Rose};
+ghost use Rattle.std.specs.Prelude.{◌≡◌, ◌+◌, ◌-◌, ◌<◌, ◌≤◌, Some, [], ◌++◌, length, drop, take, min, is_err, IfOk, OnErr, OnOk, IsTrue, IsErr, vec_len, true, false};
+ghost use Rattle.seh_io.specs.Streams.{next_count, is_among, Lost, Grew, faults_of, succeeded};
 
 use crate::sink::Sink;
 use crate::source::{Failed, Source};
@@ -17,6 +17,8 @@ pub struct Plan {
     pub calls: u64,
     /// How many of them were faults.
     pub faults: u64,
+    /// Whether the last one was a fault.
+    pub failed: bool,
     ghost some: { 0 < most },
 }
 
@@ -28,12 +30,14 @@ impl Plan {
         ensures most { result.most ≡ most }
         ensures calls { result.calls ≡ 0 }
         ensures faults { result.faults ≡ 0 }
+        ensures failed { result.failed ≡ false }
     {
         Plan {
             failing,
             most,
             calls: 0,
             faults: 0,
+            failed: false,
         }
     }
 
@@ -41,28 +45,34 @@ impl Plan {
     fn call(&mut self) -> Result<(), Failed>
         ensures fails { is_err result
             ≡ is_among self.old.failing.items (next_count self.old.calls) }
-        ensures counted { OnOk result
-            (self.new ≡ record self.old { calls = next_count self.old.calls }) }
+        ensures counted { OnOk result (self.new ≡ record self.old {
+          calls = next_count self.old.calls;
+          failed = false;
+        }) }
         ensures fault { OnErr result (self.new ≡ record self.old {
           calls = next_count self.old.calls;
           faults = next_count self.old.faults;
+          failed = true;
         }) }
-        ensures faults { self.old.faults ≤ self.new.faults }
     {
         self.calls = self.calls.saturating_add(1);
-        if self.failing.contains(&self.calls) {
+        self.failed = self.failing.contains(&self.calls);
+        if self.failed {
             self.faults = self.faults.saturating_add(1);
             return Err(Failed);
         }
         Ok(())
     }
 
-    /// Counts a fault that was not planned.
+    /// The last call is a fault that was not planned.
     fn fault(&mut self)
-        ensures counted { self.new ≡ record self.old { faults = next_count self.old.faults } }
-        ensures faults { self.old.faults ≤ self.new.faults }
+        ensures { self.new ≡ record self.old {
+          faults = next_count self.old.faults;
+          failed = true;
+        } }
     {
         self.faults = self.faults.saturating_add(1);
+        self.failed = true;
     }
 }
 
@@ -96,7 +106,7 @@ impl MemSource {
 impl Source for MemSource {
     ghost left = { λ s. Some (drop s.given s.bytes.items) };
 
-    ghost faults = { λ s. s.plan.faults };
+    ghost faults = { λ s. faults_of s.plan.faults s.plan.failed };
 
     /// A call that isn't to fail gives as many bytes as are left, as `buf` has room for and as the
     /// plan allows.
@@ -112,13 +122,15 @@ impl Source for MemSource {
             → drop self.old.given self.old.bytes.items ≡ [] }
         ensures kept { OnErr result
             (drop self.new.given self.new.bytes.items ≡ drop self.old.given self.old.bytes.items) }
-        ensures counted { OnOk result
-            (self.new.plan ≡ record self.old.plan { calls = next_count self.old.plan.calls }) }
+        ensures counted { OnOk result (self.new.plan ≡ record self.old.plan {
+          calls = next_count self.old.plan.calls;
+          failed = false;
+        }) }
         ensures fault { OnErr result (self.new.plan ≡ record self.old.plan {
           calls = next_count self.old.plan.calls;
           faults = next_count self.old.plan.faults;
+          failed = true;
         }) }
-        ensures faults { self.old.plan.faults ≤ self.new.plan.faults }
     {
         self.plan.call()?;
         let rest = self.bytes.len() - self.given;
@@ -152,7 +164,7 @@ impl MemSink {
 impl Sink for MemSink {
     ghost taken = { λ s. Some s.bytes.items };
 
-    ghost faults = { λ s. s.plan.faults };
+    ghost faults = { λ s. faults_of s.plan.faults s.plan.failed };
 
     /// A call that isn't to fail takes as many bytes as `piece` has and as the plan allows.
     fn write(&mut self, piece: &[u8]) -> Result<usize, Failed>
@@ -162,13 +174,15 @@ impl Sink for MemSink {
         ensures moved { IfOk result
             (λ n. self.new.bytes.items ≡ self.old.bytes.items ++ take n piece.now) }
         ensures kept { OnErr result (self.new.bytes.items ≡ self.old.bytes.items) }
-        ensures counted { OnOk result
-            (self.new.plan ≡ record self.old.plan { calls = next_count self.old.plan.calls }) }
+        ensures counted { OnOk result (self.new.plan ≡ record self.old.plan {
+          calls = next_count self.old.plan.calls;
+          failed = false;
+        }) }
         ensures fault { OnErr result (self.new.plan ≡ record self.old.plan {
           calls = next_count self.old.plan.calls;
           faults = next_count self.old.plan.faults;
+          failed = true;
         }) }
-        ensures faults { self.old.plan.faults ≤ self.new.plan.faults }
     {
         self.plan.call()?;
         let count = piece.len().min(self.plan.most);

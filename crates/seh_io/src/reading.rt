@@ -3,6 +3,7 @@
 ghost use Rattle.std.specs.Prelude.{◌≡◌, ◌+◌, ◌≤◌, Some, [], IfOk, OnOk, OnErr, IfErr, vec_len};
 ghost use Rattle.std.specs.Option.{ForSome};
 ghost use Rattle.seh_io.specs.Reading.{ReadHasCause, LostAtMost};
+ghost use Rattle.seh_io.specs.Streams.{Faultless};
 
 use crate::source::Source;
 use std::alloc::Global;
@@ -26,7 +27,8 @@ const CHUNK: usize = 4096;
 /// Where it is known what the source holds, `Ok` gives exactly that, and then nothing is left.
 /// Where it isn't, `Ok` says only that the source ended within the limit. Without `Fault` or want
 /// of memory, `TooLong` comes exactly where more than `limit` bytes are held. After a refusal the
-/// source has lost at most `limit + 1` bytes, from the front.
+/// source has lost at most `limit + 1` bytes, from the front. A read that fails is the last one,
+/// and the answer is `Fault`.
 pub fn read_all<S: Source>(alloc: Global, src: &mut S, limit: u64) -> Result<Vec<u8>, ReadErr>
     ensures all { IfOk result (λ v. ForSome (S.left src.old) (λ all. v.items ≡ all)) }
     ensures emptied { OnOk result (ForSome (S.left src.old) (λ _. S.left src.new ≡ Some [])) }
@@ -34,7 +36,7 @@ pub fn read_all<S: Source>(alloc: Global, src: &mut S, limit: u64) -> Result<Vec
     ensures cause { IfErr result (ReadHasCause limit (S.left src.old) (S.left src.new)
         (S.faults src.old) (S.faults src.new)) }
     ensures lost { OnErr result (LostAtMost (limit + 1) (S.left src.old) (S.left src.new)) }
-    ensures faults { S.faults src.old ≤ S.faults src.new }
+    ensures faultless { OnOk result (Faultless (S.faults src.old) (S.faults src.new)) }
 {
     let mut bytes = Vec::new(alloc);
     let mut chunk = [0; CHUNK];

@@ -2,7 +2,7 @@
 
 ghost use Rattle.std.specs.Prelude.{◌≡◌, ℕ, ◌≤◌, List, [], ◌∷◌, ◌++◌, true, false, OnOk, OnErr, IfErr, MatchResult};
 ghost use Rattle.seh_num.specs.declared.event.Event.{Event as Event'};
-ghost use Rattle.seh_io.specs.Streams.{Rose, Grew};
+ghost use Rattle.seh_io.specs.Streams.{Faultless, Faulted, Grew};
 ghost use Rattle.seh_io.specs.Text.{line, at_line, end_line, lines, text};
 ghost use Rattle.seh_io.specs.Writer.{PutText, TookPart, TookEvents, Kept};
 ghost use Rattle.seh_io.specs.Successive.{took_none, took_more, kept_none, kept_more};
@@ -181,8 +181,8 @@ pub fn put_text<O: Sink, N: Names>(
         (text events.now end.now trace (N.named names.now)) (O.taken sink.new)) }
     ensures part { IfErr result (λ e. TookPart (O.taken sink.old)
         (text events.now end.now trace (N.named names.now)) (O.taken sink.new) e.taken) }
-    ensures cause { OnErr result (Rose (O.faults sink.old) (O.faults sink.new)) }
-    ensures faults { O.faults sink.old ≤ O.faults sink.new }
+    ensures faultless { OnOk result (Faultless (O.faults sink.old) (O.faults sink.new)) }
+    ensures cause { OnErr result (Faulted (O.faults sink.old) (O.faults sink.new)) }
 {
     let mut lines = Lines::new(sink, trace, names);
     replay(&mut lines, events);

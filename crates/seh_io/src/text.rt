@@ -1,7 +1,7 @@
 //! The lines of a run's text.
 
 ghost use Rattle.std.specs.Prelude.{◌≡◌, ◌+◌, ◌<◌, ◌≤◌, ◌++◌, length, take, Some, OnOk, OnErr, IfErr};
-ghost use Rattle.seh_io.specs.Streams.{Rose, Grew};
+ghost use Rattle.seh_io.specs.Streams.{Faultless, Faulted, Grew};
 ghost use Rattle.seh_io.specs.Lengths.{longest_access, longest_reason};
 ghost use Rattle.seh_io.specs.declared.line.TheConstants.{LONGEST_LINE, CODE_DIGITS, ADDRESS_DIGITS};
 ghost use Rattle.seh_io.specs.Names.{no_names};
@@ -169,8 +169,8 @@ fn put_at<O: Sink>(sink: &mut O, name: &[u8]) -> Result<(), WriteFault>
     ensures part { IfErr result (λ e. Grew (O.taken sink.old)
         (take e.taken (at_line (Some name.now))) (O.taken sink.new)) }
     ensures short { IfErr result (λ e. e.taken < length (at_line (Some name.now))) }
-    ensures cause { OnErr result (Rose (O.faults sink.old) (O.faults sink.new)) }
-    ensures faults { O.faults sink.old ≤ O.faults sink.new }
+    ensures faultless { OnOk result (Faultless (O.faults sink.old) (O.faults sink.new)) }
+    ensures cause { OnErr result (Faulted (O.faults sink.old) (O.faults sink.new)) }
 {
     let front = b"at ";
     put_all(sink, front)?;
@@ -192,8 +192,8 @@ pub fn put_event<O: Sink, N: Names>(
         (take e.taken (line trace event.now (N.named names.now))) (O.taken sink.new)) }
     ensures short { IfErr result
         (λ e. e.taken < length (line trace event.now (N.named names.now))) }
-    ensures cause { OnErr result (Rose (O.faults sink.old) (O.faults sink.new)) }
-    ensures faults { O.faults sink.old ≤ O.faults sink.new }
+    ensures faultless { OnOk result (Faultless (O.faults sink.old) (O.faults sink.new)) }
+    ensures cause { OnErr result (Faulted (O.faults sink.old) (O.faults sink.new)) }
 {
     let Event::At(number) = *event else {
         return put_all(sink, event_line(trace, event).as_bytes());
@@ -210,8 +210,8 @@ pub fn put_end<O: Sink>(sink: &mut O, end: &RunEnd) -> Result<(), WriteFault>
     ensures part { IfErr result
         (λ e. Grew (O.taken sink.old) (take e.taken (end_line end.now)) (O.taken sink.new)) }
     ensures short { IfErr result (λ e. e.taken < length (end_line end.now)) }
-    ensures cause { OnErr result (Rose (O.faults sink.old) (O.faults sink.new)) }
-    ensures faults { O.faults sink.old ≤ O.faults sink.new }
+    ensures faultless { OnOk result (Faultless (O.faults sink.old) (O.faults sink.new)) }
+    ensures cause { OnErr result (Faulted (O.faults sink.old) (O.faults sink.new)) }
 {
     put_all(sink, end_line(end).as_bytes())
 }

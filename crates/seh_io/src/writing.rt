@@ -1,7 +1,7 @@
 //! Whole pieces to a sink.
 
 ghost use Rattle.std.specs.Prelude.{◌≡◌, ◌+◌, ◌-◌, ◌^◌, ◌<◌, ◌≤◌, length, take, OnOk, OnErr, IfErr};
-ghost use Rattle.seh_io.specs.Streams.{Rose, Grew};
+ghost use Rattle.seh_io.specs.Streams.{Faultless, Faulted, Grew};
 
 use crate::sink::Sink;
 
@@ -14,26 +14,23 @@ pub struct WriteFault {
 
 /// Writes the whole piece, in as many writes as the sink needs.
 ///
-/// After a fault the sink has taken the first `taken` bytes of the piece, and not all of them.
+/// After a fault the sink has taken the first `taken` bytes of the piece, and not all of them. The
+/// write that failed is the last one.
 pub fn put_all<O: Sink>(sink: &mut O, piece: &[u8]) -> Result<(), WriteFault>
     ensures ok { OnOk result (Grew (O.taken sink.old) piece.now (O.taken sink.new)) }
     ensures part { IfErr result
         (λ e. Grew (O.taken sink.old) (take e.taken piece.now) (O.taken sink.new)) }
     ensures short { IfErr result (λ e. e.taken < length piece.now) }
-    ensures cause { OnErr result (Rose (O.faults sink.old) (O.faults sink.new)) }
-    ensures faults { O.faults sink.old ≤ O.faults sink.new }
+    ensures faultless { OnOk result (Faultless (O.faults sink.old) (O.faults sink.new)) }
+    ensures cause { OnErr result (Faulted (O.faults sink.old) (O.faults sink.new)) }
 {
     let mut taken = 0;
     while taken < piece.len() {
-        let fault = WriteFault {
-            taken: taken as u64,
-        };
         let Ok(count) = sink.write(&piece[taken..]) else {
-            return Err(fault);
+            return Err(WriteFault {
+                taken: taken as u64,
+            });
         };
-        if count == 0 {
-            return Err(fault);
-        }
         taken += count;
     }
     Ok(())
@@ -48,8 +45,8 @@ pub fn put_after<O: Sink>(sink: &mut O, before: usize, piece: &[u8]) -> Result<(
         (λ e. Grew (O.taken sink.old) (take (e.taken - before) piece.now) (O.taken sink.new)) }
     ensures after { IfErr result (λ e. before ≤ e.taken) }
     ensures short { IfErr result (λ e. e.taken < before + length piece.now) }
-    ensures cause { OnErr result (Rose (O.faults sink.old) (O.faults sink.new)) }
-    ensures faults { O.faults sink.old ≤ O.faults sink.new }
+    ensures faultless { OnOk result (Faultless (O.faults sink.old) (O.faults sink.new)) }
+    ensures cause { OnErr result (Faulted (O.faults sink.old) (O.faults sink.new)) }
 {
     match put_all(sink, piece) {
         Ok(()) => Ok(()),

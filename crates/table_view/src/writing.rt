@@ -4,7 +4,7 @@ ghost use Rattle.std.specs.Prelude.{◌≡◌, ◌≤◌, ◌<◌, ◌*◌, ◌+
 ghost use Rattle.std.specs.List.{flat_map};
 ghost use Rattle.hex.specs.Hex.{encode_lower};
 ghost use Rattle.pe_image.specs.NameRows.{names_of, rows_read};
-ghost use Rattle.seh_io.specs.Streams.{Rose, Grew};
+ghost use Rattle.seh_io.specs.Streams.{Faultless, Faulted, Grew};
 ghost use Rattle.seh_io.specs.Writer.{PutText, TookPart};
 ghost use Rattle.table_view.specs.View as spec;
 
@@ -190,7 +190,7 @@ fn put_entries<O: Sink>(out: &mut Lines<'_, O>, names: &NameTable<'_>, tables: &
 }
 
 /// The names of an image's functions; none where the table of names is refused.
-fn names<'a>(image: &ImageView<'a>) -> NameTable<'a>
+fn names<'a>(image: &'a ImageView<'_>) -> NameTable<'a>
     ensures { result ≡ rows_read (names_of image.now) }
 {
     match image.names() {
@@ -227,8 +227,8 @@ pub fn view<O: Sink>(image: &ImageView<'_>, sink: &mut O) -> Result<(), WriteFau
     ensures ok { OnOk result (Grew (O.taken sink.old) (spec.view image.now) (O.taken sink.new)) }
     ensures part { IfErr result
         (λ e. TookPart (O.taken sink.old) (spec.view image.now) (O.taken sink.new) e.taken) }
-    ensures cause { OnErr result (Rose (O.faults sink.old) (O.faults sink.new)) }
-    ensures faults { O.faults sink.old ≤ O.faults sink.new }
+    ensures faultless { OnOk result (Faultless (O.faults sink.old) (O.faults sink.new)) }
+    ensures cause { OnErr result (Faulted (O.faults sink.old) (O.faults sink.new)) }
 {
     let mut lines = Lines::new(sink, false, &NoNames);
     put_table(&mut lines, image);

@@ -3,7 +3,7 @@ use Rattle.std.proofs.Common.{ℕ, ◌+◌, ◌-◌, ◌/◌, ◌≤◌, Bool, t
 use Rattle.std.specs.Prelude.{if◌then◌else◌}
 use Rattle.eh_tables.specs.declared.code.UnwindOperation.TheVariants.{Allocate}
 use Rattle.pe_image.specs.Numbers.{u16, u32}
-use Rattle.eh_tables.specs.Written.{codes_bytes, slot, is_small, is_short}
+use Rattle.eh_write.specs.Written.{codes_bytes, slot, is_small, is_short}
 
 abbrev bytes_by : ℕ → ℕ → Bool → Bool → List ℕ
 bytes_by offset size small short =

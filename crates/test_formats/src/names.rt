@@ -90,8 +90,8 @@ fn ranges_ascend(rt: HostRuntime) {
     is_refused(&rt, rt.alloc(), &found, "NameErr { row: 1 }", OVERLAPPING);
 }
 
-fn has_names(rt: &impl Abort, alloc: Global, table: &NameTable<'_>, named: usize) {
-    for row in NAMED.lines().skip(1) {
+fn has_names(rt: &impl Abort, alloc: Global, rows: &str, table: &NameTable<'_>, named: usize) {
+    for row in rows.lines().skip(1) {
         let columns = columns_of(row);
         let of = u32::try_from(number(rt, columns[0])).expect(rt, "a number of 32 bits");
         let name = columns.get(named).expect(rt, "a column of names");
@@ -109,7 +109,7 @@ fn rows_and_names(rt: HostRuntime) {
         let held = table.row(number(&rt, columns[0]));
         shows(&rt, rt.alloc(), &held, columns[1], row);
     }
-    has_names(&rt, rt.alloc(), &table, 1);
+    has_names(&rt, rt.alloc(), NAMED, &table, 1);
 }
 
 #[test]
@@ -117,7 +117,7 @@ fn first_name_of_a_number(rt: HostRuntime) {
     let file = file_of(&rt, rt.alloc(), &[FIRST, SAME_NUMBER, NAMES]);
     let view = ImageView::read(rt.alloc(), &file).expect(&rt, "an image");
     let table = NameTable::read(only_section(&rt, &view)).expect(&rt, "a table");
-    has_names(&rt, rt.alloc(), &table, 2);
+    has_names(&rt, rt.alloc(), NAMED, &table, 2);
     let none = NameTable::empty();
     shows(&rt, rt.alloc(), &none.row(16), "None", "no rows");
     shows(&rt, rt.alloc(), &none.name(1), "None", "no rows");
@@ -126,14 +126,19 @@ fn first_name_of_a_number(rt: HostRuntime) {
 /// Where the header of the only section is, with its name in front.
 const SECTION_HEADER: usize = 200;
 
-/// Addresses, and the name of the row that begins at each of them.
-const BEGUN: &str = r"
-0F | None
-10 | Some([102])
-11 | None
-20 | Some([103])
-28 | None
+/// Numbers, and their names in three rows, the first of which has the number of the last.
+const FIRST_NAMED: &str = r"
+0 | None
+1 | Some([102])
+2 | Some([])
+3 | None
 ";
+
+const THREE_ROWS: &str = "03 00 00 00 10 00 00 00 20 00 00 00 01 00 00 00 34 10 00 00";
+
+const EMPTY_NAME: &str = "20 00 00 00 28 00 00 00 02 00 00 00 35 10 00 00";
+
+const LAST: &str = "28 00 00 00 30 00 00 00 01 00 00 00 36 10 00 00";
 
 #[test]
 fn names_of_an_image(rt: HostRuntime) {
@@ -141,12 +146,17 @@ fn names_of_an_image(rt: HostRuntime) {
     put(&mut file, SECTION_HEADER, b".sehname");
     let view = ImageView::read(rt.alloc(), &file).expect(&rt, "an image");
     let table = view.names().expect(&rt, "a table");
-    has_names(&rt, rt.alloc(), &table, 1);
-    for row in BEGUN.lines().skip(1) {
-        let columns = columns_of(row);
-        let name = table.name_at_begin(number(&rt, columns[0]));
-        shows(&rt, rt.alloc(), &name, columns[1], row);
-    }
+    has_names(&rt, rt.alloc(), NAMED, &table, 1);
+}
+
+#[test]
+fn names_of_an_image_by_first_rows(rt: HostRuntime) {
+    let mut file = file_of(&rt, rt.alloc(), &[THREE_ROWS, EMPTY_NAME, LAST, NAMES]);
+    put(&mut file, SECTION_HEADER, b".sehname");
+    let view = ImageView::read(rt.alloc(), &file).expect(&rt, "an image");
+    let table = view.names().expect(&rt, "a table");
+    has_names(&rt, rt.alloc(), FIRST_NAMED, &table, 1);
+    has_names(&rt, rt.alloc(), FIRST_NAMED, &table.copied(), 1);
 }
 
 #[test]

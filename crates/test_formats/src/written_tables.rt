@@ -1,14 +1,13 @@
 //! Unwind infos and scope tables as they are written, and read again.
 
-ghost use Rattle.eh_tables.specs.Written.{CanBeWritten};
+ghost use Rattle.eh_write.specs.Written.{CanBeWritten};
 
 use crate::checks::are_bytes;
 use crate::entries::reads;
 use crate::rows::number;
 use arrayvec::ArrayVec;
-use eh_tables::{
-    ScopeRecord, Trailer, UnwindCode, UnwindInfo, UnwindOperation, write_scopes, write_unwind,
-};
+use eh_tables::{ScopeRecord, UnwindCode, UnwindOperation};
+use eh_write::{Trailer, UnwindInfo, write_scopes, write_unwind};
 use std::alloc::Global;
 use std::process::Abort;
 use test_tables::rows::columns_of;

@@ -2,14 +2,12 @@
 
 ghost use Rattle.std.specs.Prelude.{◌≡◌, ◌<◌, ◌≤◌, ◌^◌, length, IfOk};
 ghost use Rattle.arrayvec.specs.ArrayVec.{array_vec_len};
-ghost use Rattle.eh_tables.specs.Written.{IsTrailer, CanBeWritten};
+ghost use Rattle.eh_write.specs.Written.{IsTrailer, CanBeWritten};
 ghost use Rattle.pe_write.specs.ImportTables.{tables_size};
 
 use arrayvec::ArrayVec;
-use eh_tables::{
-    RuntimeFunction, ScopeRecord, Trailer, UnwindCode, UnwindInfo, UnwindOperation, write_pdata,
-    write_scopes, write_unwind,
-};
+use eh_tables::{RuntimeFunction, ScopeRecord, UnwindCode, UnwindOperation};
+use eh_write::{Trailer, UnwindInfo, write_pdata, write_scopes, write_unwind};
 use host_layout::imported::{IMPORTED, ImportedService};
 use pe_write::{Image, write};
 use std::alloc::{AllocError, Global};

@@ -29,7 +29,7 @@ pub fn below_frame(info: &Info, context: &Context) -> u64
 }
 
 /// Undoes one code; what is left where it is refused isn't said.
-pub fn undo_one<S: ReadSpace>(
+fn undo_one<S: ReadSpace>(
     space: &S,
     base: u64,
     info: &Info,

@@ -25,6 +25,7 @@ returns-in-Nothing g c =
             (ap (shown_after c.step.new.self es) c.in-Nothing.is ∙ sym (append-nil es)));
       };
       nothing = tt;
+      same = tt;
     }
 
 pub returns-in-One : goal.returns-in-One
@@ -39,6 +40,7 @@ returns-in-One g c =
             (ap (shown_after c.step.new.self es) c.in-One.is));
       };
       nothing = tt;
+      same = tt;
     }
 
 pub returns-in-Walk : goal.returns-in-Walk
@@ -53,4 +55,5 @@ returns-in-Walk g c =
             (ap (shown_after c.step.new.self es) c.in-Walk.is));
       };
       nothing = tt;
+      same = tt;
     }

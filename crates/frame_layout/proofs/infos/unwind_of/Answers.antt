@@ -1,8 +1,8 @@
 use Rattle.std.proofs.Common.{refl, sym, subst, ◌∙◌, arith}
 use Rattle.eh_tables.specs.declared.code.UnwindOperation.TheVariants.{Push}
-use Rattle.eh_tables.specs.Written.{CanBeWritten}
-use Rattle.eh_tables.specs.declared.unwind_info.UnwindInfo.{UnwindInfo}
-use Rattle.eh_tables.specs.declared.unwind_info.Trailer.TheVariants.{Nothing}
+use Rattle.eh_write.specs.Written.{CanBeWritten}
+use Rattle.eh_write.specs.declared.unwind_info.UnwindInfo.{UnwindInfo}
+use Rattle.eh_write.specs.declared.unwind_info.Trailer.TheVariants.{Nothing}
 use Rattle.frame_rules.specs.Plan.{unwind_of}
 use Rattle.frame_rules.specs.Bytes.{spell}
 use Rattle.frame_layout.specs.Plans.{plan_of}

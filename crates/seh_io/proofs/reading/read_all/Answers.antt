@@ -1,5 +1,6 @@
-use Rattle.std.proofs.Common.{◌≡◌, ◌+◌, ℕ, ◌++◌, length, take, length-append, arith, refl}
+use Rattle.std.proofs.Common.{◌≡◌, ◌+◌, ℕ, ◌++◌, length, take, length-append, ap, ◌∙◌, arith, refl}
 use Rattle.std.proofs.lemmas.List.{length-take}
+use Rattle.seh_io.specs.Streams.{Faults}
 use Rattle.seh_io.proofs.Moves.{lost_more, held_more}
 use Rattle.seh_io.proofs.reading.read_all.Goals as goal
 
@@ -20,6 +21,8 @@ returns-then-count-room-clause-cause g c =
       held_more (g.S.Source.left c.args.src.now) (g.S.Source.left c.read.new.self)
           (c.loop-count.bytes.items ++ front) c.args.limit lost (omega arith),
       (c.loop-count.bytes.items ++ front, len, lost),
+      ap (λ (f : Faults). f.count) c.in-Ok.ensures.faultless
+          ∙ c.loop-count.invariant.faultless,
     )
 
 pub returns-then-count-room-clause-lost : goal.returns-then-count-room-clause-lost

@@ -12,13 +12,13 @@ pub name-requires : goal.name-requires
 name-requires c =
     let known = table_known c.self.inside.section c.self.inside.count c.args.self.now
     c.self.invariant c.self.view_is in
-    (known.row c.loop-index.index c.loop-index-test.true).stored
+    omega (arith, known.count, c.loop-index-test.true)
 
 pub returns-then-range-number : goal.returns-then-range-number
 returns-then-range-number c =
     let known = table_known c.self.inside.section c.self.inside.count c.args.self.now
     c.self.invariant c.self.view_is in
-    c.name.ensures ∙ (known.row c.loop-index.index c.loop-index-test.true).name
+    c.name.ensures
     ∙ sym (first_named c.args.number c.args.self.now c.loop-index.index c.loop-index.invariant
     (omega (arith, known.count, c.loop-index-test.true))
     (sym c.range.ensures.number ∙ c.if-range-number.true))

@@ -43,6 +43,7 @@ invariant_of-result c =
           c.in_ok-name_ends.ensures.ends,
       λ slot. c.in_ok-names.ensures slot ∙ ap (bound_name slot) (c.new-imports.ensures
           ∙ ap (λ (ss : List Section). or_none (imports_in ss d)) c.deref-2.ensures.value),
+      tt,
     )
 
 pub new-imports-requires-clause-ends : goal.new-imports-requires-clause-ends

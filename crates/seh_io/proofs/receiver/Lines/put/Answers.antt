@@ -9,5 +9,5 @@ pub returns-in-Err-clause-wrote : goal.returns-in-Err-clause-wrote
 returns-in-Err-clause-wrote g c =
     rw c.if-self.false
     (wrote_part _ _ _ _ _ _ _ c.in-Err.fault.taken (omega (arith, c.in-Err.ensures.short))
-    c.in-Err.ensures.part c.in-Err.ensures.cause c.in-Err.ensures.faults
+    c.in-Err.ensures.part c.in-Err.ensures.cause
     c.saturating_add-self-in-Err.ensures)

@@ -1,0 +1,4 @@
+pub mod CodesAgain
+pub mod InfosAgain
+pub mod TablesAgain
+pub mod WholeAgain
