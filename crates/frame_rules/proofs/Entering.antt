@@ -2,9 +2,9 @@
 use Rattle.std.proofs.Common.{◌≡◌, ℕ, ◌+◌, ◌^◌, ◌<◌, ◌≤◌, true, List, [], ◌∷◌, ◌++◌, refl, sym, ap, subst, ◌∙◌, arith, inr}
 use Rattle.std.proofs.lemmas.Bool.{false≢true, and_parts}
 use Rattle.frame_rules.specs.Words.{State, UnwindOperation, Allocate, UnwindCode, operations, FetchedInstr, run_by, is_allowed, are_allowed, bytes, does, sets_size, is_call, subtracts, PrologueStep, items, codes_onto, are_sized, ArePrologueSteps, registers, RunsOne, RunsThrough, IsEntry}
-use Rattle.frame_rules.proofs.Order.{Ordered, allocate}
+use Rattle.frame_rules.proofs.Order.{Ordered, allocate, Follows, AllFollow}
 use Rattle.frame_rules.proofs.Steps.{Running}
-use Rattle.frame_rules.proofs.Prologues.{Good, good_rest, good_done, AtMost, run_done, skips_first, first_positive, cons_head, cons_tail, same_turn, turn_plain, turn_call, does_plain, does_step, Sized, sized, size_plain, sized_running, called_running, subtracts_plain, subtracted_step, IsLarge, large_of}
+use Rattle.frame_rules.proofs.Prologues.{Good, good_rest, good_done, follow_done, AtMost, run_done, skips_first, first_positive, cons_head, cons_tail, same_turn, turn_plain, turn_call, does_plain, does_step, Sized, sized, size_plain, sized_running, called_running, subtracts_plain, subtracted_step, IsLarge, large_of}
 
 module _ (f offset back n : ℕ) (e : State) (entry : IsEntry n e) (small : offset < 2 ^ 16) where
   -- the frame of the codes run at a distance
@@ -13,11 +13,12 @@ module _ (f offset back n : ℕ) (e : State) (entry : IsEntry n e) (small : offs
 
   -- a step of one instruction
   one : (x : FetchedInstr) (op : UnwindOperation) (ops : List UnwindOperation) (s u : State)
-      → does f offset op x.instr ≡ true → Good f n (op ∷ ops) → Running f offset e back ops s
-      → RunsOne s x u (is_call x.instr) → Running f offset e back (op ∷ ops) u
-  one x op ops s u d g run turn = does_step f offset back n _ e s u op ops x.instr entry small
+      → does f offset op x.instr ≡ true → Good f n (op ∷ ops) → Follows f op ops
+      → Running f offset e back ops s → RunsOne s x u (is_call x.instr)
+      → Running f offset e back (op ∷ ops) u
+  one x op ops s u d g fo run turn = does_step f offset back n _ e s u op ops x.instr entry small
       g.deep (and_parts (is_allowed f ops op) (are_allowed f ops) g.allowed).0
-      (and_parts (is_allowed f ops op) (are_allowed f ops) g.allowed).1 g.ordered d run
+      (and_parts (is_allowed f ops op) (are_allowed f ops) g.allowed).1 g.ordered fo d run
       (turn_plain s u x (does_plain f offset op x.instr d) turn)
 
   -- a step of three
@@ -97,34 +98,35 @@ module _ (f offset back n : ℕ) (e : State) (entry : IsEntry n e) (small : offs
       (its xs ys : List FetchedInstr) (s t : State)
       → let st : PrologueStep = record { code = c; items = its } in
       ArePrologueSteps f offset at (st ∷ ss) → AtMost at done → Good f n (operations (c ∷ done))
-      → its ++ items ss ≡ xs ++ ys → Running f offset e back (operations done) s
+      → Follows f c.operation (operations done) → its ++ items ss ≡ xs ++ ys
+      → Running f offset e back (operations done) s
       → RunsThrough s xs t
       → ((xs : List FetchedInstr) (s : State) → items ss ≡ xs ++ ys
       → Running f offset e back (operations (c ∷ done)) s → RunsThrough s xs t
       → At (at + bytes its + bytes xs) (codes_onto (c ∷ done) ss) t)
       → At (at + bytes xs) (codes_onto (c ∷ done) ss) t
-  by_items at done c ss [] xs ys s t h m g same run runs rest = absurd (false≢true h.0.does)
-  by_items at done c ss (x ∷ []) [] ys s t h m g same run runs rest =
+  by_items at done c ss [] xs ys s t h m g fo same run runs rest = absurd (false≢true h.0.does)
+  by_items at done c ss (x ∷ []) [] ys s t h m g fo same run runs rest =
       let pos = first_positive x [] h.0.sized in
       within at (at + 0) done (record { code = c; items = x ∷ [] }) ss t h m (omega arith)
       (omega arith) (subst (λ w. Running f offset e back (operations done) w) runs run)
-  by_items at done c ss (x ∷ []) (x' ∷ xs) ys s t h m g same run runs rest =
+  by_items at done c ss (x ∷ []) (x' ∷ xs) ys s t h m g fo same run runs rest =
       let head : x ≡ x' = cons_head same in
       let sizes = same_size x x' head in
       let u = runs.0 in
-      let after = one x c.operation (operations done) s u h.0.does g run
+      let after = one x c.operation (operations done) s u h.0.does g fo run
       (same_turn s u x x' head runs.1) in
       let d : at + (x.size + 0) + bytes xs ≡ at + (x'.size + bytes xs) = omega arith in
       subst (λ k. At k (codes_onto (c ∷ done) ss) t) d (rest xs u (cons_tail same) after runs.2)
-  by_items at done c ss (x ∷ y ∷ []) xs ys s t h m g same run runs rest = absurd
+  by_items at done c ss (x ∷ y ∷ []) xs ys s t h m g fo same run runs rest = absurd
       (false≢true h.0.does)
-  by_items at done c ss (x ∷ y ∷ z ∷ w ∷ its) xs ys s t h m g same run runs rest = absurd
+  by_items at done c ss (x ∷ y ∷ z ∷ w ∷ its) xs ys s t h m g fo same run runs rest = absurd
       (false≢true h.0.does)
-  by_items at done c ss (x ∷ y ∷ z ∷ []) [] ys s t h m g same run runs rest =
+  by_items at done c ss (x ∷ y ∷ z ∷ []) [] ys s t h m g fo same run runs rest =
       let pos = first_positive x (y ∷ z ∷ []) h.0.sized in
       within at (at + 0) done (record { code = c; items = x ∷ y ∷ z ∷ [] }) ss t h m (omega arith)
       (omega arith) (subst (λ w. Running f offset e back (operations done) w) runs run)
-  by_items at done c ss (x ∷ y ∷ z ∷ []) (x' ∷ []) ys s t h m g same run runs rest =
+  by_items at done c ss (x ∷ y ∷ z ∷ []) (x' ∷ []) ys s t h m g fo same run runs rest =
       let large = large_of c.operation x.instr y.instr z.instr h.0.does in
       let later = later_positive x y z h.0.sized in
       let more = later.0 in
@@ -135,7 +137,7 @@ module _ (f offset back n : ℕ) (e : State) (entry : IsEntry n e) (small : offs
       within at (at + (x'.size + 0)) done (record { code = c; items = x ∷ y ∷ z ∷ [] }) ss t h m
       (omega arith) (omega arith) (subst (λ w. Running f offset e back (operations done) w) runs.2
       first.running)
-  by_items at done c ss (x ∷ y ∷ z ∷ []) (x' ∷ y' ∷ xs) ys s t h m g same run runs rest =
+  by_items at done c ss (x ∷ y ∷ z ∷ []) (x' ∷ y' ∷ xs) ys s t h m g fo same run runs rest =
       let large = large_of c.operation x.instr y.instr z.instr h.0.does in
       let hx : x ≡ x' = cons_head same in
       let hy : y ≡ y' = cons_head (cons_tail same) in
@@ -174,16 +176,17 @@ module _ (f offset back n : ℕ) (e : State) (entry : IsEntry n e) (small : offs
 
   pub entering : (at : ℕ) (done : List UnwindCode) (ss : List PrologueStep)
       (xs ys : List FetchedInstr) (s t : State) → ArePrologueSteps f offset at ss → AtMost at done
-      → Good f n (operations (codes_onto done ss)) → items ss ≡ xs ++ ys
-      → Running f offset e back (operations done) s → RunsThrough s xs t
+      → Good f n (operations (codes_onto done ss)) → AllFollow f (operations (codes_onto done ss))
+      → items ss ≡ xs ++ ys → Running f offset e back (operations done) s → RunsThrough s xs t
       → At (at + bytes xs) (codes_onto done ss) t
-  entering at done [] [] ys s t h m g same run runs =
+  entering at done [] [] ys s t h m g fo same run runs =
       let d : at ≡ at + 0 = omega arith in
       subst (λ k. At k done t) d (subst (λ (cs : List UnwindCode). Running f offset e back
       (operations cs) t) (sym (run_done at done m))
       (subst (λ w. Running f offset e back (operations done) w) runs run))
-  entering at done [] (x ∷ xs) ys s t h m g same run runs = absurd cc
-  entering at done (st ∷ ss) xs ys s t h m g same run runs =
-      by_items at done st.code ss st.items xs ys s t h m (good_done f n (st.code ∷ done) ss g) same
-      run runs (λ xs' s' same' run' runs'. entering (at + bytes st.items) (st.code ∷ done) ss xs'
-      ys s' t h.1 (let end = h.0.ends in omega arith) g same' run' runs')
+  entering at done [] (x ∷ xs) ys s t h m g fo same run runs = absurd cc
+  entering at done (st ∷ ss) xs ys s t h m g fo same run runs =
+      by_items at done st.code ss st.items xs ys s t h m (good_done f n (st.code ∷ done) ss g)
+      (follow_done f (st.code ∷ done) ss fo).0 same run runs
+      (λ xs' s' same' run' runs'. entering (at + bytes st.items) (st.code ∷ done) ss xs' ys s' t
+      h.1 (let end = h.0.ends in omega arith) g fo same' run' runs')

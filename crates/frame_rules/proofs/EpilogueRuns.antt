@@ -10,11 +10,11 @@ use Rattle.frame_rules.specs.Body.{next}
 use Rattle.frame_rules.proofs.Undoing.{stack_depth, others_after}
 use Rattle.frame_rules.proofs.Order.{framed_above, stack_opened, pushes_allowed}
 use Rattle.frame_rules.proofs.Lemmas.{number_small}
-use Rattle.frame_rules.proofs.Steps.{Became, became, set_same, set_other}
+use Rattle.frame_rules.proofs.Steps.{Became, became, set_same, set_other, frame_address}
 use Rattle.frame_rules.proofs.Bodies.{only, pop_role}
 use Rattle.frame_rules.proofs.Tails.{some_same}
 use Rattle.frame_rules.proofs.Prologues.{turn_plain}
-use Rattle.frame_rules.proofs.Leaving.{InLoads, InPops, Known, frame_address, load_at, loads}
+use Rattle.frame_rules.proofs.Leaving.{InLoads, InPops, Known, load_at, loads}
 
 -- ---- an allocation given back
 

@@ -4,7 +4,7 @@ use Rattle.std.proofs.lemmas.Bool.{false≢true, and_parts, lt-ltb, le-ltb, not-
 use Rattle.std.proofs.lemmas.List.{append-nil}
 use Rattle.frame_rules.specs.Words.{Instr, context_of, State, UnwindCode, operations, Other, FetchedInstr, role_of, tail_at, left, has_frame, sets_frame, run_by, past_prologue, by_distance, in_entry, depth, pushes, pushed, Others, HoldsFrame, left_to, pops, is_epilogue, bytes, items, codes_onto, Mode, Body, Leaving, following, is_body, registers, RunsThrough, IsEntry, return_address, HasItems, FramedFunction, ops, IsRight, InPrologue, IsBody, IsLeaving, FindsContext, FramesAreRight}
 use Rattle.frame_rules.proofs.Undoing.{stack_depth}
-use Rattle.frame_rules.proofs.Order.{ordered}
+use Rattle.frame_rules.proofs.Order.{ordered, AllFollow, all_follow}
 use Rattle.frame_rules.proofs.Steps.{Running}
 use Rattle.frame_rules.proofs.Prologues.{Good, AtMost, run_done}
 use Rattle.frame_rules.proofs.Entering.{entering}
@@ -55,9 +55,11 @@ module _ (f : FramedFunction) (e : State) (right : IsRight f) (entry : IsEntry (
         let z : 0 + bytes done ≡ bytes done = omega arith in
         let good' = subst (λ (cs : List UnwindCode). Good fr (depth (ops f)) (operations cs))
         right.codes good in
+        let follow = subst (λ (cs : List UnwindCode). AllFollow fr (operations cs)) right.codes
+        (all_follow fr (ops f) good.ordered right.frame) in
         let at = entering fr off back (depth (ops f)) e entry right.offset 0 [] f.steps done left e
         s
-        right.steps tt good' parts (first_running fr off (depth (ops f)) e entry) runs in
+        right.steps tt good' follow parts (first_running fr off (depth (ops f)) e entry) runs in
         subst (λ d. Running fr off e back (operations (run_by d f.info.codes)) s) z
         (subst (λ (cs : List UnwindCode). Running fr off e back
         (operations (run_by (0 + bytes done) cs)) s) (sym right.codes) at)

@@ -1,15 +1,14 @@
 -- What the loads of saved registers and the instructions of an epilogue do to the frame.
 use Rattle.std.proofs.Common.{◌≡◌, ◌≢◌, ℕ, ◌+◌, ◌%◌, ◌^◌, ◌<◌, ◌≤◌, Bool, true, false, cond, not, ◌&&◌, eqb, leb, List, [], ◌∷◌, length, get_or, set, Option, Some, None, Ok, refl, sym, ap, subst, ◌∙◌, arith, inl, inr, length-set}
 use Rattle.std.proofs.lemmas.Bool.{cases_eq, false≢true, and_parts, or_cases, or_left, or_right, eqb-true, leb-true, ne_eqb, eq-eqb, not-true}
-use Rattle.frame_rules.specs.Words.{W64, Memory, number_at, access, Reg, MemRef, Base, Index, Instr, number, Cpu, ◌>>=◌, State, Answer, granted, with_rip, load, effect, address_of, base_of, index_of, UnwindOperation, Push, Allocate, SetFrame, Save, SaveVector, MachineFrame, is_nonvolatile, is_of, sets_frame, allocation, pushed, is_saved, may_save, are_allowed, are_apart, are_pushes, is_allocated, IsWord, Stack, Framed, Others, HoldsFrame, is_stack, has, saved_at, is_place, if_place, restored_by, registers}
-use Rattle.x64_instr.specs.declared.operand.Base.TheVariants as bases
+use Rattle.frame_rules.specs.Words.{W64, Memory, number_at, access, Reg, MemRef, Instr, number, Cpu, ◌>>=◌, State, Answer, granted, with_rip, load, effect, address_of, UnwindOperation, Push, Allocate, SetFrame, Save, SaveVector, MachineFrame, is_nonvolatile, sets_frame, allocation, pushed, is_saved, may_save, are_allowed, are_apart, are_pushes, is_allocated, IsWord, Stack, Framed, Others, HoldsFrame, has, saved_at, is_place, if_place, restored_by, registers}
 use Rattle.x64_instr.specs.declared.operand.RegisterOrMemory.TheVariants as places
 use Rattle.x64_instr.specs.declared.operand.Operand.TheVariants as operands
 use Rattle.x64_instr.specs.declared.instruction.Instr.TheVariants as instrs
 use Rattle.frame_rules.proofs.Undoing.{stack_depth, saved_register, framed_saved}
 use Rattle.frame_rules.proofs.Order.{Ordered, push, allocate, frame, save, framed_above}
 use Rattle.frame_rules.proofs.Lemmas.{number_small}
-use Rattle.frame_rules.proofs.Steps.{became, set_same, set_other, stack_address, allocation_depth}
+use Rattle.frame_rules.proofs.Steps.{became, set_same, set_other, place_address, allocation_depth}
 
 -- ---- where saved registers are
 
@@ -92,47 +91,6 @@ saved_place f offset m old back base at r n (Save q k ∷ ops) (save o) a s e =
     ]
 saved_place f offset m old back base at r n (SaveVector q k ∷ ops) o a s e = absurd s
 saved_place f offset m old back base at r n (MachineFrame k ∷ ops) o a s e = absurd s
-
--- ---- the address of a place
-
-of_frame : (f : ℕ) (c : Cpu) (b : Base) (x : Option Index) → is_of f b x ≡ true
-    → (f ≢ 0) × (base_of c b + index_of c x ≡ get_or c.registers f 0 + 0)
-of_frame f c (bases.Register r) None e = elim (cases_eq f 0) [
-  | inl z ↦ absurd (false≢true (sym (ap (λ b. cond b false (eqb (number r) f)) (eq-eqb f 0 z)) ∙ e))
-  | inr ne ↦ (
-    ne,
-    ap (λ k. get_or c.registers k 0 + 0)
-        (eqb-true (number r) f (sym (ap (λ b. cond b false (eqb (number r) f)) (ne_eqb f 0 ne))
-        ∙ e)),
-  )
-]
-of_frame f c (bases.Register r) (Some x) e = absurd (false≢true e)
-of_frame f c bases.Nothing x e = absurd (false≢true e)
-of_frame f c bases.Rip x e = absurd (false≢true e)
-
-pub frame_address : (f offset n : ℕ) (c : Cpu) (a : MemRef) → is_of f a.base a.index ≡ true
-    → (offset + a.displacement) % 2 ^ 64 ≡ n →
-    (f ≢ 0 → get_or c.registers f 0 ≡ get_or c.registers 4 0 + offset)
-    → get_or c.registers 4 0 + n < 2 ^ 64 → address_of c a ≡ get_or c.registers 4 0 + n
-frame_address f offset n c a is d framed lt =
-    let b = of_frame f c a.base a.index is in
-    let at = framed b.0 in
-    let sum = b.1 in
-    omega arith
-
-place_address : (f offset n : ℕ) (c : Cpu) (a : MemRef) → is_place f offset n a ≡ true
-    → (f ≢ 0 → get_or c.registers f 0 ≡ get_or c.registers 4 0 + offset)
-    → get_or c.registers 4 0 + n < 2 ^ 64 → address_of c a ≡ get_or c.registers 4 0 + n
-place_address f offset n c a is framed lt = elim
-    (or_cases (is_stack n a) (is_of f a.base a.index && eqb ((offset + a.displacement) % 2 ^ 64) n)
-    is) [
-      | inl s ↦ stack_address c n a s lt
-      | inr r ↦ let p = and_parts (is_of f a.base a.index)
-          (eqb ((offset + a.displacement) % 2 ^ 64) n)
-          r in frame_address f offset n c a p.0
-          (eqb-true ((offset + a.displacement) % 2 ^ 64) n p.1)
-          framed lt
-    ]
 
 -- ---- states
 

@@ -1,5 +1,5 @@
 -- Codes in order.
-use Rattle.std.proofs.Common.{◌≡◌, ℕ, ◌+◌, true, false, List, [], ◌∷◌, refl, sym, ap, subst, ◌∙◌, arith}
+use Rattle.std.proofs.Common.{◌≡◌, ◌≢◌, ℕ, ◌+◌, true, false, List, [], ◌∷◌, refl, sym, ap, subst, ◌∙◌, arith}
 use Rattle.std.proofs.lemmas.Bool.{false≢true, and_parts}
 use Rattle.frame_rules.specs.Words.{Memory, UnwindOperation, Push, Allocate, SetFrame, Save, SaveVector, MachineFrame, sets_frame, allocation, pushes, pushed, is_allowed, are_allowed, are_pushes, is_allocated, is_ordered, IsWord, Stack, Framed}
 
@@ -91,6 +91,44 @@ unframed f offset now at (SetFrame ∷ xs) h = absurd (false≢true (sym h))
 unframed f offset now at (Save r n ∷ xs) h = unframed f offset now at xs h
 unframed f offset now at (SaveVector r n ∷ xs) h = unframed f offset now at xs h
 unframed f offset now at (MachineFrame e ∷ xs) h = unframed f offset now at xs h
+
+-- ---- a save comes after the frame register is set, where there is one
+
+abbrev pub Follows : ℕ → UnwindOperation → List UnwindOperation → Type 0
+Follows f (Save r n) xs = f ≢ 0 → sets_frame xs ≡ true
+Follows f x xs = Unit {0}
+
+abbrev pub AllFollow : ℕ → List UnwindOperation → Type 0
+AllFollow f [] = Unit {0}
+AllFollow f (x ∷ xs) = Follows f x xs × AllFollow f xs
+
+pushes_follow : (f : ℕ) (xs : List UnwindOperation) → are_pushes xs ≡ true → AllFollow f xs
+pushes_follow f [] h = tt
+pushes_follow f (Push r ∷ xs) h = (tt, pushes_follow f xs h)
+pushes_follow f (Allocate n ∷ xs) h = absurd (false≢true h)
+pushes_follow f (SetFrame ∷ xs) h = absurd (false≢true h)
+pushes_follow f (Save r n ∷ xs) h = absurd (false≢true h)
+pushes_follow f (SaveVector r n ∷ xs) h = absurd (false≢true h)
+pushes_follow f (MachineFrame e ∷ xs) h = absurd (false≢true h)
+
+allocated_follow : (f : ℕ) (xs : List UnwindOperation) → is_allocated xs ≡ true → AllFollow f xs
+allocated_follow f [] h = tt
+allocated_follow f (Push r ∷ xs) h = (tt, pushes_follow f xs h)
+allocated_follow f (Allocate n ∷ xs) h = (tt, pushes_follow f xs h)
+allocated_follow f (SetFrame ∷ xs) h = absurd (false≢true h)
+allocated_follow f (Save r n ∷ xs) h = absurd (false≢true h)
+allocated_follow f (SaveVector r n ∷ xs) h = absurd (false≢true h)
+allocated_follow f (MachineFrame e ∷ xs) h = absurd (false≢true h)
+
+pub all_follow : (f : ℕ) (xs : List UnwindOperation) → Ordered xs → (f ≢ 0 → sets_frame xs ≡ true)
+    → AllFollow f xs
+all_follow f [] o s = tt
+all_follow f (Push r ∷ xs) (push p o) s = (tt, pushes_follow f xs p)
+all_follow f (Allocate n ∷ xs) (allocate p o) s = (tt, pushes_follow f xs p)
+all_follow f (SetFrame ∷ xs) (frame t p o) s = (tt, allocated_follow f xs t)
+all_follow f (Save r n ∷ xs) (save o) s = (s, all_follow f xs o s)
+all_follow f (SaveVector r n ∷ xs) o s = elim o [ ]
+all_follow f (MachineFrame e ∷ xs) o s = elim o [ ]
 
 -- ---- past the allocation and the saves there are the pushes
 

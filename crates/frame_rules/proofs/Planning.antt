@@ -1,8 +1,8 @@
 -- The functions of plans are right.
 use Rattle.std.proofs.Common.{◌≡◌, ◌≢◌, ℕ, ◌+◌, ◌^◌, ◌<◌, ◌≤◌, Bool, true, false, not, ◌&&◌, eqb, leb, ltb, List, [], ◌∷◌, refl, ap, ◌∙◌, arith}
-use Rattle.std.proofs.lemmas.Bool.{and_parts, and_from, eq-eqb, ne_eqb, lt-ltb, leb-true}
+use Rattle.std.proofs.lemmas.Bool.{and_parts, and_from, or_left, eq-eqb, ne_eqb, lt-ltb, leb-true}
 use Rattle.std.proofs.lemmas.Grind.{common_steps}
-use Rattle.frame_rules.specs.Words.{Instr, W32, W64, Rax, Rsp, Sub, Relative, number, UnwindOperation, Push, Allocate, SetFrame, Save, SaveVector, MachineFrame, UnwindCode, is_nonvolatile, operations, FetchedInstr, sets_frame, are_apart, allocation, pushed, is_saved, may_save, is_allowed, are_allowed, are_pushes, is_allocated, is_ordered, bytes, does, is_step, allocates, codes_onto, are_sized, IsPrologueStep, ArePrologueSteps, Saved, FramePlan, IsPlan, IsSpelling, saves_then, frame_then, allocation_then, operations_of, stack_place, allocating, instructions_of, spelled_by, all_encodable, turned, step_of, steps_of, prologue, is_encodable, is_signed}
+use Rattle.frame_rules.specs.Words.{Instr, W32, W64, Rax, Rsp, Sub, Relative, number, UnwindOperation, Push, Allocate, SetFrame, Save, SaveVector, MachineFrame, UnwindCode, is_nonvolatile, operations, FetchedInstr, sets_frame, are_apart, allocation, pushed, is_saved, may_save, is_allowed, are_allowed, are_pushes, is_allocated, is_ordered, bytes, does, is_step, allocates, codes_onto, are_sized, IsPrologueStep, ArePrologueSteps, Saved, FramePlan, IsPlan, IsSpelling, saves_then, frame_then, allocation_then, operations_of, stack_place, is_place, allocating, instructions_of, spelled_by, all_encodable, turned, step_of, steps_of, prologue, is_encodable, is_signed}
 use Rattle.x64_instr.specs.declared.instruction.Instr.TheVariants as instrs
 use Rattle.x64_instr.specs.declared.operand.RegisterOrMemory.TheVariants as places
 use Rattle.x64_instr.specs.declared.operand.Operand.TheVariants as operands
@@ -213,8 +213,9 @@ module _ (spell : Instr → FetchedInstr) (sp : IsSpelling spell) where
       (eq-eqb p.distance p.distance refl)
   one_step p (Save r n) h = ap (does p.frame p.distance (Save r n))
       (sp.instr (instrs.Move W64 (places.Memory (stack_place n)) (operands.Register (register r))))
-      ∙ and_from (eqb (number (register r)) r) (true && eqb n n)
-      (eq-eqb (number (register r)) r (nonvolatile_number r h.0)) (eq-eqb n n refl)
+      ∙ and_from (eqb (number (register r)) r) (is_place p.frame p.distance n (stack_place n))
+      (eq-eqb (number (register r)) r (nonvolatile_number r h.0))
+      (or_left (true && eqb n n) _ (eq-eqb n n refl))
   one_step p (SaveVector r n) h = absurd h
   one_step p (MachineFrame n) h = absurd h
 

@@ -1,13 +1,13 @@
 -- The states of a prologue.
 use Rattle.std.proofs.Common.{◌≡◌, ℕ, ◌+◌, ◌-◌, ◌%◌, ◌^◌, ◌<◌, ◌≤◌, true, false, not, ◌&&◌, eqb, leb, ltb, List, [], ◌∷◌, length, get_or, set, Ok, refl, sym, ap, subst, ◌∙◌, arith, inl, length-set}
 use Rattle.std.proofs.lemmas.Bool.{false≢true, and_parts, eqb-true, leb-true, ltb-true, lt-leb, le-leb}
-use Rattle.frame_rules.specs.Words.{W32, W64, Memory, Rax, Rsp, Instr, number, subtracted, State, with_rip, effect, UnwindOperation, Push, Allocate, SetFrame, Save, SaveVector, MachineFrame, UnwindCode, is_nonvolatile, operations, FetchedInstr, run_or, run_by, depth, allocation, may_save, is_allowed, are_allowed, is_saved, are_apart, are_pushes, Stack, Framed, bytes, does, is_stack, sets_size, is_call, subtracts, allocates, is_step, PrologueStep, codes_onto, are_sized, ArePrologueSteps, registers, Called, RunsOne, IsEntry}
+use Rattle.frame_rules.specs.Words.{W32, W64, Memory, Rax, Rsp, Instr, number, subtracted, State, with_rip, effect, UnwindOperation, Push, Allocate, SetFrame, Save, SaveVector, MachineFrame, UnwindCode, is_nonvolatile, operations, FetchedInstr, run_or, run_by, depth, allocation, may_save, is_allowed, are_allowed, is_saved, are_apart, are_pushes, Stack, Framed, bytes, does, is_stack, is_place, sets_size, is_call, subtracts, allocates, is_step, PrologueStep, codes_onto, are_sized, ArePrologueSteps, registers, Called, RunsOne, IsEntry}
 use Rattle.x64_instr.specs.declared.operand.RegisterOrMemory.TheVariants as places
 use Rattle.x64_instr.specs.declared.operand.Operand.TheVariants as operands
 use Rattle.x64_instr.specs.declared.instruction.Operation.TheVariants as computes
 use Rattle.x64_instr.specs.declared.instruction.Instr.TheVariants as instrs
 use Rattle.frame_rules.proofs.Undoing.{stack_depth, saved_register, framed_saved}
-use Rattle.frame_rules.proofs.Order.{Ordered, push, allocate, frame, save, ordered_rest}
+use Rattle.frame_rules.proofs.Order.{Ordered, push, allocate, frame, save, ordered_rest, Follows, AllFollow}
 use Rattle.frame_rules.proofs.Words.{moved_words}
 use Rattle.frame_rules.proofs.Steps.{Running, became, set_same, set_other, fallen, difference, pushed_step, allocated_step, framed_step, saved_step}
 
@@ -175,38 +175,38 @@ does_plain f offset op i e = refl
 pub does_step : (f offset back n a : ℕ) (e s u : State) (op : UnwindOperation)
     (ops : List UnwindOperation) (i : Instr) → IsEntry n e → offset < 2 ^ 16 → depth (op ∷ ops) ≤ n
     → is_allowed f ops op ≡ true → are_allowed f ops ≡ true → Ordered (op ∷ ops)
-    → does f offset op i ≡ true
+    → Follows f op ops → does f offset op i ≡ true
     → Running f offset e back ops s → effect (with_rip s a) i ≡ Ok u
     → Running f offset e back (op ∷ ops) u
 does_step f offset back n a e s u (Push r) ops (instrs.Push q) entry small deep is allowed
-    (push p o) d run ef =
+    (push p o) fo d run ef =
     let same : number q ≡ r = eqb-true (number q) r d in
     subst (λ x. Running f offset e back (Push x ∷ ops) u) same
     (pushed_step f offset back n a e s u ops q entry deep (ap (λ x. may_save x ops) same ∙ is) p
     run ef)
 does_step f offset back n a e s u (Allocate k) ops
     (instrs.Arithmetic computes.Sub W64 (places.Register Rsp) (operands.Immediate v)) entry small
-    deep is allowed (allocate p o) d run ef =
+    deep is allowed (allocate p o) fo d run ef =
     let same : v ≡ k = eqb-true v k d in
     subst (λ x. Running f offset e back (Allocate x ∷ ops) u) same
     (allocated_step f offset back n a v e s u ops entry (omega arith) p run ef)
 does_step f offset back n a e s u SetFrame ops (instrs.LoadAddress W64 to m) entry small deep is
-    allowed (frame t p o) d run ef =
+    allowed (frame t p o) fo d run ef =
     let parts = and_parts (eqb (number to) f) (is_stack offset m) d in
     framed_step f offset back n a e s u ops to m entry small (eqb-true (number to) f parts.0)
     parts.1 (and_parts (not (eqb f 0)) (is_saved f ops) is).1 allowed p run ef
 does_step f offset back n a e s u (Save r k) ops
-    (instrs.Move W64 (places.Memory m) (operands.Register q)) entry small deep is allowed (save o) d
-    run ef =
-    let parts = and_parts (eqb (number q) r) (is_stack k m) d in
+    (instrs.Move W64 (places.Memory m) (operands.Register q)) entry small deep is allowed (save o)
+    fo d run ef =
+    let parts = and_parts (eqb (number q) r) (is_place f offset k m) d in
     let same : number q ≡ r = eqb-true (number q) r parts.0 in
     let may = and_parts (may_save r ops) (leb (k + 8) (allocation ops) && are_apart k ops) is in
     let fits = and_parts (leb (k + 8) (allocation ops)) (are_apart k ops) may.1 in
     subst (λ x. Running f offset e back (Save x k ∷ ops) u) same
-    (saved_step f offset back n a k e s u ops q m entry (omega arith) parts.1
+    (saved_step f offset back n a k e s u ops q m entry (omega arith) parts.1 fo
     (ap (λ x. may_save x ops) same ∙ may.0) (leb-true (k + 8) (allocation ops) fits.0) fits.1 o
     run ef)
-does_step f offset back n a e s u op ops i entry small deep is allowed order d run ef = absurd
+does_step f offset back n a e s u op ops i entry small deep is allowed order fo d run ef = absurd
     (false≢true d)
 
 -- ---- sizes
@@ -261,6 +261,11 @@ pub good_done : (f n : ℕ) (done : List UnwindCode) (ss : List PrologueStep)
 good_done f n done [] g = g
 good_done f n done (s ∷ ss) g = good_rest f n s.code.operation (operations done)
     (good_done f n (s.code ∷ done) ss g)
+
+pub follow_done : (f : ℕ) (done : List UnwindCode) (ss : List PrologueStep)
+    → AllFollow f (operations (codes_onto done ss)) → AllFollow f (operations done)
+follow_done f done [] g = g
+follow_done f done (s ∷ ss) g = (follow_done f (s.code ∷ done) ss g).1
 
 -- ---- the codes that have been run
 

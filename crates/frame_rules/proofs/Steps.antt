@@ -1,7 +1,7 @@
 -- What one instruction of a prologue does to the frame.
-use Rattle.std.proofs.Common.{◌≡◌, ◌≢◌, ℕ, ◌+◌, ◌-◌, ◌%◌, ◌^◌, ◌<◌, ◌≤◌, true, false, not, ◌&&◌, eqb, List, [], ◌∷◌, length, get_or, set, Option, None, Ok, refl, sym, ap, subst, ◌∙◌, arith, length-set, get_or-set_same, get_or-set_other}
-use Rattle.std.proofs.lemmas.Bool.{false≢true, and_parts, or_parts, eqb-true, eqb-false, not-true}
-use Rattle.frame_rules.specs.Words.{W64, Protection, is_writable, Memory, first_refused, may_write, with_number, with_bytes, access, unless_refused, Reg, Rsp, MemRef, Base, Index, number, Cpu, subtracted, ◌>>=◌, State, Answer, granted, register, with_rip, store, effect, address_of, base_of, index_of, UnwindOperation, Push, Allocate, SetFrame, Save, SaveVector, MachineFrame, is_nonvolatile, sets_frame, depth, allocation, may_save, are_allowed, is_saved, are_apart, are_pushes, Stack, Framed, HoldsFrame, is_stack, is_stack_base, registers, IsEntry}
+use Rattle.std.proofs.Common.{◌≡◌, ◌≢◌, ℕ, ◌+◌, ◌-◌, ◌%◌, ◌^◌, ◌<◌, ◌≤◌, true, false, cond, not, ◌&&◌, eqb, List, [], ◌∷◌, length, get_or, set, Option, Some, None, Ok, refl, sym, ap, subst, ◌∙◌, arith, inl, inr, length-set, get_or-set_same, get_or-set_other}
+use Rattle.std.proofs.lemmas.Bool.{cases_eq, false≢true, and_parts, or_parts, or_cases, ne_eqb, eq-eqb, eqb-true, eqb-false, not-true}
+use Rattle.frame_rules.specs.Words.{W64, Protection, is_writable, Memory, first_refused, may_write, with_number, with_bytes, access, unless_refused, Reg, Rsp, MemRef, Base, Index, number, Cpu, subtracted, ◌>>=◌, State, Answer, granted, register, with_rip, store, effect, address_of, base_of, index_of, UnwindOperation, Push, Allocate, SetFrame, Save, SaveVector, MachineFrame, is_nonvolatile, sets_frame, depth, allocation, may_save, are_allowed, is_saved, are_apart, are_pushes, Stack, Framed, HoldsFrame, is_of, is_stack, is_place, is_stack_base, registers, IsEntry}
 use Rattle.x64_instr.specs.declared.operand.Base.TheVariants as bases
 use Rattle.x64_instr.specs.declared.operand.RegisterOrMemory.TheVariants as places
 use Rattle.x64_instr.specs.declared.operand.Operand.TheVariants as operands
@@ -9,7 +9,7 @@ use Rattle.x64_instr.specs.declared.instruction.Operation.TheVariants as compute
 use Rattle.x64_instr.specs.declared.instruction.Instr.TheVariants as instrs
 use Rattle.frame_rules.proofs.Lemmas.{number_small}
 use Rattle.frame_rules.proofs.Undoing.{stack_depth, saved_register}
-use Rattle.frame_rules.proofs.Order.{Ordered, of_pushes, unframed, pushes_unframed, pushes_alone}
+use Rattle.frame_rules.proofs.Order.{Ordered, of_pushes, unframed, framed_above, pushes_unframed, pushes_alone}
 use Rattle.frame_rules.proofs.Words.{all_may, stored_word, left_words, pushes_apart, rebased}
 
 -- ---- registers
@@ -240,6 +240,45 @@ stack_address c n m e lt =
     let d : m.displacement ≡ n = eqb-true m.displacement n parts.1 in
     omega arith
 
+of_frame : (f : ℕ) (c : Cpu) (b : Base) (x : Option Index) → is_of f b x ≡ true
+    → (f ≢ 0) × (base_of c b + index_of c x ≡ get_or c.registers f 0 + 0)
+of_frame f c (bases.Register r) None e = elim (cases_eq f 0) [
+  | inl z ↦ absurd (false≢true (sym (ap (λ b. cond b false (eqb (number r) f)) (eq-eqb f 0 z)) ∙ e))
+  | inr ne ↦ (
+    ne,
+    ap (λ k. get_or c.registers k 0 + 0)
+        (eqb-true (number r) f (sym (ap (λ b. cond b false (eqb (number r) f)) (ne_eqb f 0 ne))
+        ∙ e)),
+  )
+]
+of_frame f c (bases.Register r) (Some x) e = absurd (false≢true e)
+of_frame f c bases.Nothing x e = absurd (false≢true e)
+of_frame f c bases.Rip x e = absurd (false≢true e)
+
+pub frame_address : (f offset n : ℕ) (c : Cpu) (a : MemRef) → is_of f a.base a.index ≡ true
+    → (offset + a.displacement) % 2 ^ 64 ≡ n →
+    (f ≢ 0 → get_or c.registers f 0 ≡ get_or c.registers 4 0 + offset)
+    → get_or c.registers 4 0 + n < 2 ^ 64 → address_of c a ≡ get_or c.registers 4 0 + n
+frame_address f offset n c a is d framed lt =
+    let b = of_frame f c a.base a.index is in
+    let at = framed b.0 in
+    let sum = b.1 in
+    omega arith
+
+pub place_address : (f offset n : ℕ) (c : Cpu) (a : MemRef) → is_place f offset n a ≡ true
+    → (f ≢ 0 → get_or c.registers f 0 ≡ get_or c.registers 4 0 + offset)
+    → get_or c.registers 4 0 + n < 2 ^ 64 → address_of c a ≡ get_or c.registers 4 0 + n
+place_address f offset n c a is framed lt = elim
+    (or_cases (is_stack n a) (is_of f a.base a.index && eqb ((offset + a.displacement) % 2 ^ 64) n)
+    is) [
+      | inl s ↦ stack_address c n a s lt
+      | inr r ↦ let p = and_parts (is_of f a.base a.index)
+          (eqb ((offset + a.displacement) % 2 ^ 64) n)
+          r in frame_address f offset n c a p.0
+          (eqb-true ((offset + a.displacement) % 2 ^ 64) n p.1)
+          framed lt
+    ]
+
 pub framed_step : (f offset back n a : ℕ) (e s u : State) (ops : List UnwindOperation) (to : Reg)
     (m : MemRef) → IsEntry n e → offset < 2 ^ 16 → number to ≡ f → is_stack offset m ≡ true
     → is_saved f ops ≡ true → are_allowed f ops ≡ true → sets_frame ops ≡ false
@@ -312,12 +351,13 @@ save_effect s a v at q m place val may =
     ∙ ap (store (with_rip s a) at W64) val ∙ store_at (with_rip s a) at v may
 
 pub saved_step : (f offset back n a k : ℕ) (e s u : State) (ops : List UnwindOperation) (q : Reg)
-    (m : MemRef) → IsEntry n e → depth ops ≤ n → is_stack k m ≡ true
-    → may_save (number q) ops ≡ true → k + 8 ≤ allocation ops → are_apart k ops ≡ true → Ordered ops
+    (m : MemRef) → IsEntry n e → depth ops ≤ n → is_place f offset k m ≡ true
+    → (f ≢ 0 → sets_frame ops ≡ true) → may_save (number q) ops ≡ true
+    → k + 8 ≤ allocation ops → are_apart k ops ≡ true → Ordered ops
     → Running f offset e back ops s → effect (with_rip s a)
     (instrs.Move W64 (places.Memory m) (operands.Register q)) ≡ Ok u
     → Running f offset e back (Save (number q) k ∷ ops) u
-saved_step f offset back n a k e s u ops q m entry deep place ms le apart order run ef =
+saved_step f offset back n a k e s u ops q m entry deep place after_frame ms le apart order run ef =
     let r = number q in
     let old = registers e in
     let base = registers s 4 in
@@ -327,7 +367,8 @@ saved_step f offset back n a k e s u ops q m entry deep place ms le apart order 
     let shallow = allocation_depth ops in
     let c : Cpu = record { registers = s.cpu.registers; rip = a; flags = s.cpu.flags } in
     let lt : registers s 4 + k < 2 ^ 64 = omega arith in
-    let at = stack_address c k m place lt in
+    let at = place_address f offset k c m place (λ ne. framed_above f offset (registers s) base ops
+    order (after_frame ne) run.holds.framed) lt in
     let once = and_parts (is_nonvolatile r) (not (eqb r 4) && not (is_saved r ops)) ms in
     let parts = and_parts (not (eqb r 4)) (not (is_saved r ops)) once.1 in
     let val = run.holds.others r once.0 (eqb-false r 4 (not-true (eqb r 4) parts.0))

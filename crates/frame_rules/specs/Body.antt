@@ -1,5 +1,5 @@
 -- What the instructions past the prologue are to be: one after another they lead from mode to mode.
-use Rattle.std.specs.Prelude.{ℕ, ◌+◌, ◌%◌, ◌^◌, Bool, true, false, not, ◌==◌, ◌&&◌, ◌||◌, if◌then◌else◌, List, [], ◌∷◌, Option, Some, None}
+use Rattle.std.specs.Prelude.{ℕ, Bool, true, false, not, ◌==◌, ◌&&◌, ◌||◌, if◌then◌else◌, List, [], ◌∷◌, Option, Some, None}
 use Rattle.seh_num.specs.declared.width.Width.TheVariants.{W64}
 use Rattle.x64_instr.specs.declared.operand.RegisterOrMemory.TheVariants as places
 use Rattle.x64_instr.specs.declared.operand.MemRef.{MemRef}
@@ -13,10 +13,10 @@ use Rattle.eh_tables.specs.declared.code.UnwindOperation.TheVariants.{Save}
 use Rattle.virtual_unwind.specs.Contexts.{is_nonvolatile}
 use Rattle.virtual_unwind.specs.declared.tail.Role.{Role}
 use Rattle.virtual_unwind.specs.declared.tail.Role.TheVariants.{Opens, Ends, Other}
-use Rattle.virtual_unwind.specs.Tail.{FetchedInstr, is_of, role_of}
+use Rattle.virtual_unwind.specs.Tail.{FetchedInstr, role_of}
 use Rattle.frame_rules.specs.Codes.{allocation, pushes, is_saved}
 use Rattle.frame_rules.specs.Epilogue.{is_pop, gives_back}
-use Rattle.frame_rules.specs.Prologue.{is_stack}
+pub use Rattle.frame_rules.specs.Prologue.{is_place}
 
 -- ---- calls, and what may be written
 
@@ -47,11 +47,6 @@ saved_by r others x = others
 abbrev pub saved_at : ℕ → List UnwindOperation → Option ℕ
 saved_at r [] = None
 saved_at r (x ∷ xs) = saved_by r (saved_at r xs) x
-
--- the place n bytes above the base, by RSP or by the frame register
-abbrev pub is_place : ℕ → ℕ → ℕ → MemRef → Bool
-is_place f offset n a =
-    is_stack n a || (is_of f a.base a.index && ((offset + a.displacement) % 2 ^ 64 == n))
 
 abbrev pub if_place : ℕ → ℕ → MemRef → ℕ → Option ℕ → Option ℕ
 if_place f offset a r None = None

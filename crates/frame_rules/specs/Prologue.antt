@@ -1,6 +1,6 @@
 -- A prologue as a list of steps, each of them an unwind code with the instructions that it
 -- describes (Microsoft x64 ABI, "Prolog").
-use Rattle.std.specs.Prelude.{◌≡◌, ℕ, ◌+◌, ◌^◌, Bool, true, false, ◌==◌, ◌&&◌, nat_lt, List, [], ◌∷◌, ◌++◌, Option, None}
+use Rattle.std.specs.Prelude.{◌≡◌, ℕ, ◌+◌, ◌%◌, ◌^◌, Bool, true, false, ◌==◌, ◌&&◌, ◌||◌, nat_lt, List, [], ◌∷◌, ◌++◌, Option, None}
 use Rattle.seh_num.specs.declared.width.Width.TheVariants.{W32, W64}
 use Rattle.x64_instr.specs.declared.register.Reg.TheVariants.{Rax, Rsp}
 use Rattle.x64_instr.specs.declared.operand.Base.{Base}
@@ -17,7 +17,7 @@ use Rattle.x64_instr.specs.Registers.{number}
 use Rattle.eh_tables.specs.declared.code.UnwindOperation.{UnwindOperation}
 use Rattle.eh_tables.specs.declared.code.UnwindOperation.TheVariants.{Push, Allocate, SetFrame, Save}
 use Rattle.eh_tables.specs.declared.code.UnwindCode.{UnwindCode}
-use Rattle.virtual_unwind.specs.Tail.{FetchedInstr}
+use Rattle.virtual_unwind.specs.Tail.{FetchedInstr, is_of}
 
 -- how many bytes instructions have
 abbrev pub bytes : List FetchedInstr → ℕ
@@ -34,13 +34,21 @@ is_stack_base b i = false
 abbrev pub is_stack : ℕ → MemRef → Bool
 is_stack n a = is_stack_base a.base a.index && (a.displacement == n)
 
+-- the place n bytes above the base of the frame, by RSP or by the frame register, which is `offset`
+-- bytes above it
+abbrev pub is_place : ℕ → ℕ → ℕ → MemRef → Bool
+is_place f offset n a =
+    is_stack n a || (is_of f a.base a.index && ((offset + a.displacement) % 2 ^ 64 == n))
+
+-- a save comes after the instruction that sets the frame register (`is_ordered`), so that this
+-- tells its place too
 abbrev pub does : ℕ → ℕ → UnwindOperation → Instr → Bool
 does f offset (Push r) (instrs.Push q) = number q == r
 does f offset (Allocate n) (instrs.Arithmetic Sub W64 (places.Register Rsp) (operands.Immediate v))
     = v == n
 does f offset SetFrame (instrs.LoadAddress W64 to a) = (number to == f) && is_stack offset a
 does f offset (Save r n) (instrs.Move W64 (places.Memory a) (operands.Register q)) =
-    (number q == r) && is_stack n a
+    (number q == r) && is_place f offset n a
 does f offset op x = false
 
 -- a large allocation: its size to EAX or RAX, a call that probes the pages, and RAX subtracted from

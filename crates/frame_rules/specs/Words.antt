@@ -35,12 +35,12 @@ unfoldable pub use Rattle.virtual_unwind.specs.Tail.{fetched_at, tail_at, tail}
 pub use Rattle.virtual_unwind.specs.Undone.{popped, operations, word, Undo, undone, returned, readable, below_frame, going, undone_one, all_undone, returned_or}
 pub use Rattle.virtual_unwind.specs.declared.tail.Role.{Role}
 pub use Rattle.virtual_unwind.specs.declared.tail.Role.TheVariants.{Opens, Restores, Ends, Other}
-pub use Rattle.frame_rules.specs.Body.{written, has, may_write_all, restored_by, with_restored, Mode, Body, Leaving, only_if, is_ends, leaving, from_body, and_then, following, is_body, saved_at, is_place, if_place, are_restored, is_a_call, written_place}
+pub use Rattle.frame_rules.specs.Body.{written, has, may_write_all, restored_by, with_restored, Mode, Body, Leaving, only_if, is_ends, leaving, from_body, and_then, following, is_body, saved_at, if_place, are_restored, is_a_call, written_place}
 pub use Rattle.frame_rules.specs.Codes.{is_saved, is_allowed, are_allowed, depth, allocation, pushes, pushed, may_save, is_ordered, are_apart, are_pushes, is_allocated, saves}
 pub use Rattle.frame_rules.specs.Epilogue.{is_pop, gives_back, is_end, pops, is_epilogue}
 pub use Rattle.frame_rules.specs.Frame.{Stack, Framed, HoldsFrame, IsWord, left_to, Others}
 pub use Rattle.frame_rules.specs.Laws.{EntriesAreFound, LeavesAreFound, PlansAreRight, PopsRestore, EpilogueRestores, FramesAreRight, context_found, FragmentsUnwindAsParents, BodyBegins, BodyContinues, ReturnedToCaller, EpiloguesReturn, LeavesReturn, ProloguesRun, FrameHasItsSize, UndoingRestores, RulesAreRight, WritesNoOther}
 pub use Rattle.frame_rules.specs.Plan.{Saved, FramePlan, IsPlan, saves_then, spelled_by, all_encodable, operations_of, instructions_of, turned, steps_of, prologue, loads_then, opening_then, opening_by, pops_then, epilogue, with_epilogues, frame_size, IsSpelling, frame_then, allocation_then, stack_place, load_of, is_inner, are_inner, all_inner, allocating, step_of}
-pub use Rattle.frame_rules.specs.Prologue.{bytes, items, does, sets_size, is_call, subtracts, PrologueStep, codes_onto, are_sized, ArePrologueSteps, is_stack, is_step, allocates, IsPrologueStep, is_single, are_single, is_stack_base}
+pub use Rattle.frame_rules.specs.Prologue.{bytes, items, does, sets_size, is_call, subtracts, PrologueStep, codes_onto, are_sized, ArePrologueSteps, is_stack, is_place, is_step, allocates, IsPrologueStep, is_single, are_single, is_stack_base}
 pub use Rattle.frame_rules.specs.Rules.{ops, FindsContext, IsFound, FramedFunction, IsRight, InPrologue, IsBody, IsLeaving}
 pub use Rattle.frame_rules.specs.States.{registers, is_other, writes, is_written, InBody, IsEntry, HasItems, return_address, RunsOne, RunsThrough, is_some, is_leaving, leaves, all_leave, KeepsWord, KeepsWords, Called}

@@ -107,6 +107,30 @@ leaves_by_rbp = 0x48 ∷ 0x8D ∷ 0xA5 ∷ 0x80 ∷ 0x00 ∷ 0x00 ∷ 0x00 ∷ 0
 abbrev pub leaves_too_low : List ℕ
 leaves_too_low = 0x48 ∷ 0x8D ∷ 0xA5 ∷ 0x78 ∷ 0x00 ∷ 0x00 ∷ 0x00 ∷ 0x5D ∷ 0xC3 ∷ []
 
+-- ---- push rbp, sub rsp,64, lea rbp,[rsp+32], mov [rbp+8],r12: r12 is saved 40 above the base
+
+abbrev pub framed_saving : Info
+framed_saving =
+    info 14 5 32 (record { offset = 14; operation = Save 12 40 }
+    ∷ record { offset = 10; operation = SetFrame } ∷ record { offset = 5; operation = Allocate 64 }
+    ∷ record { offset = 1; operation = Push 5 } ∷ [])
+
+abbrev pub save_by_rbp : List ℕ
+save_by_rbp =
+    0x55 ∷ 0x48 ∷ 0x83 ∷ 0xEC ∷ 0x40 ∷ 0x48 ∷ 0x8D ∷ 0x6C ∷ 0x24 ∷ 0x20 ∷ 0x4C ∷ 0x89 ∷ 0x65 ∷ 0x08
+    ∷ []
+
+-- mov [rbp+40],r12: 72 above the base
+abbrev pub save_too_high : List ℕ
+save_too_high =
+    0x55 ∷ 0x48 ∷ 0x83 ∷ 0xEC ∷ 0x40 ∷ 0x48 ∷ 0x8D ∷ 0x6C ∷ 0x24 ∷ 0x20 ∷ 0x4C ∷ 0x89 ∷ 0x65 ∷ 0x28
+    ∷ []
+
+-- mov r12,[rbp+8]; lea rsp,[rbp+32]; pop rbp; ret
+abbrev pub loads_by_rbp : List ℕ
+loads_by_rbp =
+    0x4C ∷ 0x8B ∷ 0x65 ∷ 0x08 ∷ 0x48 ∷ 0x8D ∷ 0x65 ∷ 0x20 ∷ 0x5D ∷ 0xC3 ∷ []
+
 -- ---- mov eax,0x1238; call; sub rsp,rax
 
 abbrev pub probing : Info
@@ -137,11 +161,13 @@ pushes_rcx = 0x51 ∷ 0xC3 ∷ []
 abbrev pub Keep : Type 0
 Keep =
     (keeps pushing push_rbx clears_eax ≡ true) × (keeps saving save_r12 loads_r12 ≡ true)
-    × (keeps framing set_rbp leaves_by_rbp ≡ true) × (keeps probing probe gives_back_much ≡ true)
+    × (keeps framing set_rbp leaves_by_rbp ≡ true)
+    × (keeps framed_saving save_by_rbp loads_by_rbp ≡ true)
+    × (keeps probing probe gives_back_much ≡ true)
     × (is_leaf thunk ≡ true) × (is_leaf reads ≡ true)
 
 abbrev pub Break : Type 0
 Break =
     (keeps pushing push_rbx clears_esi ≡ false) × (keeps pushing push_rbx forgets_rbx ≡ false)
     × (keeps saving save_r12 forgets_r12 ≡ false) × (keeps framing set_rbp leaves_too_low ≡ false)
-    × (is_leaf pushes_rcx ≡ false)
+    × (keeps framed_saving save_too_high loads_by_rbp ≡ false) × (is_leaf pushes_rcx ≡ false)

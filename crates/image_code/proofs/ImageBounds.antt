@@ -1,5 +1,5 @@
--- Where the sections and the slots of an image end that was read and has a place.
-use Rattle.std.proofs.Common.{◌≡◌, ℕ, ◌+◌, ◌-◌, ◌%◌, ◌^◌, ◌≤◌, Bool, true, false, ◌&&◌, ◌||◌, ◌==◌, ltb, leb, List, [], ◌∷◌, length, map, Result, Ok, Err, refl, sym, ap, subst, arith, length-drop}
+-- Where the sections and the slots of an image end that was read at a low base.
+use Rattle.std.proofs.Common.{◌≡◌, ℕ, ◌+◌, ◌-◌, ◌%◌, ◌^◌, ◌<◌, ◌≤◌, Bool, true, false, ◌&&◌, ◌||◌, ◌==◌, ltb, leb, List, [], ◌∷◌, length, map, Result, Ok, Err, refl, sym, ap, subst, arith, length-drop}
 use Rattle.std.specs.List.{AllByRecursion}
 use Rattle.std.proofs.lemmas.Bool.{and_parts, leb-true}
 use Rattle.host_layout.specs.Ranges.{pages}
@@ -148,49 +148,54 @@ slots_below limit ss (i ∷ is) up below stored = (
 
 -- ---- the whole image
 
--- its base is near, and no section and no slot of it ends past the largest image
+-- its base is low, and no section and no slot of it ends past the largest image
 pub record IsBounded (image : Image) : Type 0 where
-  pub base : image.base ≤ 2 ^ 47
+  pub base : image.base < 2 ^ 63
   pub slots : AllByRecursion (λ i. i.slot + 8 ≤ 2 ^ 47) (imports_of image)
 
-record HasPlace (image : Image) : Type 0 where
-  base : image.base ≤ 2 ^ 47
-  size : image.size ≤ 2 ^ 28
-
-placed : (image : Image) → has_place image ≡ true → HasPlace image
-placed image h =
+-- one that has a place has a low base
+pub low_base : (image : Image) → has_place image ≡ true → image.base + 2 ^ 32 ≤ 2 ^ 63
+low_base image h =
     let end = and_parts ((image.base % BASE_ALIGNMENT == 0) && leb LEAST_BASE image.base
     && leb image.size MOST_IMAGE) (leb (image.base + image.size) ADDRESSES_END) h in
-    let size = and_parts ((image.base % BASE_ALIGNMENT == 0) && leb LEAST_BASE image.base)
-    (leb image.size MOST_IMAGE) end.0 in
-    let most = leb-true image.size MOST_IMAGE size.1 in
     let low = leb-true (image.base + image.size) ADDRESSES_END end.1 in
-    record { base = omega arith; size = omega arith }
+    omega arith
 
-whole_pages : (n : ℕ) → n ≤ 2 ^ 28 → pages n ≤ 2 ^ 47
+whole_pages : (n : ℕ) → n < 2 ^ 32 → pages n ≤ 2 ^ 47
 whole_pages n le = omega arith
 
 below_more : (a b : ℕ) (ss : List Section) → a ≤ b → AreBelow a ss → AreBelow b ss
 below_more a b [] le all = tt
 below_more a b (s ∷ ss) le all = (let first = all.0 in omega arith, below_more a b ss le all.1)
 
--- what was read and has a place is bounded
-pub bounded : (bytes : List ℕ) (image : Image) → IsImage bytes image → has_place image ≡ true
-    → IsBounded image
+-- what was read at a low base is bounded
+pub bounded_low : (bytes : List ℕ) (image : Image) → IsImage bytes image → image.base < 2 ^ 63
+    → image_size bytes < 2 ^ 32 → IsBounded image
 unfolding AreSlotsBelow
-bounded bytes image read place =
-    let p = placed image place in
+bounded_low bytes image read base size =
     let r = is_read bytes image read in
     let o = outlined bytes image r.whole in
     let up = sections_rise bytes (image_end bytes) (table bytes) image.sections o.sections in
-    let end : image_end bytes ≤ 2 ^ 47 = whole_pages (image_size bytes)
-    (subst (λ n. n ≤ 2 ^ 28) o.size p.size) in
+    let end : image_end bytes ≤ 2 ^ 47 = whole_pages (image_size bytes) size in
     let below = below_more (image_end bytes) (2 ^ 47) image.sections end
     (sections_below bytes (image_end bytes) (table bytes) image.sections o.sections) in
     let slots = slots_below (2 ^ 47) image.sections r.all up below
     (slots_stored image.sections image.imports r.all r.imported) in
     record {
-      base = p.base;
+      base = base;
       slots = subst (λ xs. AllByRecursion (λ i. i.slot + 8 ≤ 2 ^ 47) xs)
           (sym (ap or_none r.imported)) slots;
     }
+
+-- and so is what has a place
+pub bounded : (bytes : List ℕ) (image : Image) → IsImage bytes image → has_place image ≡ true
+    → IsBounded image
+bounded bytes image read place =
+    let low = low_base image place in
+    let end = and_parts ((image.base % BASE_ALIGNMENT == 0) && leb LEAST_BASE image.base
+    && leb image.size MOST_IMAGE) (leb (image.base + image.size) ADDRESSES_END) place in
+    let size = and_parts ((image.base % BASE_ALIGNMENT == 0) && leb LEAST_BASE image.base)
+    (leb image.size MOST_IMAGE) end.0 in
+    let most = leb-true image.size MOST_IMAGE size.1 in
+    let same = (outlined bytes image (is_read bytes image read).whole).size in
+    bounded_low bytes image read (omega (arith, low)) (omega (arith, most, same))

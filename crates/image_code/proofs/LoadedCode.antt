@@ -1,5 +1,5 @@
 -- The loaded image has the bytes of its code at its base.
-use Rattle.std.proofs.Common.{◌≡◌, ℕ, zero, suc, ◌+◌, ◌-◌, ◌/◌, ◌%◌, ◌^◌, ◌<◌, ◌≤◌, Bool, true, false, ◌||◌, ltb, leb, List, [], ◌∷◌, Option, Some, None, refl, sym, ap, ◌∙◌, arith, inl, inr}
+use Rattle.std.proofs.Common.{◌≡◌, ℕ, zero, suc, ◌+◌, ◌-◌, ◌/◌, ◌%◌, ◌^◌, ◌<◌, ◌≤◌, Bool, true, false, ◌||◌, ltb, leb, List, [], ◌∷◌, drop, Option, Some, None, refl, sym, ap, ◌∙◌, arith, inl, inr}
 use Rattle.std.specs.List.{AllByRecursion}
 use Rattle.std.proofs.lemmas.Bool.{cases_lt, lt-ltb, le-ltb, le-leb, lt-leb}
 use Rattle.host_layout.specs.Ranges.{pages, in_stack, in_data_stack}
@@ -9,9 +9,12 @@ use Rattle.flat_memory.specs.Memory.{next, executable, distance, with_number}
 use Rattle.flat_memory.proofs.Stores.{among, beyond}
 use Rattle.pe_image.specs.Image.{Section, Image}
 use Rattle.pe_image.specs.Imports.{Import, imports_of}
+use Rattle.pe_image.specs.declared.layout.TheConstants.{SIZE_OF_IMAGE}
+use Rattle.pe_image.specs.Reading.{optional_at, image_size}
 use Rattle.host_model.specs.Loading.{covers, or_else, section_of, stack_mode, mode_in, byte_in, stored_byte, with_address, with_slots, service_named, mapped}
 use Rattle.image_code.specs.Code.{code_of, LoadedCodeIsCode}
-use Rattle.image_code.proofs.ImageBounds.{IsBounded, bounded}
+use Rattle.image_code.proofs.ImageBounds.{IsBounded, bounded_low}
+use Rattle.image_code.proofs.Octets.{AreOctets, dropped, number_below}
 
 -- ---- sections
 
@@ -72,7 +75,7 @@ stored_shifted image a e =
 
 -- ---- slots
 
-module _ (base : ℕ) (low : base ≤ 2 ^ 47) where
+module _ (base : ℕ) (low : base < 2 ^ 63) where
   number_shifted : (f g : ℕ → ℕ) (at v a : ℕ) → at ≤ 2 ^ 47 → a < 2 ^ 63 → f (base + a) ≡ g a
       → with_number f 8 (base + at) v (base + a) ≡ with_number g 8 (0 + at) v a
   number_shifted f g at v a near small same =
@@ -137,5 +140,11 @@ module _ (image : Image) (b : IsBounded image) where
       go true is rest = rw (execute_at a, is, byte_at a is (omega arith), rest) refl
       go false is rest = rw (execute_at a, is) refl
 
+pub size_read : (bytes : List ℕ) → AreOctets bytes → image_size bytes < 2 ^ 32
+size_read bytes octets = number_below 4 (drop (optional_at bytes + SIZE_OF_IMAGE) bytes)
+    (dropped (optional_at bytes + SIZE_OF_IMAGE) bytes octets)
+
 pub loaded_code : LoadedCodeIsCode
-loaded_code bytes image n at read place le = code_at image (bounded bytes image read place) n at le
+loaded_code bytes image n at octets read low le =
+    code_at image (bounded_low bytes image read (omega (arith, low)) (size_read bytes octets)) n at
+    le

@@ -2,13 +2,14 @@
 -- it is loaded.
 --
 -- The main definition: `code_of`.
-use Rattle.std.specs.Prelude.{ℕ, ◌≡◌, ◌+◌, ◌≤◌, ◌^◌, true, List, Option, Some, None, if◌then◌else◌}
+use Rattle.std.specs.Prelude.{ℕ, ◌≡◌, ◌+◌, ◌<◌, ◌≤◌, ◌^◌, List, Option, Some, None, if◌then◌else◌}
+use Rattle.std.specs.List.{AllByRecursion}
 use Rattle.std.specs.Ordering.{nat_cmp}
 use Rattle.std.specs.BTreeMap.{BTreeMap, get}
 use Rattle.flat_memory.specs.Memory.{Memory, executable}
 use Rattle.pe_image.specs.Image.{Image}
 use Rattle.pe_image.specs.Reading.{IsImage}
-use Rattle.host_model.specs.Loading.{mapped, has_place}
+use Rattle.host_model.specs.Loading.{mapped}
 
 -- the memory of the image as it is loaded, with its imports bound, were its base 0: its addresses
 -- are RVAs, and it needs no place
@@ -31,9 +32,9 @@ laid_over bytes byte a = byte_or (get nat_cmp bytes a) (byte a)
 
 -- ---- the loaded image
 
--- an image that has a place has the same executable bytes at its base, as far from it
+-- an image whose base is so low has the same executable bytes at its base, as far from it
 abbrev pub LoadedCodeIsCode : Type 0
 LoadedCodeIsCode =
-    (bytes : List ℕ) (image : Image) (n at : ℕ) → IsImage bytes image → has_place image ≡ true
-    → at + n ≤ 2 ^ 63
+    (bytes : List ℕ) (image : Image) (n at : ℕ) → AllByRecursion (λ b. b < 256) bytes
+    → IsImage bytes image → image.base + 2 ^ 32 ≤ 2 ^ 63 → at + n ≤ 2 ^ 63
     → executable (mapped image) n (image.base + at) ≡ executable (code_of image) n at

@@ -1,5 +1,5 @@
 -- What a verdict on an image says of the frames of the image as it is loaded.
-use Rattle.std.specs.Prelude.{◌≡◌, ℕ, ◌+◌, ◌<◌, true, List, Ok, Some}
+use Rattle.std.specs.Prelude.{◌≡◌, ℕ, ◌+◌, ◌^◌, ◌<◌, ◌≤◌, List, Ok, Some}
 use Rattle.std.specs.List.{AllByRecursion}
 use Rattle.seh_num.specs.declared.size.TheConstants.{LONGEST_INSTRUCTION}
 use Rattle.flat_memory.specs.Memory.{Memory, executable}
@@ -15,15 +15,16 @@ use Rattle.frame_rules.specs.Rules.{IsFound}
 use Rattle.unwind_check.specs.declared.rule.Verdict.TheVariants.{Yes}
 use Rattle.unwind_check.specs.Verdicts.{IsVerdict}
 use Rattle.unwind_check.specs.Laws.{IsInEntry}
-use Rattle.host_model.specs.Loading.{mapped, has_place}
+use Rattle.host_model.specs.Loading.{mapped}
 use Rattle.image_code.specs.Code.{code_of}
 use Rattle.image_code.specs.Verdicts.{checked_code}
 
--- the function table of the image that bytes are read as, whole; the image has a place
+-- the function table of the image that bytes are read as, whole; its base is so low that no address
+-- of the image is above 2^63, since each is less than 2^32 bytes from the base
 pub record IsTableOf (bytes : List ℕ) (t : Tables) : Type 0 where
   pub octets : AllByRecursion (λ b. b < 256) bytes
   pub read : IsImage bytes t.image
-  pub place : has_place t.image ≡ true
+  pub low : t.image.base + 2 ^ 32 ≤ 2 ^ 63
   pub ranges : directory t.image ≡ Ok t.ranges
   pub whole : TablesAreWhole t
 

@@ -3,8 +3,8 @@
 ghost use Rattle.image_code.specs.Code.{LoadedCodeIsCode};
 ghost use Rattle.image_code.specs.Frames.{YesFindsCallers};
 
-/// An image that was read and has a place has, loaded at its base, the executable bytes of its
-/// code.
+/// An image that was read, whose base is 4 GiB or more below 2^63, has, loaded at its base, the
+/// executable bytes of its code.
 pub fn loaded_code()
     ensures { LoadedCodeIsCode }
 {}

@@ -36,7 +36,7 @@ has_ranges image es h = by (directory image) refl h
 
 pub checked_callers_are_found : CheckedCallersAreFound
 unfolding caller_of
-checked_callers_are_found bytes n checked entry e s d octets place code held at rip inside =
+checked_callers_are_found bytes n checked entry e s d octets low code held at rip inside =
     let image = checked.image in
     let given = checked.comes in
     let has = has_ranges image given.entries given.read in
@@ -49,7 +49,7 @@ checked_callers_are_found bytes n checked entry e s d octets place code held at 
     let table : IsTableOf bytes t = record {
       octets = octets;
       read = checked.is;
-      place = place;
+      low = low;
       ranges = has.is_directory;
       whole = record { whole = has.whole ∙ ap Ok (sym listed) };
     } in

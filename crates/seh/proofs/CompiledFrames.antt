@@ -10,6 +10,7 @@ use Rattle.frame_rules.specs.States.{registers, return_address}
 use Rattle.frame_rules.specs.Rules.{IsFound}
 use Rattle.frame_rules.proofs.Callers.{leaves_are_found}
 use Rattle.host_model.specs.Loading.{load_refusal, has_place}
+use Rattle.image_code.proofs.ImageBounds.{low_base}
 use Rattle.seh.specs.Words.{resolve, IsCompiled}
 use Rattle.seh.specs.UncoveredCode.{UncoveredCodeIsRoutines}
 use Rattle.seh.specs.Images.{entry_count}
@@ -33,7 +34,9 @@ compiled_entries_are_found text image compiled entry e s d code held at rip insi
       image = image_read text image compiled;
       is = compiled.linked.read;
       comes = compiled.kept;
-    }) entry e s d compiled.linked.octets (has_a_place text image compiled) code held at rip inside
+    }) entry e s d compiled.linked.octets
+    (low_base (image_read text image compiled) (has_a_place text image compiled)) code held at rip
+    inside
 
 pub compiled_leaves_are_found : CompiledLeavesAreFound
 unfolding caller_of

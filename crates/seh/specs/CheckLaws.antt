@@ -1,5 +1,5 @@
 -- What `check` says: an image has one verdict; where it is yes, the caller of every frame is found.
-use Rattle.std.specs.Prelude.{◌≡◌, ℕ, ◌+◌, ◌<◌, ◌≤◌, true, List, length, Some}
+use Rattle.std.specs.Prelude.{◌≡◌, ℕ, ◌+◌, ◌^◌, ◌<◌, ◌≤◌, List, length, Some}
 use Rattle.std.specs.List.{AllByRecursion}
 use Rattle.x64_machine.specs.Contexts.{context_of}
 use Rattle.x64_machine.specs.Effect.{State}
@@ -11,7 +11,6 @@ use Rattle.frame_rules.specs.Rules.{IsFound}
 use Rattle.unwind_check.specs.declared.rule.Verdict.{Verdict}
 use Rattle.unwind_check.specs.declared.rule.Verdict.TheVariants.{Yes}
 use Rattle.unwind_check.specs.Laws.{IsInEntry}
-use Rattle.host_model.specs.Loading.{has_place}
 use Rattle.host_model.specs.Machine.{functions_in}
 use Rattle.image_code.specs.Code.{code_of}
 use Rattle.image_code.specs.Frames.{HasCodeOf}
@@ -33,14 +32,15 @@ DoneIsYes =
     → length bytes ≤ image_limit → Asks (Check Whole) bytes call → call.status ≡ statuses.Done
     → (n : ℕ) × IsChecked bytes (Yes n)
 
--- where the verdict is yes and the image has a place, the walk over the loaded image finds the
--- caller in every state of each entry, as it was at the first byte of its function (in state e)
+-- where the verdict is yes and the image's base is 4 GiB or more below 2^63, the walk over the
+-- image at its base finds the caller in every state of each entry, as it was at the first byte of
+-- its function (in state e)
 abbrev pub CheckedCallersAreFound : Type 0
 CheckedCallersAreFound =
     (bytes : List ℕ) (n : ℕ) (checked : IsChecked bytes (Yes n)) (entry : Entry) (e s : State)
     (d : ℕ)
     → let functions = functions_in checked.image in
-    AllByRecursion (λ b. b < 256) bytes → has_place checked.image ≡ true
+    AllByRecursion (λ b. b < 256) bytes → checked.image.base + 2 ^ 32 ≤ 2 ^ 63
     → HasCodeOf s.memory checked.image
     → entry_of functions s.cpu.rip ≡ Some entry
     → distance functions.base s.cpu.rip ≡ entry.range.begin + d

@@ -95,9 +95,9 @@ pub fn meant_calls()
 {}
 
 /// What `check` says of an image. An image has one verdict. Where no stream has a fault and a call
-/// ends with status 0, it is yes. Then, where the image has a place in memory, the walk over the
-/// loaded image finds the caller in every state of each entry of its function table: in the
-/// prologue, the body and the epilogues.
+/// ends with status 0, it is yes. Then, where the image's base is 4 GiB or more below 2^63, the
+/// walk over the image at its base finds the caller in every state of each entry of its function
+/// table: in the prologue, the body and the epilogues.
 pub fn checked_images()
     ensures one_verdict { ImagesHaveOneVerdict }
     ensures done { DoneIsYes }

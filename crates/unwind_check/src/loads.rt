@@ -4,12 +4,11 @@ ghost use Rattle.std.specs.Prelude.{◌≡◌};
 ghost use Rattle.virtual_unwind.specs.Undone.{operations};
 ghost use Rattle.frame_rules.specs.Body as bodies;
 
-use crate::prologue_instrs::is_stack;
+use crate::prologue_instrs::is_place;
 use eh_tables::{UnwindCode, UnwindOperation};
 use seh_num::width::Width;
-use unwind_tails::epilogue::is_above;
 use x64_instr::instruction::Instr;
-use x64_instr::operand::{MemRef, Operand, RegisterOrMemory};
+use x64_instr::operand::{Operand, RegisterOrMemory};
 
 fn saved_by(register: u8, others: Option<u32>, operation: UnwindOperation) -> Option<u32>
     ensures { result ≡ bodies.saved_by register others operation }
@@ -37,12 +36,6 @@ fn saved_at(register: u8, codes: &[UnwindCode]) -> Option<u32>
         [] => None,
         [first, rest @ ..] => saved_by(register, saved_at(register, rest), first.operation),
     }
-}
-
-fn is_place(frame: u8, offset: u64, distance: u32, place: MemRef) -> bool
-    ensures { result ≡ bodies.is_place frame offset distance place }
-{
-    is_stack(distance as u64, place) || is_above(frame, offset, distance as u128, place)
 }
 
 /// The register, by its number, that an instruction loads from the place where it was saved by a

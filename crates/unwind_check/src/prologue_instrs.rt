@@ -7,6 +7,7 @@ ghost use Rattle.frame_rules.specs.Prologue as rules;
 
 use eh_tables::UnwindOperation;
 use seh_num::width::Width;
+use unwind_tails::epilogue::is_above;
 use x64_instr::instruction::{Instr, Operation, Target};
 use x64_instr::operand::{Base, Index, MemRef, Operand, RegisterOrMemory};
 use x64_instr::register::Reg;
@@ -63,22 +64,30 @@ fn sets_frame(frame: u8, offset: u64, instr: &Instr) -> bool
     }
 }
 
-fn stores(register: u8, offset: u32, instr: &Instr) -> bool
-    ensures { result ≡ rules.does 0 0 (codes.Save register offset) instr.now }
+/// Whether a place is so many bytes above the base of the frame, by RSP, or by the frame register,
+/// which lies `offset` bytes above that base.
+pub fn is_place(frame: u8, offset: u64, distance: u32, place: MemRef) -> bool
+    ensures { result ≡ rules.is_place frame offset distance place }
+{
+    is_stack(distance as u64, place) || is_above(frame, offset, distance as u128, place)
+}
+
+fn stores(frame: u8, offset: u64, register: u8, distance: u32, instr: &Instr) -> bool
+    ensures { result ≡ rules.does frame offset (codes.Save register distance) instr.now }
 {
     match instr {
         Instr::Move {
             width: Width::W64,
             to: RegisterOrMemory::Memory(place),
             from: Operand::Register(stored),
-        } => stored.number() == register && is_stack(offset as u64, *place),
+        } => stored.number() == register && is_place(frame, offset, distance, *place),
         _ => false,
     }
 }
 
-/// Whether an instruction does what a code says: `push r`, `sub rsp,n`, `lea f,[rsp + n]` or
-/// `mov [rsp + n],r`. `frame` is the number of the frame register, and `offset` how many bytes it
-/// lies above RSP.
+/// Whether an instruction does what a code says: `push r`, `sub rsp,n`, `lea f,[rsp + n]`, or
+/// `mov [rsp + n],r` or the same place by the frame register. `frame` is the number of the frame
+/// register, 0 where there is none, and `offset` how many bytes it lies above RSP.
 pub fn does(frame: u8, offset: u64, operation: UnwindOperation, instr: &Instr) -> bool
     ensures { result ≡ rules.does frame offset operation instr.now }
 {
@@ -86,7 +95,10 @@ pub fn does(frame: u8, offset: u64, operation: UnwindOperation, instr: &Instr) -
         UnwindOperation::Push { register } => pushes(register, instr),
         UnwindOperation::Allocate { size } => allocates(size, instr),
         UnwindOperation::SetFrame => sets_frame(frame, offset, instr),
-        UnwindOperation::Save { register, offset } => stores(register, offset, instr),
+        UnwindOperation::Save {
+            register,
+            offset: distance,
+        } => stores(frame, offset, register, distance, instr),
         _ => false,
     }
 }

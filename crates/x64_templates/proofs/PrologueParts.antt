@@ -13,6 +13,7 @@ use Rattle.frame_rules.specs.Codes.{are_pushes}
 use Rattle.frame_rules.specs.Plan.{spelled_by, turned}
 use Rattle.frame_rules.specs.Prologue.{bytes}
 use Rattle.frame_rules.proofs.Order.{Ordered, allocate}
+use Rattle.frame_rules.proofs.Order.{AllFollow}
 use Rattle.frame_rules.proofs.Prologues.{Good, good_rest}
 use Rattle.x64_templates.proofs.PlacedCode.{bytes_split}
 use Rattle.x64_templates.proofs.Straight.{one_steps}
@@ -35,6 +36,11 @@ pub good_before : (f n : ℕ) (done xs : List UnwindOperation) → Good f n (tur
     → Good f n done
 good_before f n done [] g = g
 good_before f n done (x ∷ xs) g = good_rest f n x done (good_before f n (x ∷ done) xs g)
+
+pub follow_before : (f : ℕ) (done xs : List UnwindOperation) → AllFollow f (turned done xs)
+    → AllFollow f done
+follow_before f done [] g = g
+follow_before f done (x ∷ xs) g = (follow_before f (x ∷ done) xs g).1
 
 -- ---- registers as templates see them
 

@@ -21,8 +21,8 @@ use Rattle.frame_rules.specs.Prologue.{ArePrologueSteps, bytes, is_step}
 use Rattle.frame_rules.specs.States.{IsEntry, registers, return_address}
 use Rattle.frame_rules.proofs.Bytes.{spells_all}
 use Rattle.frame_rules.proofs.Frames.{first_running}
-use Rattle.frame_rules.proofs.Order.{ordered}
-use Rattle.frame_rules.proofs.Planning.{AllEmitted, all_turned, are_steps, emitted_plan, nonvolatile_number, ordered_plan, step_encodable}
+use Rattle.frame_rules.proofs.Order.{ordered, AllFollow, all_follow}
+use Rattle.frame_rules.proofs.Planning.{AllEmitted, all_turned, are_steps, emitted_plan, framed_plan, nonvolatile_number, ordered_plan, step_encodable}
 use Rattle.frame_rules.proofs.Prologues.{Good, carried, does_step, good_rest, positive}
 use Rattle.frame_rules.proofs.Steps.{Running, allocation_depth, fallen, push_effect, room, save_effect, set_other, stack_address, subtract_effect}
 use Rattle.frame_rules.proofs.Undoing.{stack_depth}
@@ -32,7 +32,7 @@ use Rattle.x64_templates.proofs.Entries.{beside, writable_readable}
 use Rattle.x64_templates.proofs.Lemmas.{sizes_append}
 use Rattle.x64_templates.proofs.LargeEntries.{enter_large_run}
 use Rattle.x64_templates.proofs.PlacedCode.{enters_on, reaches_enters}
-use Rattle.x64_templates.proofs.PrologueParts.{bytes_sizes, first_steps, good_before, other_kind, pushes_before, seen, turned_back}
+use Rattle.x64_templates.proofs.PrologueParts.{bytes_sizes, first_steps, follow_before, good_before, other_kind, pushes_before, seen, turned_back}
 use Rattle.x64_templates.proofs.Ranges.{within_cell, within_keeps_code, within_same, within_then}
 
 module _ (p : FramePlan) (is_plan : IsPlan p) (check : ℕ) (e : State)
@@ -197,6 +197,7 @@ module _ (p : FramePlan) (is_plan : IsPlan p) (check : ℕ) (e : State)
       emitted : AllEmitted p xs
       steps : ArePrologueSteps f offset at (steps_of spell p at xs)
       good : Good f n (turned done xs)
+      follow : AllFollow f (turned done xs)
       probed : AreProbed p check (begin + at) xs
       code : HasCode e.memory (begin + at) (flat_map (instructions_of p) xs)
       whole : at + sizes (flat_map (instructions_of p) xs) ≡ sizes (prologue_code p)
@@ -210,6 +211,7 @@ module _ (p : FramePlan) (is_plan : IsPlan p) (check : ℕ) (e : State)
           emitted = l.emitted.1;
           steps = l.steps.1;
           good = l.good;
+          follow = l.follow;
           probed = subst (λ a. AreProbed p check a xs) z l.probed.1;
           code = subst (λ a. HasCode e.memory a (flat_map (instructions_of p) xs)) z
               (code_split e.memory (begin + at) (instructions_of p x)
@@ -248,7 +250,8 @@ module _ (p : FramePlan) (is_plan : IsPlan p) (check : ℕ) (e : State)
         let code = subst (λ b. HasCode s.memory b (i ∷ [])) (sym h.rip)
         (subst (HasCode s.memory (begin + at)) same (code_here x xs done at l s h)) in
         let run = does_step f offset back n (s.cpu.rip + size i) e s d.to x done i entry
-        is_plan.distance g.deep a.0 a.1 g.ordered does h.running d.is in
+        is_plan.distance g.deep a.0 a.1 g.ordered (follow_before f (x ∷ done) xs l.follow).0 does
+        h.running d.is in
         let to : s.cpu.rip + size i ≡ begin + (at + long x) = omega (
           arith,
           h.rip,
@@ -451,6 +454,9 @@ module _ (p : FramePlan) (is_plan : IsPlan p) (check : ℕ) (e : State)
               allowed = is_plan.allowed;
               deep = omega arith;
             });
+            follow = subst (AllFollow f) (sym (turned_back [] (operations_of p)))
+                (all_follow f (operations_of p) (ordered (operations_of p) (ordered_plan p))
+                (framed_plan p));
             probed = subst (λ a. AreProbed p check a (turned [] (operations_of p))) z probed;
             code = subst (λ a. HasCode e.memory a (prologue_code p)) z code;
             whole = omega arith;

@@ -20,9 +20,9 @@ use Rattle.frame_rules.specs.Bytes.{spell, prologue_code}
 use Rattle.frame_rules.specs.Plan.{FramePlan, IsPlan, allocating, all_encodable, instructions_of, operations_of, prologue, spelled_by, stack_place, step_of, steps_of, turned}
 use Rattle.frame_rules.specs.Prologue.{ArePrologueSteps, bytes, codes_onto, is_step}
 use Rattle.frame_rules.proofs.Bytes.{spells_all}
-use Rattle.frame_rules.proofs.Order.{ordered}
-use Rattle.frame_rules.proofs.Planning.{AllEmitted, all_turned, are_steps, codes_plan, emitted_plan, ordered_plan, step_encodable}
-use Rattle.frame_rules.proofs.Prologues.{AtMost, Good, good_done, positive, run_done, skips_first}
+use Rattle.frame_rules.proofs.Order.{ordered, AllFollow, all_follow}
+use Rattle.frame_rules.proofs.Planning.{AllEmitted, all_turned, are_steps, codes_plan, emitted_plan, framed_plan, ordered_plan, step_encodable}
+use Rattle.frame_rules.proofs.Prologues.{AtMost, Good, follow_done, good_done, positive, run_done, skips_first}
 use Rattle.frame_rules.proofs.Sizes.{frame_has_its_size}
 use Rattle.match_bodies.specs.CodeSites.{body_plan}
 use Rattle.match_bodies.specs.ProgramImages.{IsPlanned}
@@ -155,6 +155,7 @@ module _ (setting : Setting) where
         ended : AtMost at done
         codes : info.codes ≡ codes_onto done (steps_of spell framing at xs)
         good : Good f top (operations (codes_onto done (steps_of spell framing at xs)))
+        follow : AllFollow f (operations (codes_onto done (steps_of spell framing at xs)))
         probed : AreProbed framing q.check_stack (begin + at) xs
         whole : at + sizes (flat_map (instructions_of framing) xs) ≡ making_size p q name
         there : (m : Memory) → HasProgram setting m
@@ -189,6 +190,7 @@ module _ (setting : Setting) where
         ended = (let z : at + spelled x ≤ at + spelled x = omega arith in z);
         codes = l.codes;
         good = l.good;
+        follow = l.follow;
         probed = subst (λ a. AreProbed framing q.check_stack a xs)
             (let same = bytes_sizes (instructions_of framing x) in
             let z : begin + at + sizes (instructions_of framing x)
@@ -297,7 +299,9 @@ module _ (setting : Setting) where
           (left_found xs (code_of at x ∷ done) (at + spelled x) (next_left x xs done at l)
           v.memory has) in
           let m = made t fs f offset top from back others list is_plan.distance small high s v i
-          [] x (operations done) st c.beneath g.ordered g.allowed g.deep d enc code
+          [] x (operations done) st c.beneath g.ordered g.allowed g.deep
+          (follow_done f (code_of at x ∷ done) (steps_of spell framing (at + spelled x) xs)
+          l.follow).0 d enc code
           (subst (λ a. FindsOwed t s.memory a (of_codes f offset (operations done))) (sym c.rip)
           (first_found x xs done at l s.memory)) after in
           subst (Runs 1 (at + spelled x) (x ∷ operations done) s) r.2
@@ -424,6 +428,9 @@ module _ (setting : Setting) where
               allowed = is_plan.allowed;
               deep = omega arith;
             });
+            follow = subst (AllFollow f) (sym (codes_plan spell framing)) (all_follow f
+                (operations_of framing)
+                (ordered (operations_of framing) (ordered_plan framing)) (framed_plan framing));
             probed = subst (λ a. AreProbed framing q.check_stack a
                 (turned [] (operations_of framing))) (let z : begin ≡ begin + 0 = omega arith in z)
                 body_probed;

@@ -22,10 +22,10 @@ use Rattle.flat_memory.proofs.Stores.{untouched, stored_is_loaded, writable_is_r
 use Rattle.frame_rules.specs.Codes as codes
 use Rattle.frame_rules.specs.Codes.{allocation, may_save, is_allowed, are_allowed, is_saved, are_apart, are_pushes}
 use Rattle.frame_rules.specs.Frame.{Stack, Framed, HoldsFrame, IsWord}
-use Rattle.frame_rules.specs.Prologue.{does, is_stack}
+use Rattle.frame_rules.specs.Prologue.{does, is_stack, is_place}
 use Rattle.frame_rules.specs.States.{registers}
-use Rattle.frame_rules.proofs.Order.{Ordered, push, allocate, frame, save, of_pushes, unframed, pushes_unframed, pushes_alone}
-use Rattle.frame_rules.proofs.Steps.{set_same, set_other, ok_same, subtract_effect, difference, stack_address, allocation_depth}
+use Rattle.frame_rules.proofs.Order.{Ordered, push, allocate, frame, save, of_pushes, unframed, framed_above, pushes_unframed, pushes_alone, Follows}
+use Rattle.frame_rules.proofs.Steps.{set_same, set_other, ok_same, subtract_effect, difference, stack_address, place_address, allocation_depth}
 use Rattle.frame_rules.proofs.Undoing.{stack_depth, saved_register}
 use Rattle.frame_rules.proofs.Words.{left_words, pushes_apart, rebased}
 
@@ -285,18 +285,20 @@ module _ (f offset back : ℕ) (old : ℕ → ℕ) (fits : (r : ℕ) → old r <
   -- ---- saves
 
   saved_at : (s u : State) (a k : ℕ) (ops : List UnwindOperation) (q : Reg) (m : MemRef)
-      → length s.cpu.registers ≡ 16 → is_stack k m ≡ true → may_save (number q) ops ≡ true
+      → length s.cpu.registers ≡ 16 → is_place f offset k m ≡ true
+      → (f ≢ 0 → sets_frame ops ≡ true) → may_save (number q) ops ≡ true
       → k + 8 ≤ allocation ops → are_apart k ops ≡ true → Ordered ops → Holds ops s
       → effect (with_rip s a) (instrs.Move W64 (places.Memory m) (operands.Register q)) ≡ Ok u
       → Did s u a (Save (number q) k) ops
-  saved_at s u a k ops q m n place ms le apart order h ef =
+  saved_at s u a k ops q m n place after_frame ms le apart order h ef =
       let r = number q in
       let base = registers s 4 in
       let d = stack_depth s.memory old back base base ops h.stack in
       let shallow = allocation_depth ops in
       let c : Cpu = record { registers = s.cpu.registers; rip = a; flags = s.cpu.flags } in
       let lt : registers s 4 + k < 2 ^ 64 = omega arith in
-      let at = stack_address c k m place lt in
+      let at = place_address f offset k c m place (λ ne. framed_above f offset (registers s) base
+      ops order (after_frame ne) h.framed) lt in
       let once = and_parts (is_nonvolatile r) (not (eqb r 4) && not (is_saved r ops)) ms in
       let parts = and_parts (not (eqb r 4)) (not (is_saved r ops)) once.1 in
       let val = h.others r once.0 (eqb-false r 4 (not-true (eqb r 4) parts.0))
@@ -333,29 +335,30 @@ module _ (f offset back : ℕ) (old : ℕ → ℕ) (fits : (r : ℕ) → old r <
   pub does_one : (s u : State) (a : ℕ) (op : UnwindOperation) (ops : List UnwindOperation)
       (i : Instr) → offset < 2 ^ 16 → length s.cpu.registers ≡ 16 → codes.size op ≤ registers s 4
       → is_allowed f ops op ≡ true → are_allowed f ops ≡ true → Ordered (op ∷ ops)
-      → does f offset op i ≡ true → Holds ops s → effect (with_rip s a) i ≡ Ok u
+      → Follows f op ops → does f offset op i ≡ true → Holds ops s → effect (with_rip s a) i ≡ Ok u
       → Did s u a op ops
-  does_one s u a (Push r) ops (instrs.Push q) small n room is allowed (push p o) d h ef =
+  does_one s u a (Push r) ops (instrs.Push q) small n room is allowed (push p o) fo d
+      h ef =
       let same : number q ≡ r = eqb-true (number q) r d in
       subst (λ x. Did s u a (Push x) ops) same
       (pushed s u a q ops n room (ap (λ x. may_save x ops) same ∙ is) p h ef)
   does_one s u a (Allocate k) ops
       (instrs.Arithmetic arithmetic.Sub W64 (places.Register Rsp) (operands.Immediate v)) small n
-      room is allowed (allocate p o) d h ef =
+      room is allowed (allocate p o) fo d h ef =
       let same : v ≡ k = eqb-true v k d in
       subst (λ x. Did s u a (Allocate x) ops) same (allocated s u a v ops n (omega arith) p h ef)
-  does_one s u a SetFrame ops (instrs.LoadAddress W64 to m) small n room is allowed (frame t p o) d
-      h ef =
+  does_one s u a SetFrame ops (instrs.LoadAddress W64 to m) small n room is allowed (frame t p o) fo
+      d h ef =
       let parts = and_parts (eqb (number to) f) (is_stack offset m) d in
       framed s u a ops to m small n (eqb-true (number to) f parts.0) parts.1
       (and_parts (not (eqb f 0)) (is_saved f ops) is).1 allowed p h ef
   does_one s u a (Save r k) ops (instrs.Move W64 (places.Memory m) (operands.Register q)) small n
-      room is allowed (save o) d h ef =
-      let parts = and_parts (eqb (number q) r) (is_stack k m) d in
+      room is allowed (save o) fo d h ef =
+      let parts = and_parts (eqb (number q) r) (is_place f offset k m) d in
       let same : number q ≡ r = eqb-true (number q) r parts.0 in
       let may = and_parts (may_save r ops) (leb (k + 8) (allocation ops) && are_apart k ops) is in
       let apart = and_parts (leb (k + 8) (allocation ops)) (are_apart k ops) may.1 in
       subst (λ x. Did s u a (Save x k) ops) same
-      (saved_at s u a k ops q m n parts.1 (ap (λ x. may_save x ops) same ∙ may.0)
+      (saved_at s u a k ops q m n parts.1 fo (ap (λ x. may_save x ops) same ∙ may.0)
       (leb-true (k + 8) (allocation ops) apart.0) apart.1 o h ef)
-  does_one s u a op ops i small n room is allowed order d h ef = absurd (false≢true d)
+  does_one s u a op ops i small n room is allowed order fo d h ef = absurd (false≢true d)

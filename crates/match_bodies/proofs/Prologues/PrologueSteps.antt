@@ -16,7 +16,7 @@ use Rattle.frame_rules.specs.Codes.{depth, is_allowed, are_allowed, are_pushes}
 use Rattle.frame_rules.specs.Frame.{Stack, Others, HoldsFrame}
 use Rattle.frame_rules.specs.Prologue.{does}
 use Rattle.frame_rules.specs.States.{registers}
-use Rattle.frame_rules.proofs.Order.{Ordered, allocate}
+use Rattle.frame_rules.proofs.Order.{Ordered, allocate, Follows}
 use Rattle.frame_rules.proofs.Undoing.{stack_depth, saved_register, framed_saved}
 use Rattle.match_bodies.proofs.Lemmas.{straight}
 use Rattle.match_bodies.proofs.Steps.InstructionEffects.{is_idle, idle_leaves, idle_calls_nothing}
@@ -187,19 +187,19 @@ module _ (t : Functions) (fs : List Funclet) (f offset top from back : ℕ) (oth
     -- what a code says in one instruction
     pub made : (s u : State) (i : Instr) (more : List Instr) (op : UnwindOperation)
         (ops : List UnwindOperation) → Steps s u → Below ops s → Ordered (op ∷ ops)
-        → are_allowed f (op ∷ ops) ≡ true → depth (op ∷ ops) ≤ top
+        → are_allowed f (op ∷ ops) ≡ true → depth (op ∷ ops) ≤ top → Follows f op ops
         → does f offset op i ≡ true → is_encodable i ≡ true
         → HasCode s.memory s.cpu.rip (i ∷ more) → Finds s ops
         → FindsOwed t u.memory (s.cpu.rip + size i) (of_codes f offset (op ∷ ops))
         → Made s u (s.cpu.rip + size i) (op ∷ ops)
-    made s u i more op ops st b order allowed room d enc code before after =
+    made s u i more op ops st b order allowed room fo d enc code before after =
         let a = and_parts (is_allowed f ops op) (are_allowed f ops) allowed in
         let h = holds s ops b in
         let d' : registers s 4 + depth ops ≡ top = stack_depth s.memory old back (registers s 4)
         (registers s 4) ops h.stack in
         did_made s u (s.cpu.rip + size i) op ops st b allowed
         (does_one f offset back old fits high s u (s.cpu.rip + size i) op ops i near b.count
-        (omega arith) a.0 a.1 order d h (effect_here s u i more enc code st.steps))
+        (omega arith) a.0 a.1 order fo d h (effect_here s u i more enc code st.steps))
         (ap is_call (read_here s u i more enc code) ∙ does_no_call f offset op i d) before after
 
     -- the last of the three of a large allocation
