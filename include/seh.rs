@@ -111,6 +111,17 @@ impl<'a> Range<'a> {
             held: PhantomData,
         }
     }
+
+    /// The address of the first byte.
+    pub fn at(&self) -> u64 {
+        self.at
+    }
+
+    /// The bytes.
+    pub fn bytes(&self) -> &'a [u8] {
+        // SAFETY: they are those of a slice that the range borrows
+        unsafe { std::slice::from_raw_parts(self.bytes, self.size) }
+    }
 }
 
 /// RIP, RSP and the other nonvolatile integer registers.
