@@ -1,5 +1,5 @@
--- The prologue of a frame above a page calls `__chkstk`, and the machine's own run of its bytes is a
--- call that is taken whole (Microsoft x64 ABI, "Prolog and epilog").
+-- The prologue of a frame above a page calls `__chkstk`, and the machine's own run of its bytes is
+-- a call that is taken whole (Microsoft x64 ABI, "Prolog and epilog").
 --
 -- The main definition: `ProbesComeBack`.
 use Rattle.std.specs.Prelude.{◌≡◌, ℕ, ◌+◌, ◌*◌, ◌/◌, ◌^◌, ◌<◌, ◌≤◌, true, [], ◌∷◌, length}
