@@ -86,6 +86,7 @@ impl Registers {
             r13: n[13],
             r14: n[14],
             r15: n[15],
+            ..Context::default()
         }
     }
 }

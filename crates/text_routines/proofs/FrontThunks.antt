@@ -21,8 +21,8 @@ use Rattle.x64_emit.specs.declared.entry.TheConstants.{CHECK_STACK_SIZE, THUNK_S
 use Rattle.x64_emit.proofs.Nearby.{near_signed}
 use Rattle.image_link.specs.Near.{AreFew}
 use Rattle.image_link.specs.Text.{service_thunk, thunk_at, front_code, front_size}
-use Rattle.image_link.proofs.Front.{front_sizes, place_small, thunks_size}
-use Rattle.image_tables.proofs.CodeInMemory.{executable_split, code_split}
+use Rattle.image_link.proofs.Front.{front_sizes, place_small}
+use Rattle.image_tables.proofs.CodeInMemory.{executable_split}
 use Rattle.image_tables.proofs.Handlers.{thunk_bytes}
 use Rattle.text_routines.proofs.Plain.{all_plain}
 
@@ -34,16 +34,6 @@ probe_right rs = refl
 module _ (imports : List ImportedService) (text rdata : ℕ) where
   abbrev thunk : ImportedService → Instr
   thunk v = service_thunk imports text rdata v
-
-  -- `__chkstk`, after the thunks
-  pub probe_after : (m : Memory) (begin : ℕ) (rest : List ℕ)
-      → IsExecutableAt m begin (spelled (front_code imports text rdata) ++ rest)
-      → IsExecutableAt m (begin + 6 * length imports) (spelled check_stack)
-  probe_after m begin rest there =
-      let front = executable_split m begin (spelled (front_code imports text rdata)) rest there in
-      let last = code_split m begin (map thunk imports) check_stack front.0 in
-      subst (λ (n : ℕ). IsExecutableAt m (begin + n) (spelled check_stack))
-      (thunks_size imports text rdata imports) last.1
 
   -- a thunk can be spelled, where the image is small
   pub thunk_near : AreFew imports → text ≤ MOST_IMAGE → rdata ≤ MOST_IMAGE
