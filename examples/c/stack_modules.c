@@ -222,6 +222,13 @@ static size_t range_above(const struct stack_dump *d, uint64_t address)
     return low;
 }
 
+const seh_range *range_at(const struct stack_dump *d, uint64_t address)
+{
+    size_t k = range_above(d, address);
+
+    return k < d->range_count && d->ranges[k].at <= address ? &d->ranges[k] : NULL;
+}
+
 /* The image in the dump's memory, where the ranges have all of it. Pieces are gathered, of all modules
    together no more bytes than the dump has. */
 static bool open_from_memory(struct stack_dump *d, struct module *m)

@@ -22,7 +22,8 @@ struct stack_dump {
     seh_range *ranges; /* in order, without overlaps */
     size_t range_count;
     uint64_t refused_ranges; /* how many aren't in the file */
-    size_t gathered; /* how many bytes of images were gathered from ranges */
+    size_t frame_count; /* how many frames were found */
+    size_t gathered;    /* how many bytes of images were gathered from ranges */
     bool frames_alone; /* of each frame RIP and the nonvolatile registers alone are printed */
     char **folders;    /* where images are looked for */
     int folder_count;
@@ -37,6 +38,9 @@ uint8_t *read_file(const char *name, size_t *size);
 /* Reads the lists of modules and of memory. */
 void read_modules(struct stack_dump *d);
 void read_ranges(struct stack_dump *d);
+
+/* The range that has the byte at an address; null where none does. */
+const seh_range *range_at(const struct stack_dump *d, uint64_t address);
 
 /* The module that holds an address; null where none does. */
 struct module *module_at(struct stack_dump *d, uint64_t address);

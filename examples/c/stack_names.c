@@ -2,11 +2,16 @@
    `.sehname`, which images by seh have, and the exports (PE format, ".edata Section"). */
 #include "stack_modules.h"
 
-#include <inttypes.h>
 #include <stdio.h>
 #include <string.h>
 
-#define MOST_NAMES 100000 /* of a table that is looked at */
+#define MOST_NAMES 20000 /* of a table that is looked through */
+
+/* Bytes of an image. */
+struct span {
+    const uint8_t *bytes;
+    size_t size;
+};
 
 static uint32_t u16(const uint8_t *at)
 {
@@ -18,99 +23,114 @@ static uint32_t u32(const uint8_t *at)
     return u16(at) | u16(at + 2) << 16;
 }
 
-/* The section header of an index; seh_open found it there. */
-static const uint8_t *section(const seh_view *view, uint32_t index)
+static const uint8_t *headers(const seh_view *view)
 {
-    const uint8_t *header = view->bytes + u32(view->bytes + 0x3c);
-
-    return header + 24 + u16(header + 20) + 40 * index;
+    return view->bytes + u32(view->bytes + 0x3c);
 }
 
 static uint32_t section_count(const seh_view *view)
 {
-    return u16(view->bytes + u32(view->bytes + 0x3c) + 6);
+    return u16(headers(view) + 6);
 }
 
-/* So many bytes of an image at an RVA; null where they aren't stored in one section. */
-static const uint8_t *stored(const seh_view *view, uint32_t rva, size_t size)
+/* What a section stores; seh_open found its header there, and the bytes. */
+static struct span section(const seh_view *view, const uint8_t *header)
+{
+    uint32_t virtual_size = u32(header + 8), raw_size = u32(header + 16);
+    size_t size = virtual_size ? virtual_size : raw_size;
+
+    if (view->mapped)
+        return (struct span){view->bytes + u32(header + 12), size};
+    if (raw_size < size)
+        size = raw_size;
+    return (struct span){view->bytes + (size ? u32(header + 20) : 0), size};
+}
+
+/* The header of a section by its index. */
+static const uint8_t *section_header(const seh_view *view, uint32_t index)
+{
+    return headers(view) + 24 + u16(headers(view) + 20) + 40 * (size_t)index;
+}
+
+/* What the section that holds an RVA stores from there on. */
+static struct span stored_from(const seh_view *view, uint32_t rva)
 {
     for (uint32_t k = 0; k < section_count(view); k++) {
-        const uint8_t *s = section(view, k);
-        uint32_t virtual_size = u32(s + 8), raw_size = u32(s + 16), at = u32(s + 12);
-        uint32_t held = virtual_size ? virtual_size : raw_size;
+        const uint8_t *header = section_header(view, k);
+        struct span s = section(view, header);
+        uint32_t at = u32(header + 12);
 
-        if (!view->mapped && raw_size < held)
-            held = raw_size;
-        if (rva >= at && rva - at < held && size <= held - (rva - at))
-            return view->bytes + (view->mapped ? at : u32(s + 20)) + (rva - at);
+        if (rva >= at && rva - at < s.size)
+            return (struct span){s.bytes + (rva - at), s.size - (rva - at)};
     }
-    return NULL;
+    return (struct span){view->bytes, 0};
 }
 
-/* Prints the characters up to a 0, at most 200, and says whether there is a name. */
-static bool print_text(const seh_view *view, uint32_t rva)
+/* Prints the characters up to a 0, at most 200. */
+static void print_text(const seh_view *view, uint32_t rva)
 {
-    const uint8_t *c;
+    struct span s = stored_from(view, rva);
 
-    for (uint32_t k = 0; k < 200 && (c = stored(view, rva + k, 1)) && *c; k++) {
-        if (k == 0)
-            putchar(' ');
-        putchar(*c >= 0x20 && *c < 0x7f ? *c : '?');
-    }
-    return true;
+    putchar(' ');
+    for (size_t k = 0; k < 200 && k < s.size && s.bytes[k]; k++)
+        putchar(s.bytes[k] > 0x20 && s.bytes[k] < 0x7f ? s.bytes[k] : '?');
 }
 
 /* The name in the row of `.sehname` that holds an RVA: rows of begin, end, number and name. */
 static bool print_own_name(const seh_view *view, uint32_t rva)
 {
     for (uint32_t k = 0; k < section_count(view); k++) {
-        const uint8_t *s = section(view, k), *count, *row;
+        const uint8_t *header = section_header(view, k);
+        struct span s = section(view, header);
 
-        if (memcmp(s, ".sehname", 8) != 0 || !(count = stored(view, u32(s + 12), 4)))
+        if (memcmp(header, ".sehname", 8) != 0 || s.size < 4)
             continue;
-        for (uint32_t n = 0; n < u32(count) && n < MOST_NAMES; n++) {
-            row = stored(view, u32(s + 12) + 4 + 16 * n, 16);
-            if (!row)
-                return false;
-            if (u32(row) <= rva && rva < u32(row + 4))
-                return print_text(view, u32(row + 12));
+        for (size_t n = 0; n < u32(s.bytes) && n < MOST_NAMES && 20 + 16 * n <= s.size; n++) {
+            const uint8_t *row = s.bytes + 4 + 16 * n;
+
+            if (u32(row) <= rva && rva < u32(row + 4)) {
+                print_text(view, u32(row + 12));
+                return true;
+            }
         }
     }
     return false;
 }
 
-/* The directory of exports; null where there is none. */
-static const uint8_t *exports(const seh_view *view)
+/* The nearest export at or below an RVA, and not below `begin`. */
+static void print_export(const seh_view *view, uint32_t rva, uint32_t begin)
 {
-    const uint8_t *header = view->bytes + u32(view->bytes + 0x3c);
+    struct span table, functions, names, ordinals;
+    uint32_t nearest = 0, name = 0;
 
-    return u32(header + 24 + 108) > 0 ? stored(view, u32(header + 24 + 112), 40) : NULL;
-}
-
-void print_name(const struct module *m, uint32_t rva, uint32_t begin)
-{
-    const seh_view *view = &m->view;
-    const uint8_t *table, *ordinals, *names, *functions;
-    uint32_t count, nearest = 0, name = 0;
-
-    if (print_own_name(view, rva) || !(table = exports(view)))
+    if (u32(headers(view) + 24 + 108) == 0) /* no directory */
         return;
-    count = u32(table + 24);
-    if (count > MOST_NAMES || !(functions = stored(view, u32(table + 28), 4 * (size_t)u32(table + 20))))
+    table = stored_from(view, u32(headers(view) + 24 + 112));
+    if (table.size < 40)
         return;
-    names = stored(view, u32(table + 32), 4 * (size_t)count);
-    ordinals = stored(view, u32(table + 36), 2 * (size_t)count);
-    for (uint32_t k = 0; names && ordinals && k < count; k++) {
-        uint32_t ordinal = u16(ordinals + 2 * k), at;
+    functions = stored_from(view, u32(table.bytes + 28));
+    names = stored_from(view, u32(table.bytes + 32));
+    ordinals = stored_from(view, u32(table.bytes + 36));
+    for (size_t k = 0; k < u32(table.bytes + 24) && k < MOST_NAMES; k++) {
+        uint32_t ordinal, at;
 
-        if (ordinal >= u32(table + 20))
+        if (4 * k + 4 > names.size || 2 * k + 2 > ordinals.size)
+            break;
+        ordinal = u16(ordinals.bytes + 2 * k);
+        if (4 * (size_t)ordinal + 4 > functions.size)
             continue;
-        at = u32(functions + 4 * ordinal);
+        at = u32(functions.bytes + 4 * ordinal);
         if (begin <= at && at <= rva && (nearest < at || !name)) {
             nearest = at;
-            name = u32(names + 4 * k);
+            name = u32(names.bytes + 4 * k);
         }
     }
     if (name)
         print_text(view, name);
+}
+
+void print_name(const struct module *m, uint32_t rva, uint32_t begin)
+{
+    if (!print_own_name(&m->view, rva))
+        print_export(&m->view, rva, begin);
 }

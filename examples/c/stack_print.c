@@ -4,7 +4,9 @@
 #include <inttypes.h>
 #include <stdio.h>
 
-#define MOST_FRAMES 1000 /* of a thread, so that no dump makes much of few bytes */
+/* How many frames are printed of a thread, and of all, so that no dump makes much of few bytes. */
+#define MOST_OF_THREAD 1000
+#define MOST_FRAMES 20000
 
 /* RIP, RSP and the other nonvolatile integer registers. */
 static seh_context context_of(const seh_dump_registers *r)
@@ -86,6 +88,7 @@ static seh_status walk_module(struct stack_dump *d, const struct module *m, seh_
         if (!d->frames_alone && raised && frames[k].has_handler)
             print_scopes(m, (uint32_t)(context->rip - m->record.base));
         ++*number;
+        d->frame_count++;
         *context = frames[k].caller;
     }
     return status;
@@ -105,6 +108,23 @@ static void print_end(const struct stack_dump *d, unsigned number, const struct 
                status.at);
 }
 
+/* A first frame in no module is most often a call of an address that isn't one, as of null: then its
+   caller is that of a leaf function. It is printed as a guess. */
+static void guess_caller(const struct stack_dump *d, seh_context *context, unsigned *number)
+{
+    const seh_range *r = range_at(d, context->rsp);
+    uint64_t rip = 0;
+
+    if (!r || r->size - (context->rsp - r->at) < 8)
+        return;
+    for (int byte = 7; byte >= 0; byte--)
+        rip = rip << 8 | r->bytes[context->rsp - r->at + byte];
+    print_frame((*number)++, NULL, context->rip, context);
+    printf("     guessed, as a call of that address:\n");
+    context->rip = rip;
+    context->rsp += 8;
+}
+
 /* The frames of a thread from its registers on. */
 static void print_frames(struct stack_dump *d, const seh_dump_registers *registers, bool raised)
 {
@@ -112,7 +132,9 @@ static void print_frames(struct stack_dump *d, const seh_dump_registers *registe
     seh_status status = {SEH_OK, 0, 0};
     unsigned number = 0;
 
-    while (context.rip && number < MOST_FRAMES) {
+    if (!module_at(d, context.rip) && !d->frames_alone)
+        guess_caller(d, &context, &number);
+    while (context.rip && number < MOST_OF_THREAD && d->frame_count < MOST_FRAMES) {
         struct module *m = module_at(d, context.rip);
 
         if (m && open_module(d, m))

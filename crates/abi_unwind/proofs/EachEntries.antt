@@ -5,8 +5,11 @@ use Rattle.seh_num.specs.Answers.{◌>>=◌}
 use Rattle.eh_tables.specs.declared.lookup.FunctionEntry.{FunctionEntry}
 use Rattle.eh_tables.specs.declared.refusal.TableErr.{TableErr}
 use Rattle.eh_tables.specs.Answer.{Table}
-use Rattle.eh_tables.specs.Covering.{index_from, entry_asked, unchained}
-use Rattle.eh_tables.specs.Tables.{Entry, Tables, entry_at}
+use Rattle.eh_tables.specs.Covering.{index_from, unchained}
+use Rattle.eh_tables.specs.EitherEntries.{entry_at, entry_asked}
+use Rattle.eh_tables.specs.Tables as tables
+use Rattle.eh_tables.specs.Tables.{Entry, Tables}
+use Rattle.eh_tables.proofs.EitherAlike.{reads_alike}
 use Rattle.virtual_unwind.specs.CallerOf.{distance}
 use Rattle.abi_unwind.specs.declared.context.AbiContext.{AbiContext}
 use Rattle.abi_unwind.specs.declared.each.EntryErr.TheVariants as refusals
@@ -22,9 +25,9 @@ module _ (t : Tables) (base : ℕ) (m : Memory) (c : AbiContext) where
       → of_entry t base m c (Some e) ≡ numbered t base m c k
   whole_is k e is = ap by_entry is
 
-  pub lone_is : (k : ℕ) (f : FunctionEntry) → Ok (unchained f) ≡ entry_at t k
+  pub lone_is : (k : ℕ) (f : FunctionEntry) → Ok (unchained f) ≡ tables.entry_at t k
       → of_entry t base m c (Some (unchained f)) ≡ numbered t base m c k
-  lone_is k f is = ap by_entry is
+  lone_is k f is = ap by_entry (sym (reads_alike t k (unchained f) (sym is)))
 
   pub refused : (k : ℕ) (x : TableErr) → Err x ≡ entry_at t k
       → Err (refusals.Table x) ≡ shown_each (numbered t base m c k)

@@ -5,9 +5,13 @@ ghost use Rattle.std.specs.Prelude.{◌≡◌, ◌<◌, length, Some};
 ghost use Rattle.eh_index.specs.Ordered.{IsOrdered};
 ghost use Rattle.abi_unwind.specs.Each as spec;
 ghost use Rattle.abi_unwind.specs.Each.{numbered};
+ghost use Rattle.abi_unwind.specs.Ran.{ran_tail};
+ghost use Rattle.abi_unwind.specs.Tail.{tail_at};
+ghost use Rattle.abi_unwind.specs.Version2.{may_end};
 ghost use Rattle.abi_unwind.specs.Views.{shown_each};
 
 use crate::context::AbiContext;
+use crate::epilogues::may_end;
 use crate::frame::AbiCaller;
 use crate::function::{Function, covers, function_of, leaves_inside, leaves_to};
 use crate::tail::{End, trailing};
@@ -15,6 +19,7 @@ use crate::unwinding::{by_codes, establisher, in_epilogue, leaf};
 use eh_index::{Index, lone_function};
 use eh_tables::{Entry, TableErr, Tables};
 use virtual_unwind::UnwindErr;
+use x64_machine::context::Context;
 use x64_memory::space::ReadSpace;
 
 /// Why the caller of a frame isn't found in such a table.
@@ -35,7 +40,7 @@ fn covering<'a>(
 {
     match index.covering(tables, rva) {
         None => Ok(None),
-        Some(number) => match tables.entry(number) {
+        Some(number) => match tables.entry_of_either_version(number) {
             Ok(entry) => Ok(Some(entry)),
             Err(refusal) => Err(EntryErr::Table(refusal)),
         },
@@ -88,6 +93,25 @@ fn unwinding(answer: Result<AbiCaller, UnwindErr>) -> Result<AbiCaller, EntryErr
     }
 }
 
+/// What is left of an epilogue, run, and its end, where one may stand at RIP.
+#[tactic(auto, using(crate::proofs::EachEnds::tails))]
+fn trailing_in<S: ReadSpace>(
+    space: &S,
+    rva: u64,
+    function: &Function,
+    context: &AbiContext,
+) -> Option<(Result<Context, UnwindErr>, End)>
+    ensures { result ≡ ran_tail (S.memory space.now) (Ok context.now.general)
+        (spec.tail_if (tail_at function.now.info.frame_register (S.memory space.now)
+        context.now.general.rip) (may_end function.now rva)) }
+{
+    if !may_end(function, rva) {
+        return None;
+    }
+    let register = function.info.frame_register();
+    trailing(space, register, context.general.rip, &context.general)
+}
+
 #[tactic(auto, using(crate::proofs::EachEnds::ends))]
 fn in_function<S: ReadSpace>(
     tables: &Tables,
@@ -104,8 +128,7 @@ fn in_function<S: ReadSpace>(
     let rva = context.general.rip.wrapping_sub(base);
     let distance = rva.wrapping_sub(function.range.begin as u64);
     let frame = establisher(function.info, &context.general, distance);
-    let register = function.info.frame_register();
-    match trailing(space, register, context.general.rip, &context.general) {
+    match trailing_in(space, rva, function, context) {
         None => unwinding(by_codes(space, frame, rva, function, context)),
         Some((answer, end)) => match is_end(tables, index, base, function, end) {
             Ok(true) => unwinding(in_epilogue(space, frame, context, answer)),
@@ -129,7 +152,7 @@ fn in_entry<S: ReadSpace>(
     ensures { IsOrdered tables.now.ranges index.now → result
         ≡ shown_each (numbered tables.now base (S.memory space.now) context.now number) }
 {
-    match tables.entry(number) {
+    match tables.entry_of_either_version(number) {
         Ok(entry) => {
             let function = function_of(&entry);
             in_function(tables, index, base, space, &function, context)
@@ -139,8 +162,8 @@ fn in_entry<S: ReadSpace>(
 }
 
 /// The same as [`abi_caller_each`] by the number of the entry that covers RIP. Where the entry is
-/// chained to none, its own info alone is read.
-#[tactic(auto, using(crate::proofs::EachEntries::lone_is, crate::proofs::EachEntries::refused))]
+/// chained to none and its info has version 1, that alone is read.
+#[tactic(auto, using(crate::proofs::EachEntries::lone_is))]
 pub fn abi_caller_numbered<S: ReadSpace>(
     tables: &Tables,
     index: &Index<'_>,
@@ -153,17 +176,17 @@ pub fn abi_caller_numbered<S: ReadSpace>(
     ensures { IsOrdered tables.now.ranges index.now → result
         ≡ shown_each (numbered tables.now base (S.memory space.now) context.now number) }
 {
-    let found = match lone_function(tables, number) {
-        Ok(Some(found)) => found,
-        Ok(None) => return in_entry(tables, index, base, space, number, context),
-        Err(refusal) => return Err(EntryErr::Table(refusal)),
-    };
-    let function = Function {
-        range: found.range,
-        info: &found.info,
-        parents: &[],
-    };
-    in_function(tables, index, base, space, &function, context)
+    match lone_function(tables, number) {
+        Ok(Some(found)) => {
+            let function = Function {
+                range: found.range,
+                info: &found.info,
+                parents: &[],
+            };
+            in_function(tables, index, base, space, &function, context)
+        }
+        Ok(None) | Err(_) => in_entry(tables, index, base, space, number, context),
+    }
 }
 
 /// The caller of the frame of a context, as Windows finds it, in an image that lies at `base`, of

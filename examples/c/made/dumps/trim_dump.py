@@ -58,13 +58,8 @@ class Writer:
         return at
 
 
-def main(source, target, *named):
-    data = open(source, 'rb').read()
-    streams = streams_of(data)
-    out = Writer(5)
-    directory = []
-
-    # modules
+def put_modules(out, data, streams, named):
+    """The module list, and the ranges of the named ones."""
     rva = streams[MODULES][1]
     records, kept = b'', []
     for k in range(numbers('I', data, rva)[0]):
@@ -78,61 +73,78 @@ def main(source, target, *named):
         struct.pack_into('<I', record, 20, out.put(struct.pack('<I', len(text)) + text + b'\0\0'))
         record[76:92] = bytes(16)
         records += record
-    modules = struct.pack('<I', len(records) // 108) + records
+    return struct.pack('<I', len(records) // 108) + records, kept
 
-    # threads; the one that raised has the stack from there on
-    raised = {}
-    if EXCEPTION in streams:
-        size, rva = streams[EXCEPTION]
-        exception = bytearray(data[rva:rva + 168])
-        thread = numbers('I', exception, 0)[0]
-        context_size, context_at = numbers('2I', exception, 160)
-        context = data[context_at:context_at + context_size]
-        raised[thread] = numbers('Q', context, 0x98)[0]
-        struct.pack_into('<I', exception, 164, out.put(context))
-        directory.append((EXCEPTION, bytes(exception)))
+
+def put_context(out, data, record, place):
+    """Puts the context that a record names at a place of it, and answers its RSP."""
+    size, at = numbers('2I', record, place)
+    context = data[at:at + size]
+    struct.pack_into('<I', record, place + 4, out.put(context))
+    return numbers('Q', context, 0x98)[0]
+
+
+def put_exception(out, data, streams):
+    """The exception stream, and the stack pointer of the thread that raised it."""
+    rva = streams[EXCEPTION][1]
+    record = bytearray(data[rva:rva + 168])
+    rsp = put_context(out, data, record, 160)
+    return bytes(record), {numbers('I', record, 0)[0]: rsp}
+
+
+def put_threads(out, data, streams, raised):
+    """The thread list, and the ranges of the stacks from the stack pointers on."""
     rva = streams[THREADS][1]
-    records = b''
+    records, kept = b'', []
     for k in range(numbers('I', data, rva)[0]):
         record = bytearray(data[rva + 4 + 48 * k:rva + 52 + 48 * k])
-        thread = numbers('I', record, 0)[0]
         start, size = numbers('QI', record, 24)
-        context_size, context_at = numbers('2I', record, 40)
-        context = data[context_at:context_at + context_size]
-        rsp = raised.get(thread, numbers('Q', context, 0x98)[0])
+        rsp = put_context(out, data, record, 40)
+        rsp = raised.get(numbers('I', record, 0)[0], rsp)
         if start <= rsp < start + size:
             kept.append((rsp, start + size))
             struct.pack_into('<QI', record, 24, rsp, start + size - rsp)
         struct.pack_into('<I', record, 36, 0)
-        struct.pack_into('<I', record, 44, out.put(context))
         records += record
-    threads = struct.pack('<I', len(records) // 48) + records
-    directory += [(THREADS, threads), (MODULES, modules)]
-    size, rva = streams[SYSTEM]
-    directory.append((SYSTEM, data[rva:rva + size]))
+    return struct.pack('<I', len(records) // 48) + records, kept
 
-    # memory, without zeros at the end of a range
+
+def pieces_of(data, streams, kept):
+    """What the ranges have of what is kept: address, and bytes."""
     pieces = []
     for start, held in ranges_of(data, streams):
         for low, high in kept:
             first, last = max(start, low), min(start + len(held), high)
             if first < last:
                 pieces.append((first, held[first - start:last - start]))
-    pieces.sort()
+    return sorted(pieces)
+
+
+def put_memory(out, streams, pieces):
+    """The memory list; of a 64-bit one the offset of its first range is put in later."""
     if MEMORY64 in streams:
         records = b''.join(struct.pack('<2Q', at, len(piece)) for at, piece in pieces)
-        memory = struct.pack('<2Q', len(pieces), 0) + records
-    else:
-        records = b''.join(struct.pack('<QII', at, len(piece), out.put(piece))
-                           for at, piece in pieces)
-        memory = struct.pack('<I', len(pieces)) + records
-    kind = MEMORY64 if MEMORY64 in streams else MEMORY
-    directory.append((kind, memory))
+        return MEMORY64, struct.pack('<2Q', len(pieces), 0) + records
+    records = b''.join(struct.pack('<QII', at, len(piece), out.put(piece)) for at, piece in pieces)
+    return MEMORY, struct.pack('<I', len(pieces)) + records
 
-    for k, (number, piece) in enumerate(directory):
-        struct.pack_into('<3I', out.data, 32 + 12 * k, number, len(piece), out.put(piece))
-    if kind == MEMORY64:
-        at = numbers('I', out.data, 32 + 12 * 4 + 8)[0]
+
+def main(source, target, *named):
+    data = open(source, 'rb').read()
+    streams = streams_of(data)
+    out = Writer(5)
+    modules, kept = put_modules(out, data, streams, named)
+    exception, raised = put_exception(out, data, streams)
+    threads, stacks = put_threads(out, data, streams, raised)
+    size, rva = streams[SYSTEM]
+    pieces = pieces_of(data, streams, kept + stacks)
+    memory = put_memory(out, streams, pieces)
+    directory = [(EXCEPTION, exception), (THREADS, threads), (MODULES, modules),
+                 (SYSTEM, data[rva:rva + size]), memory]
+    for k, (kind, piece) in enumerate(directory):
+        at = out.put(piece)
+        struct.pack_into('<3I', out.data, 32 + 12 * k, kind, len(piece), at)
+    if memory[0] == MEMORY64:
         struct.pack_into('<Q', out.data, at + 8, len(out.data))
         out.data += b''.join(piece for _at, piece in pieces)
     out.data[0:32] = data[0:8] + struct.pack('<2I', len(directory), 32) + data[16:32]
