@@ -5,13 +5,13 @@
  * registers, all of which the caller passes. They look at no file, no process and no state of
  * their own, and may be called from any number of threads at once. What each answers is proved to
  * be what the definitions say: those of the Microsoft x64 ABI ("x64 exception handling") as crates
- * pe_image, eh_tables, eh_index, virtual_unwind, unwind_check and seh_c have them, in specs/.
- * docs/LIBRARY.md says how to build the library, and how to use it: what to
- * pass, what each refusal means, what costs what, and which images are outside.
+ * pe_image, eh_tables, eh_index, abi_unwind, virtual_unwind, unwind_check, seh_views and seh_c have
+ * them, in specs/. docs/LIBRARY.md says how to build the library, and how to use it: what to pass,
+ * what each refusal means, what costs what, and which images are outside.
  *
  * seh_open looks at an image once, and fills a seh_view, plain data that the caller owns: nothing is
- * to be closed. The other functions but seh_validate take a view. A view may be copied, and lasts as long as the bytes
- * and the index that it points to. But for these two pointers and their counts a view is trusted for
+ * to be closed. The other functions take a view. A view may be copied, and lasts as long as the
+ * bytes and the index that it points to. But for these two pointers and their counts a view is trusted for
  * nothing: whatever its numbers are, a call is safe and ends. By a view that seh_open filled, with
  * the bytes and the index as they were then, each answer is exact: that of opening the image anew. By
  * any other, an entry that is found is still one of the table in these bytes, and covers the address;
@@ -33,11 +33,11 @@
  *    points to may be read for as long as the call takes (of the last parameters: written).
  *  - Nothing else writes what is passed, and what is written overlaps nothing else that is passed.
  *  - A count of bytes, or of elements times their size, is below 2^63.
- *  - 64 KiB of stack are left, and for seh_validate 1 MiB.
+ *  - 64 KiB of stack are left, and for seh_check 1 MiB.
  *  - malloc, realloc and free are one allocator's, which aligns a block as C demands. No call is
  *    made in a signal handler that may have interrupted malloc. A call takes one block, of 32 bytes
  *    for each section of the image, since an image may have up to 65,535 of them; seh_scopes takes
- *    more for the imports, and seh_validate for the instructions of a function at a time. A call
+ *    more for the imports, and seh_check for the instructions of a function at a time. A call
  *    gives back all that it takes; what it answers holds none.
  *
  * Addresses in an image (RVAs) count from its base. All numbers are little-endian, as in the
@@ -55,7 +55,7 @@ extern "C" {
 #endif
 
 /* The version of what is declared here. It grows where a declaration changes. */
-#define SEH_VERSION 2
+#define SEH_VERSION 3
 
 /* How a call ended. Where it isn't SEH_OK, `at` and `more` of seh_status are what is said here, and
    0 where nothing is. */
@@ -66,6 +66,8 @@ enum seh_code {
     SEH_NO_MEMORY = 2,   /* malloc answered null; nothing is said of what was passed */
     SEH_MORE = 3,        /* the array is full, and there is more */
     SEH_NO_FUNCTION = 4, /* no entry covers the address: code there is a leaf function */
+    SEH_END = 5,         /* by seh_walk_modules: RIP is 0, where a stack ends */
+    SEH_UNKNOWN_CODE = 6, /* by seh_walk_modules: RIP, which is `at`, lies in no module */
 
     /* The bytes are no image: the first check that fails. */
     SEH_IMAGE_TRUNCATED = 16, /* the header at offset `at` passes the end of the bytes */
@@ -73,11 +75,11 @@ enum seh_code {
     SEH_IMAGE_MACHINE = 18,   /* the field Machine is `at`, and not 0x8664 */
     SEH_IMAGE_MAGIC = 19,     /* the field Magic is `at`, and not 0x20B */
     SEH_IMAGE_LAYOUT = 20,    /* section number `at` doesn't lie as it must in bytes and image */
-    SEH_IMAGE_IMPORT = 21,    /* import number `at` can't be read; by seh_scopes and seh_validate */
+    SEH_IMAGE_IMPORT = 21,    /* import number `at` can't be read; by seh_scopes and seh_check */
 
     /* The function table, or the entry that is asked, can't be read: the first check that fails.
        `at` is the number of the entry, but for the first two. seh_open looks at the ranges of all
-       entries and at nothing else of them, seh_validate at all, the others at the one entry. */
+       entries and at nothing else of them, seh_check at all, the others at the one entry. */
     SEH_TABLE_TRUNCATED = 32,   /* the table or unwind info at RVA `at` isn't stored whole */
     SEH_TABLE_MISALIGNED = 33,  /* the table or unwind info at RVA `at` isn't 4-aligned */
     SEH_TABLE_EMPTY_RANGE = 34, /* the entry's begin isn't below its end */
@@ -92,7 +94,8 @@ enum seh_code {
     /* The caller of a frame isn't found. */
     SEH_UNREADABLE = 48, /* the word of the stack at address `at` is needed, and no range has it:
                             pass more memory, and call again */
-    SEH_BACKWARD = 49    /* the caller's stack pointer wouldn't be above `at`, that of the frame */
+    SEH_BACKWARD = 49    /* the caller's stack pointer wouldn't be above `at`, that of the frame;
+                            in a walk, and by SEH_PROFILE_OWN */
 };
 
 /* How a call ended: one of enum seh_code, and the numbers that it speaks of. */
@@ -111,12 +114,25 @@ typedef struct seh_range {
     size_t size;
 } seh_range;
 
-/* RIP, RSP and the other nonvolatile integer registers (Microsoft x64 ABI, "Caller/callee saved
-   registers"): what a caller can rely on. XMM6 to XMM15 aren't tracked; codes that save them are
-   passed over. */
+/* A vector register of sixteen bytes, the low eight first. */
+typedef struct seh_vector {
+    uint64_t low, high;
+} seh_vector;
+
+/* RIP, RSP, the other nonvolatile integer registers, and XMM6 to XMM15 (Microsoft x64 ABI,
+   "Caller/callee saved registers"): what a caller can rely on. Where the vector registers aren't
+   known, has_vectors is 0; then those of a frame's caller don't count either. */
 typedef struct seh_context {
     uint64_t rip, rsp, rbx, rbp, rsi, rdi, r12, r13, r14, r15;
+    seh_vector xmm[10];   /* XMM6 to XMM15 */
+    uint32_t has_vectors; /* not 0: they count */
 } seh_context;
+
+/* What may be set in the options of a view: frames are found by the project's own profile of the
+   unwind procedure, in place of Windows' own. It looks for an epilogue past the prologue alone,
+   knows fewer ends of epilogues, restores no vector register, so that has_vectors of a caller is 0,
+   and refuses a frame whose caller's stack pointer isn't above its own. */
+enum { SEH_PROFILE_OWN = 1 };
 
 /* An image that was opened, and where it lies in a process; seh_open fills it. */
 typedef struct seh_view {
@@ -131,6 +147,7 @@ typedef struct seh_view {
     uint64_t functions;      /* how many entries its function table has */
     uint32_t shift;          /* how many low bits of an RVA the index leaves out */
     uint32_t mapped;         /* 0: the bytes are the image's file; else as a loader mapped it */
+    uint32_t options;        /* 0, or SEH_PROFILE_OWN; it may be set anew */
 } seh_view;
 
 /* A frame. */
@@ -138,13 +155,14 @@ typedef struct seh_frame {
     seh_context caller;    /* the registers of its caller, after the return */
     uint64_t establisher;  /* the establisher frame: the frame register less its offset where it is
                               set, else RSP */
-    uint64_t module_index; /* 0 */
+    uint64_t module_index; /* by seh_walk_modules, the index of the view that has its code; else 0 */
     uint32_t begin, end;   /* RVAs: the code of the entry that covers RIP, from begin to before end;
                               both are 0 in a leaf function, which has no entry */
     uint32_t handler;      /* the RVA of its language handler, where has_handler */
-    bool has_handler;      /* in a body with a handler, which may then be asked */
-    bool in_body;          /* RIP is in the body of a function, and not in its prologue or epilogue,
-                              nor in a leaf function */
+    bool has_handler;      /* there is a handler, which is asked: not in an epilogue, nor in a
+                              prologue */
+    bool in_body;          /* by SEH_PROFILE_OWN: RIP is in the body of a function, and not in its
+                              prologue or epilogue, nor in a leaf function; else false */
 } seh_frame;
 
 /* An entry of a function table, with its unwind info (Microsoft x64 ABI, "struct
@@ -225,9 +243,9 @@ seh_status seh_open(const uint8_t *bytes, size_t size, bool mapped, uint64_t bas
 seh_status seh_find_function(const seh_view *view, uint32_t rva, seh_function *function);
 
 /*
- * Finds the caller of a frame: one virtual unwind, as of a leaf function, or of a place in the
- * prologue, the body or an epilogue of the entry that covers RIP. The code of the image is at the
- * view's base as its bytes have it, but where a range has other bytes.
+ * Finds the caller of a frame: one virtual unwind, as RtlVirtualUnwind makes it, of a leaf function,
+ * or of a place in the prologue, the body or an epilogue of the entry that covers RIP. The code of
+ * the image is at the view's base as its bytes have it, but where a range has other bytes.
  *
  * ranges, count the memory, in ascending order
  * context       the registers in the frame
@@ -237,7 +255,8 @@ seh_status seh_unwind(const seh_view *view, const seh_range *ranges, size_t coun
                       const seh_context *context, seh_frame *frame);
 
 /*
- * Finds the frames from a context on, innermost first, as far as RIP lies in the image.
+ * Finds the frames from a context on, innermost first, as far as RIP lies in the image and the stack
+ * pointer rises.
  *
  * frames, room  an array, and how many frames it has room for
  * written       how many were written; set by each call, to 0 where the image or the memory is
@@ -252,6 +271,27 @@ seh_status seh_unwind(const seh_view *view, const seh_range *ranges, size_t coun
  */
 seh_status seh_walk(const seh_view *view, const seh_range *ranges, size_t count,
                     const seh_context *context, seh_frame *frames, size_t room, uint64_t *written);
+
+/*
+ * Finds the frames from a context on, innermost first, through all images of a process. Which of
+ * them has the code is asked by base and size; of several that do, the one of the frame before is
+ * taken, else the first.
+ *
+ * views, view_count  the images, in any order, each at its base; each as seh_open filled it
+ * frames, room       an array, and how many frames it has room for; each frame has the index of
+ *                    its view
+ * written            how many were written; set by each call
+ *
+ * SEH_END            RIP of the last frame's caller is 0
+ * SEH_UNKNOWN_CODE   it lies in none of the images
+ * SEH_MORE           the array is full: call again with the last frame's caller
+ *
+ * Where a frame is refused, the frames below it have been written, and the answer is that of
+ * seh_walk for it. Each frame costs what seh_unwind costs, and the views in the worst case.
+ */
+seh_status seh_walk_modules(const seh_view *views, size_t view_count, const seh_range *ranges,
+                            size_t count, const seh_context *context, seh_frame *frames,
+                            size_t room, uint64_t *written);
 
 /*
  * Finds the scope records of the entry that covers an address which hold it, innermost first: the
@@ -269,6 +309,15 @@ seh_status seh_scopes(const seh_view *view, uint32_t rva, seh_scope *scopes, siz
                       uint64_t *written);
 
 /*
+ * Finds the same where the caller knows which handler is __C_specific_handler, as by symbols: at the
+ * RVA `handler`, as unwind infos name it (seh_function has it). None are there where the entry's
+ * handler is another one. No import is read, and the order of the table isn't checked anew. The
+ * records are given as they are stored: their addresses may lie outside the image.
+ */
+seh_status seh_scopes_of(const seh_view *view, uint32_t rva, uint32_t handler, seh_scope *scopes,
+                         size_t room, uint64_t *written);
+
+/*
  * Tells whether the code of an image keeps its unwind information: of each entry, that each
  * instruction of its prologue is what its unwind code says, that its body leaves RSP, the frame
  * register and nonvolatile registers that aren't saved alone, and that its epilogues undo the
@@ -284,8 +333,8 @@ seh_status seh_scopes(const seh_view *view, uint32_t rva, seh_scope *scopes, siz
  *                    where there are none, any code
  * verdict            what is found; written with SEH_OK alone
  */
-seh_status seh_validate(const uint8_t *bytes, size_t size, bool mapped, const uint8_t *probe,
-                        size_t probe_size, seh_verdict *verdict);
+seh_status seh_check(const seh_view *view, const uint8_t *probe, size_t probe_size,
+                     seh_verdict *verdict);
 
 /* The name of a code of enum seh_code; null where there is none. */
 static inline const char *seh_code_name(uint32_t code)
@@ -296,6 +345,8 @@ static inline const char *seh_code_name(uint32_t code)
     case SEH_NO_MEMORY: return "SEH_NO_MEMORY";
     case SEH_MORE: return "SEH_MORE";
     case SEH_NO_FUNCTION: return "SEH_NO_FUNCTION";
+    case SEH_END: return "SEH_END";
+    case SEH_UNKNOWN_CODE: return "SEH_UNKNOWN_CODE";
     case SEH_IMAGE_TRUNCATED: return "SEH_IMAGE_TRUNCATED";
     case SEH_IMAGE_NOT_PE: return "SEH_IMAGE_NOT_PE";
     case SEH_IMAGE_MACHINE: return "SEH_IMAGE_MACHINE";

@@ -16,7 +16,7 @@ use std::fmt;
 use std::marker::PhantomData;
 
 /// The version of the declarations, `SEH_VERSION`.
-pub const VERSION: u32 = 2;
+pub const VERSION: u32 = 3;
 
 /// How a call ended: one of `enum seh_code` in `seh.h`, and the numbers that it speaks of.
 #[repr(C)]
@@ -39,6 +39,8 @@ impl Status {
             2 => "SEH_NO_MEMORY",
             3 => "SEH_MORE",
             4 => "SEH_NO_FUNCTION",
+            5 => "SEH_END",
+            6 => "SEH_UNKNOWN_CODE",
             16 => "SEH_IMAGE_TRUNCATED",
             17 => "SEH_IMAGE_NOT_PE",
             18 => "SEH_IMAGE_MACHINE",
@@ -82,6 +84,12 @@ pub const MORE: u32 = 3;
 /// `SEH_NO_FUNCTION`: no entry covers the address.
 pub const NO_FUNCTION: u32 = 4;
 
+/// `SEH_END`: RIP is 0, where a stack ends.
+pub const END: u32 = 5;
+
+/// `SEH_UNKNOWN_CODE`: RIP lies in no module.
+pub const UNKNOWN_CODE: u32 = 6;
+
 /// In which form the bytes of an image are given.
 #[derive(Clone, Copy, Debug, PartialEq, Eq)]
 pub enum Layout {
@@ -124,7 +132,15 @@ impl<'a> Range<'a> {
     }
 }
 
-/// RIP, RSP and the other nonvolatile integer registers.
+/// A vector register of sixteen bytes.
+#[repr(C)]
+#[derive(Clone, Copy, Debug, Default, PartialEq, Eq)]
+pub struct Vector {
+    pub low: u64,
+    pub high: u64,
+}
+
+/// RIP, RSP, the other nonvolatile integer registers, and XMM6 to XMM15.
 #[repr(C)]
 #[derive(Clone, Copy, Debug, Default, PartialEq, Eq)]
 pub struct Context {
@@ -138,6 +154,10 @@ pub struct Context {
     pub r13: u64,
     pub r14: u64,
     pub r15: u64,
+    /// XMM6 to XMM15.
+    pub xmm: [Vector; 10],
+    /// Not 0: the vector registers count.
+    pub has_vectors: u32,
 }
 
 /// A frame.
@@ -148,7 +168,7 @@ pub struct Frame {
     pub caller: Context,
     /// The establisher frame.
     pub establisher: u64,
-    /// 0.
+    /// Of a walk through modules, the index of the view that has its code; else 0.
     pub module_index: u64,
     /// The code of the entry that covers RIP, from `begin` to before `end`, as RVAs; both are 0 in a
     /// leaf function.
@@ -156,9 +176,9 @@ pub struct Frame {
     pub end: u32,
     /// The RVA of its language handler, where `has_handler`.
     pub handler: u32,
-    /// Whether it is in a body with a handler.
+    /// Whether there is a handler, which is asked.
     pub has_handler: bool,
-    /// Whether RIP is in the body of a function.
+    /// By [`PROFILE_OWN`], whether RIP is in the body of a function.
     pub in_body: bool,
 }
 
@@ -205,6 +225,9 @@ pub struct Verdict {
     pub rule: u32,
 }
 
+/// `SEH_PROFILE_OWN`, for the options of a view: frames are found by the project's own profile.
+pub const PROFILE_OWN: u32 = 1;
+
 /// An image that was opened, and where it lies in a process, `seh_view`.
 #[repr(C)]
 #[derive(Clone, Copy)]
@@ -221,6 +244,8 @@ pub struct View<'a> {
     functions: u64,
     shift: u32,
     mapped: u32,
+    /// 0, or [`PROFILE_OWN`].
+    pub options: u32,
     held: PhantomData<&'a [u8]>,
 }
 
@@ -241,11 +266,7 @@ mod c {
             index: *mut u32,
             room: usize,
         ) -> Status;
-        pub fn seh_find_function(
-            view: *const c_void,
-            rva: u32,
-            function: *mut Function,
-        ) -> Status;
+        pub fn seh_find_function(view: *const c_void, rva: u32, function: *mut Function) -> Status;
         pub fn seh_unwind(
             view: *const c_void,
             ranges: *const Range<'_>,
@@ -262,6 +283,16 @@ mod c {
             room: usize,
             written: *mut u64,
         ) -> Status;
+        pub fn seh_walk_modules(
+            views: *const c_void,
+            view_count: usize,
+            ranges: *const Range<'_>,
+            count: usize,
+            context: *const Context,
+            frames: *mut Frame,
+            room: usize,
+            written: *mut u64,
+        ) -> Status;
         pub fn seh_scopes(
             view: *const c_void,
             rva: u32,
@@ -269,10 +300,16 @@ mod c {
             room: usize,
             written: *mut u64,
         ) -> Status;
-        pub fn seh_validate(
-            bytes: *const u8,
-            size: usize,
-            mapped: bool,
+        pub fn seh_scopes_of(
+            view: *const c_void,
+            rva: u32,
+            handler: u32,
+            scopes: *mut Scope,
+            room: usize,
+            written: *mut u64,
+        ) -> Status;
+        pub fn seh_check(
+            view: *const c_void,
             probe: *const u8,
             probe_size: usize,
             verdict: *mut Verdict,
@@ -313,6 +350,7 @@ impl<'a> View<'a> {
             functions: 0,
             shift: 0,
             mapped: 0,
+            options: 0,
             held: PhantomData,
         };
         let status = unsafe {
@@ -404,19 +442,7 @@ impl<'a> View<'a> {
     /// The frames from a context on, innermost first, one after another: as far as RIP lies in the
     /// image, or up to the first that is refused.
     pub fn frames<'r>(&'r self, ranges: &'r [Range<'r>], context: Context) -> Frames<'r> {
-        Frames {
-            view: *self,
-            ranges,
-            context,
-            found: [Frame::default(); SOME],
-            count: 0,
-            given: 0,
-            status: Status {
-                code: MORE,
-                at: 0,
-                more: 0,
-            },
-        }
+        Frames::new(Code::View(*self), ranges, context)
     }
 
     /// The scope records of the entry that covers an RVA which hold it, innermost first: how many
@@ -434,35 +460,81 @@ impl<'a> View<'a> {
         };
         (written as usize, status)
     }
+
+    /// The same where the RVA of `__C_specific_handler` is known, as unwind infos name it: no import
+    /// is read.
+    pub fn scopes_of(&self, rva: u32, handler: u32, scopes: &mut [Scope]) -> (usize, Status) {
+        let mut written = 0;
+        let status = unsafe {
+            c::seh_scopes_of(
+                self.pointer(),
+                rva,
+                handler,
+                scopes.as_mut_ptr(),
+                scopes.len(),
+                &mut written,
+            )
+        };
+        (written as usize, status)
+    }
+
+    /// Whether the code of the image keeps its unwind information; `probe` is the code of its stack
+    /// probe, `__chkstk`.
+    ///
+    /// # Panics
+    /// Where `probe` has more than 4,096 bytes.
+    pub fn check(&self, probe: &[u8]) -> Result<Verdict, Status> {
+        assert!(probe.len() <= 4096, "the code of a stack probe");
+        let mut verdict = Verdict::default();
+        let status =
+            unsafe { c::seh_check(self.pointer(), probe.as_ptr(), probe.len(), &mut verdict) };
+        answer(status, verdict)
+    }
 }
 
-/// Whether the code of an image keeps its unwind information; `probe` is the code of its stack
-/// probe, `__chkstk`.
-///
-/// # Panics
-/// Where `probe` has more than 4,096 bytes.
-pub fn validate(bytes: &[u8], layout: Layout, probe: &[u8]) -> Result<Verdict, Status> {
-    assert!(probe.len() <= 4096, "the code of a stack probe");
-    let mut verdict = Verdict::default();
+/// The frames from a context on, through all images of a process, each at its base, as far as RIP
+/// lies in one of them and `frames` has room: how many were written, and why no more (`END`,
+/// `UNKNOWN_CODE`, `MORE`, or a refusal).
+pub fn walk_modules(
+    views: &[View<'_>],
+    ranges: &[Range<'_>],
+    context: &Context,
+    frames: &mut [Frame],
+) -> (usize, Status) {
+    let mut written = 0;
     let status = unsafe {
-        c::seh_validate(
-            bytes.as_ptr(),
-            bytes.len(),
-            layout == Layout::Mapped,
-            probe.as_ptr(),
-            probe.len(),
-            &mut verdict,
+        c::seh_walk_modules(
+            views.as_ptr().cast(),
+            views.len(),
+            ranges.as_ptr(),
+            ranges.len(),
+            context,
+            frames.as_mut_ptr(),
+            frames.len(),
+            &mut written,
         )
     };
-    answer(status, verdict)
+    (written as usize, status)
+}
+
+/// The frames of a stack from a context on, innermost first, through all images of a process. After
+/// the last one comes its end as an error: `END`, `UNKNOWN_CODE`, or a refusal.
+pub fn stack<'r>(views: &'r [View<'r>], ranges: &'r [Range<'r>], context: Context) -> Frames<'r> {
+    Frames::new(Code::Modules(views), ranges, context)
 }
 
 /// How many frames [`Frames`] finds at once.
 const SOME: usize = 32;
 
-/// An iterator over frames; [`View::frames`] makes it.
+/// Whose code the frames of an iterator have.
+enum Code<'r> {
+    View(View<'r>),
+    Modules(&'r [View<'r>]),
+}
+
+/// An iterator over frames; [`View::frames`] and [`stack`] make it.
 pub struct Frames<'r> {
-    view: View<'r>,
+    code: Code<'r>,
     ranges: &'r [Range<'r>],
     context: Context,
     found: [Frame; SOME],
@@ -471,7 +543,23 @@ pub struct Frames<'r> {
     status: Status,
 }
 
-impl Frames<'_> {
+impl<'r> Frames<'r> {
+    fn new(code: Code<'r>, ranges: &'r [Range<'r>], context: Context) -> Frames<'r> {
+        Frames {
+            code,
+            ranges,
+            context,
+            found: [Frame::default(); SOME],
+            count: 0,
+            given: 0,
+            status: Status {
+                code: MORE,
+                at: 0,
+                more: 0,
+            },
+        }
+    }
+
     /// The registers after the frames that were given: those of the last one's caller.
     pub fn context(&self) -> Context {
         self.context
@@ -483,7 +571,12 @@ impl Iterator for Frames<'_> {
 
     fn next(&mut self) -> Option<Result<Frame, Status>> {
         if self.given == self.count && self.status.code == MORE {
-            (self.count, self.status) = self.view.walk(self.ranges, &self.context, &mut self.found);
+            (self.count, self.status) = match &self.code {
+                Code::View(view) => view.walk(self.ranges, &self.context, &mut self.found),
+                Code::Modules(views) => {
+                    walk_modules(views, self.ranges, &self.context, &mut self.found)
+                }
+            };
             self.given = 0;
         }
         if self.given < self.count {

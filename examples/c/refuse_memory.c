@@ -65,9 +65,17 @@ static seh_status unwind(void)
     return seh_unwind(&view, &range, 1, &context, &frame);
 }
 
-static seh_status validate(void)
+static seh_status check(void)
 {
-    return seh_validate(file, size, false, file, 0, &verdict);
+    return seh_check(&view, file, 0, &verdict);
+}
+
+static seh_status walk_modules(void)
+{
+    seh_range range = {0x1000, stack, sizeof stack};
+    seh_context context = {.rip = 0x140001000, .rsp = 0x1000};
+
+    return seh_walk_modules(&view, 1, &range, 1, &context, &frame, 1, &written);
 }
 
 static seh_status scopes(void)
@@ -109,7 +117,8 @@ int main(int argc, char **argv)
     wrong += refuse("seh_open", open_image, &opened, sizeof opened);
     wrong += refuse("seh_find_function", find, &function, sizeof function);
     wrong += refuse("seh_unwind", unwind, &frame, sizeof frame);
-    wrong += refuse("seh_validate", validate, &verdict, sizeof verdict);
+    wrong += refuse("seh_walk_modules", walk_modules, &frame, sizeof frame);
+    wrong += refuse("seh_check", check, &verdict, sizeof verdict);
     wrong += refuse("seh_scopes", scopes, &written, sizeof written);
     return wrong != 0;
 }

@@ -149,6 +149,15 @@ static bool walks(void)
     return status.code == SEH_OK && written == FRAMES && frames[FRAMES - 1].caller.rip == 0;
 }
 
+static bool walks_modules(void)
+{
+    uint64_t written;
+    seh_status status =
+        seh_walk_modules(&view, 1, &range, 1, &context, frames, FRAMES, &written);
+
+    return status.code == SEH_END && written == FRAMES && frames[FRAMES - 1].caller.rip == 0;
+}
+
 static int traced;
 
 static _Unwind_Reason_Code count_frame(struct _Unwind_Context *at, void *unused)
@@ -198,10 +207,27 @@ static void print(const char *what, double without, double with)
     wrong += without < 0 || with < 0;
 }
 
+static const struct {
+    const char *name;
+    bool (*call)(void);
+    int count;
+    uint32_t options;
+} rows[] = {
+    {"seh_open", opens, 1, 0},
+    {"seh_find_function", finds, FRAMES, 0},
+    {"seh_unwind", unwinds, FRAMES, 0},
+    {"seh_walk, a frame", walks, FRAMES, 0},
+    {"seh_walk_modules, a frame", walks_modules, FRAMES, 0},
+    {"seh_unwind, SEH_PROFILE_OWN", unwinds, FRAMES, SEH_PROFILE_OWN},
+    {"seh_walk, a frame, SEH_PROFILE_OWN", walks, FRAMES, SEH_PROFILE_OWN},
+};
+
+enum { ROWS = sizeof rows / sizeof rows[0] };
+
 int main(void)
 {
     uint32_t state = 1;
-    double times[4][2];
+    double times[ROWS][2], trace;
 
     make_image();
     for (int k = 0; k < FRAMES; k++)
@@ -212,17 +238,16 @@ int main(void)
         put(stack + 48 * k + 40, k == FRAMES - 1 ? 0 : places[k + 1], 8);
     for (int k = 0; k < 2; k++) {
         room = k ? NUMBERS : 0;
-        times[0][k] = time_of(opens, 1);
-        times[1][k] = time_of(finds, FRAMES);
-        times[2][k] = time_of(unwinds, FRAMES);
-        times[3][k] = time_of(walks, FRAMES);
+        opens();
+        for (int row = 0; row < ROWS; row++) {
+            view.options = rows[row].options;
+            times[row][k] = time_of(rows[row].call, rows[row].count);
+        }
     }
     printf("%-40s %8s %8s\n", "10,000 entries; ns", "no index", "1,024");
-    print("seh_open", times[0][0], times[0][1]);
-    print("seh_find_function", times[1][0], times[1][1]);
-    print("seh_unwind", times[2][0], times[2][1]);
-    print("seh_walk, a frame", times[3][0], times[3][1]);
-    times[0][0] = deep(DEPTH);
-    printf("%-40s %8.0f\n", "_Unwind_Backtrace of libgcc, a frame", times[0][0]);
-    return wrong != 0 || times[0][0] < 0;
+    for (int row = 0; row < ROWS; row++)
+        print(rows[row].name, times[row][0], times[row][1]);
+    trace = deep(DEPTH);
+    printf("%-40s %8.0f\n", "_Unwind_Backtrace of libgcc, a frame", trace);
+    return wrong != 0 || trace < 0;
 }

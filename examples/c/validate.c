@@ -8,6 +8,7 @@
 #include <stdio.h>
 
 static uint8_t file[1 << 22], probe[4096];
+static uint32_t no_index;
 
 static size_t read_file(const char *name, uint8_t *bytes, size_t room)
 {
@@ -28,8 +29,11 @@ int main(int argc, char **argv)
     size_t size = argc > 1 ? read_file(argv[1], file, sizeof file) : 0;
     size_t probe_size = argc > 2 ? read_file(argv[2], probe, sizeof probe) : 0;
     seh_verdict verdict;
-    seh_status status = seh_validate(file, size, false, probe, probe_size, &verdict);
+    seh_view view;
+    seh_status status = seh_open(file, size, false, 0, &view, &no_index, 0);
 
+    if (status.code == SEH_OK)
+        status = seh_check(&view, probe, probe_size, &verdict);
     if (status.code != SEH_OK) {
         printf("refused %" PRIu32 " at %" PRIx64 "\n", status.code, status.at);
         return 1;

@@ -15,7 +15,20 @@ use Rattle.abi_unwind.specs.Undone.{popped_abi}
 use Rattle.abi_unwind.specs.Caller.{AbiFrame, found, establisher, ran, abi_at}
 use Rattle.abi_unwind.specs.Ran.{ran_tail}
 use Rattle.abi_unwind.specs.Views.{shown, shown_each}
-use Rattle.abi_unwind.specs.Each.{Each, of_unwind, is_end, kept, of_entry}
+use Rattle.abi_unwind.specs.Each.{Each, of_unwind, is_end, kept, tail_if, tail_in, of_entry}
+
+-- a trailing part, where an epilogue may stand
+pub nothing_there : (m : Memory) (c : Context) (o : Option Tail) (b : Bool) → b ≡ false
+    → None ≡ ran_tail m (Ok c) (tail_if o b)
+nothing_there m c o true e = absurd cc
+nothing_there m c o false e = refl
+
+pub all_there : (m : Memory) (c : Context) (o : Option Tail) (b : Bool) → b ≡ true
+    → ran_tail m (Ok c) o ≡ ran_tail m (Ok c) (tail_if o b)
+all_there m c o true e = refl
+all_there m c o false e = absurd cc
+
+pub ruleset tails = (nothing_there, all_there)
 
 one_pair : {x y : Answer Context × End} → Some x ≡ Some y → x ≡ y
 one_pair e = cc
@@ -53,42 +66,42 @@ none_kept t base m e a None h = refl
 none_kept t base m e a (Some x) h = absurd cc
 
 module _ (t : Tables) (base : ℕ) (m : Memory) (c : AbiContext) (e : Entry) where
-  pub no_tail : None ≡ ran_tail m (Ok c.general) (tail_at e.info.frame_register m c.general.rip)
+  pub no_tail : None ≡ ran_tail m (Ok c.general) (tail_in base m c e)
       → of_entry t base m c (Some e) ≡ of_unwind (abi_at m c (distance base c.general.rip) e None)
   no_tail h = ap (λ r. r >>= frame_at base m c e)
-      (none_kept t base m e (Ok c.general) (tail_at e.info.frame_register m c.general.rip) h)
+      (none_kept t base m e (Ok c.general) (tail_in base m c e) h)
 
   pub by_end : (a : Answer Context) (end : End) (r : Each Bool)
-      → Some (a, end) ≡ ran_tail m (Ok c.general) (tail_at e.info.frame_register m c.general.rip)
+      → Some (a, end) ≡ ran_tail m (Ok c.general) (tail_in base m c e)
       → r ≡ is_end t base e end
       → (tail : Tail) × ((a ≡ ran m tail.parts c.general)
       × (of_entry t base m c (Some e)
       ≡ ((r >>= λ b. Ok (parts_if tail b)) >>= frame_at base m c e)))
   by_end a end r h k =
       let w = asked t base m e (Ok c.general) a end
-      (tail_at e.info.frame_register m c.general.rip) h in (
+      (tail_in base m c e) h in (
         w.0,
         (
           w.1.1.1,
           ap (λ x. x >>= frame_at base m c e)
-              (kept_by t base e (tail_at e.info.frame_register m c.general.rip) w.0 end r w.1.0
+              (kept_by t base e (tail_in base m c e) w.0 end r w.1.0
               w.1.1.0 k),
         ),
       )
 
   pub no_end : (a : Answer Context) (end : End)
-      → Some (a, end) ≡ ran_tail m (Ok c.general) (tail_at e.info.frame_register m c.general.rip)
+      → Some (a, end) ≡ ran_tail m (Ok c.general) (tail_in base m c e)
       → Ok false ≡ is_end t base e end
       → of_entry t base m c (Some e) ≡ of_unwind (abi_at m c (distance base c.general.rip) e None)
   no_end a end h k = (by_end a end (Ok false) h k).1.1
 
   pub refused_end : (a : Answer Context) (end : End) (x : EntryErr)
-      → Some (a, end) ≡ ran_tail m (Ok c.general) (tail_at e.info.frame_register m c.general.rip)
+      → Some (a, end) ≡ ran_tail m (Ok c.general) (tail_in base m c e)
       → Err x ≡ is_end t base e end → of_entry t base m c (Some e) ≡ Err x
   refused_end a end x h k = (by_end a end (Err x) h k).1.1
 
   pub at_end : (a : Answer Context) (end : End)
-      → Some (a, end) ≡ ran_tail m (Ok c.general) (tail_at e.info.frame_register m c.general.rip)
+      → Some (a, end) ≡ ran_tail m (Ok c.general) (tail_in base m c e)
       → Ok true ≡ is_end t base e end
       → of_entry t base m c (Some e)
       ≡ of_unwind (found (establisher e.info c.general

@@ -32,14 +32,8 @@ use Rattle.abi_unwind.specs.Laws.{is_plain_end}
 use Rattle.abi_unwind.specs.Tail.{byte, short, long, sized, is_add, is_lea, popping, opening, end_at}
 
 -- what the leading bytes spell, as an item
-abbrev item : List ℕ → Option FetchedInstr
+abbrev pub item : List ℕ → Option FetchedInstr
 item b = item_of b (leading b)
-
-one_more : (n : ℕ) → suc n - n ≡ 1
-one_more n = omega arith
-
-two_more : (n : ℕ) → suc (suc n) - n ≡ 2
-two_more n = omega arith
 
 -- ---- pops
 
@@ -100,7 +94,7 @@ made b i k = Some (record { instr = i; size = k; plain = is_plain b k i })
 abbrev shown : List ℕ → Read Instr → Option FetchedInstr
 shown b r = item_of b (option_map (λ x. (x.0, length b - length x.1)) r)
 
-item_is : (b rest : List ℕ) (i : Instr) (k : ℕ) → instr b ≡ Some (i, rest)
+pub item_is : (b rest : List ℕ) (i : Instr) (k : ℕ) → instr b ≡ Some (i, rest)
     → length b - length rest ≡ k → item b ≡ made b i k
 item_is b rest i k e n = ap (shown b) e ∙ ap (made b i) n
 
@@ -441,85 +435,3 @@ pub opened_alike : (f : ℕ) (b : List ℕ) (q : Part) (k : ℕ) → not (f % 8 
 opened_alike f b q k s e =
     opening_cases f b q k (is_add 0x83 b) (is_add 0x81 b) (is_lea f 1 b) (is_lea f 2 b)
     refl refl refl refl s e
-
--- ---- the end
-
-pub record Ended (f at : ℕ) (b : List ℕ) : Type 0 where
-  pub instr : Instr
-  pub size : ℕ
-  pub is : item b ≡ made b instr size
-  pub role : role_of f (is_plain b size instr) instr ≡ Ends
-  pub does : (m : Memory) (c : Context) → left_by m instr c ≡ popped m c
-  pub certain : end_at at b ≡ Some Certain
-
-return_spelled : (rest : List ℕ) → instr (0xC3 ∷ rest) ≡ Some (instrs.Return, rest)
-unfolding instr after_size after_prefixes row plain_row
-return_spelled rest = refl
-
-abbrev jumped : ℕ → Instr
-jumped n =
-    instrs.Jump (Indirect (places.Memory
-    (record { base = bases.Rip; index = None; displacement = n })))
-
-jump_spelled : (a b c d : ℕ) (rest : List ℕ)
-    → instr (0xFF ∷ 0x25 ∷ a ∷ b ∷ c ∷ d ∷ rest)
-    ≡ Some (jumped (extended W32 W64 (field 4 (a ∷ b ∷ c ∷ d ∷ rest) 0)), rest)
-unfolding instr after_size after_prefixes row plain_row place
-jump_spelled a b c d rest = refl
-
-return_ends : (f at : ℕ) (rest : List ℕ) → Ended f at (0xC3 ∷ rest)
-return_ends f at rest =
-    let len : length (0xC3 ∷ rest) - length rest ≡ 1 = omega arith in
-    record {
-      instr = instrs.Return;
-      size = 1;
-      is = item_is (0xC3 ∷ rest) rest instrs.Return 1 (return_spelled rest) len;
-      role = refl;
-      does = λ m c. refl;
-      certain = refl;
-    }
-
-jump_ends : (f at a b c d : ℕ) (rest : List ℕ) → Ended f at (0xFF ∷ 0x25 ∷ a ∷ b ∷ c ∷ d ∷ rest)
-jump_ends f at a b c d rest =
-    let len : length (0xFF ∷ 0x25 ∷ a ∷ b ∷ c ∷ d ∷ rest) - length rest ≡ 6 = omega arith in
-    let by = extended W32 W64 (field 4 (a ∷ b ∷ c ∷ d ∷ rest) 0) in
-    record {
-      instr = jumped by;
-      size = 6;
-      is = item_is (0xFF ∷ 0x25 ∷ a ∷ b ∷ c ∷ d ∷ rest) rest (jumped by) 6
-          (jump_spelled a b c d rest) len;
-      role = refl;
-      does = λ m c. refl;
-      certain = refl;
-    }
-
-far_ends : (f at : ℕ) (b : List ℕ) → byte 0 b ≡ 0xFF → byte 1 b ≡ 0x25
-    → nat_le 6 (length b) ≡ true → Ended f at b
-far_ends f at [] e g n = absurd cc
-far_ends f at (x ∷ []) e g n = absurd cc
-far_ends f at (x ∷ y ∷ []) e g n = absurd cc
-far_ends f at (x ∷ y ∷ a ∷ []) e g n = absurd cc
-far_ends f at (x ∷ y ∷ a ∷ b ∷ []) e g n = absurd cc
-far_ends f at (x ∷ y ∷ a ∷ b ∷ c ∷ []) e g n = absurd cc
-far_ends f at (x ∷ y ∷ a ∷ b ∷ c ∷ d ∷ rest) e g n =
-    let same : 0xFF ∷ 0x25 ∷ a ∷ b ∷ c ∷ d ∷ rest ≡ x ∷ y ∷ a ∷ b ∷ c ∷ d ∷ rest =
-    ap (λ v. v ∷ 0x25 ∷ a ∷ b ∷ c ∷ d ∷ rest) (sym e)
-    ∙ ap (λ v. x ∷ v ∷ a ∷ b ∷ c ∷ d ∷ rest) (sym g) in
-    subst (Ended f at) same (jump_ends f at a b c d rest)
-
-near_ends : (f at : ℕ) (b : List ℕ) → byte 0 b ≡ 0xC3 → Ended f at b
-near_ends f at [] e = absurd (omega (arith, e))
-near_ends f at (x ∷ rest) e =
-    subst (λ (v : ℕ). Ended f at (v ∷ rest)) (sym e) (return_ends f at rest)
-
-pub ended_alike : (f at : ℕ) (b : List ℕ) → is_plain_end b ≡ true → Ended f at b
-ended_alike f at b e = go (byte 0 b == 0xC3) refl e
-  where
-    go : (t : Bool) → (byte 0 b == 0xC3) ≡ t
-        → (t || ((byte 0 b == 0xFF) && ((byte 1 b == 0x25) && nat_le 6 (length b)))) ≡ true
-        → Ended f at b
-    go true p h = near_ends f at b (eqb-true (byte 0 b) 0xC3 p)
-    go false p h =
-        let p1 = and_parts _ _ h in
-        let p2 = and_parts _ _ p1.1 in
-        far_ends f at b (eqb-true (byte 0 b) 0xFF p1.0) (eqb-true (byte 1 b) 0x25 p2.0) p2.1

@@ -19,7 +19,8 @@ use Rattle.abi_unwind.specs.declared.tail.End.TheVariants.{Certain}
 use Rattle.abi_unwind.specs.Tail.{Tail, popping, opening, end_at, before, ended, pops_then, pops, pops_at, opened_or, tail_at}
 use Rattle.abi_unwind.specs.Caller.{ran_one, ran}
 use Rattle.abi_unwind.specs.Laws.{is_plain_end, plain_or, plain_pops, plain_pops_at, plain_opened, plain_tail}
-use Rattle.abi_unwind.proofs.PlainTails.{pop_item, pop_does, opened_alike, ended_alike}
+use Rattle.abi_unwind.proofs.PlainEnds.{ended_alike}
+use Rattle.abi_unwind.proofs.PlainTails.{pop_item, pop_does, opened_alike}
 
 pub record SameTail (m : Memory) (o : Option (List Instr)) (p : Option Tail) : Type 0 where
   pub instrs : List Instr

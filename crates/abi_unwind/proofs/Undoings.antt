@@ -71,10 +71,6 @@ own_beside m base d i u e =
     ap (λ cs. undone m base i (operations cs) u) (all_run d i.codes e)
     ∙ undone_beside m base i i.codes d u e
 
-none_more : (r : Answer Undo) → r ≡ (r >>= λ w. Ok w)
-none_more (Ok w) = refl
-none_more (Err e) = refl
-
 pub chain_beside : (m : Memory) (base rva : ℕ) (r : RuntimeFunction) (i : Info) (ps : List Info)
     (u : AbiUndo) → chain_run rva r i ps ≡ true
     → chain_undone m base rva r i ps u

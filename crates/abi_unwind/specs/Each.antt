@@ -1,12 +1,12 @@
 -- The caller of a frame, as Windows finds it, in a table whose entries needn't all be read: each is
--- read when it is asked, and refused alone.
+-- read when it is asked, and refused alone. Unwind infos of version 2 are read too.
 --
 -- The main definition: `abi_caller_each`.
-use Rattle.std.specs.Prelude.{ℕ, Bool, true, if◌then◌else◌, List, Option, Some, None, Result, Ok, Err}
+use Rattle.std.specs.Prelude.{ℕ, Bool, true, false, if◌then◌else◌, List, Option, Some, None, Result, Ok, Err}
 use Rattle.seh_num.specs.Answers.{◌>>=◌}
 use Rattle.flat_memory.specs.Memory.{Memory}
 use Rattle.eh_tables.specs.Answer.{Table}
-use Rattle.eh_tables.specs.Covering.{entry_covering}
+use Rattle.eh_tables.specs.EitherEntries.{entry_at, entry_covering}
 use Rattle.eh_tables.specs.Tables.{Entry, Tables, covers_address}
 use Rattle.virtual_unwind.specs.Undone.{Answer}
 use Rattle.virtual_unwind.specs.CallerOf.{distance}
@@ -18,6 +18,7 @@ use Rattle.abi_unwind.specs.declared.tail.End.{End}
 use Rattle.abi_unwind.specs.declared.tail.End.TheVariants.{Certain, JumpsTo}
 use Rattle.abi_unwind.specs.Tail.{Tail, parts_if, tail_at}
 use Rattle.abi_unwind.specs.Caller.{AbiFrame, abi_at, leaf, leaves_inside, leaves_to}
+use Rattle.abi_unwind.specs.Version2.{may_end}
 
 abbrev pub Each : Type 0 → Type 0
 Each A = Result A EntryErr
@@ -49,11 +50,27 @@ abbrev pub kept : Tables → ℕ → Entry → Option Tail → Each (Option (Lis
 kept t base e None = Ok None
 kept t base e (Some tail) = is_end t base e tail.end >>= λ b. Ok (parts_if tail b)
 
+-- the trailing part at RIP, where an epilogue may stand there
+abbrev pub tail_if : Option Tail → Bool → Option Tail
+tail_if tail true = tail
+tail_if tail false = None
+
+abbrev pub tail_in : ℕ → Memory → AbiContext → Entry → Option Tail
+tail_in base m c e =
+    tail_if (tail_at e.info.frame_register m c.general.rip)
+    (may_end e (distance base c.general.rip))
+
 abbrev pub of_entry : Tables → ℕ → Memory → AbiContext → Option Entry → Each AbiFrame
 of_entry t base m c None = of_unwind (leaf m c)
 of_entry t base m c (Some e) = do
-  parts ← kept t base e (tail_at e.info.frame_register m c.general.rip)
+  parts ← kept t base e (tail_in base m c e)
   of_unwind (abi_at m c (distance base c.general.rip) e parts)
+
+-- in the entry of a number
+abbrev pub numbered : Tables → ℕ → Memory → AbiContext → ℕ → Each AbiFrame
+numbered t base m c k = do
+  e ← of_table (entry_at t k)
+  of_entry t base m c (Some e)
 
 unfoldable pub abi_caller_each : Tables → ℕ → Memory → AbiContext → Each AbiFrame
 abi_caller_each t base m c = covering t (distance base c.general.rip) >>= of_entry t base m c

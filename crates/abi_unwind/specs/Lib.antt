@@ -2,10 +2,11 @@ pub mod Contexts
 pub mod Tail
 pub mod Undone
 pub mod Caller
-pub mod Each
 pub mod Version2
+pub mod Each
 pub mod Version2Rows
 pub mod Views
 pub mod Ran
 pub mod Laws
+pub mod EachLaws
 pub mod Rows

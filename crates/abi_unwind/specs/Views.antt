@@ -3,6 +3,7 @@ use Rattle.std.specs.Prelude.{ℕ, Option, Some, None, Result, Ok, Err}
 use Rattle.eh_tables.specs.Infos.{Info}
 use Rattle.virtual_unwind.specs.declared.refusal.UnwindErr.{UnwindErr}
 use Rattle.virtual_unwind.specs.Undone.{Answer}
+use Rattle.virtual_unwind.specs.Views as general
 use Rattle.abi_unwind.specs.declared.undo.AbiUndo as code
 use Rattle.abi_unwind.specs.declared.frame.AbiCaller.{AbiCaller}
 use Rattle.abi_unwind.specs.declared.frame.Handler.{Handler}
@@ -12,11 +13,7 @@ use Rattle.abi_unwind.specs.Caller.{AbiFrame}
 use Rattle.abi_unwind.specs.Each.{Each}
 
 abbrev pub undo_of : code.AbiUndo → AbiUndo
-undo_of u =
-    record {
-      general = record { context = u.context.general; is_returned = u.is_returned };
-      vectors = u.context.vectors;
-    }
+undo_of u = record { general = general.undo_of u.general; vectors = u.vectors }
 
 -- the handler of an info, with the flags that say what it is asked for
 abbrev pub handler_if : Info → Option ℕ → Option Handler

@@ -1,5 +1,6 @@
 //! What holds of callers as Windows finds them.
 
+ghost use Rattle.abi_unwind.specs.EachLaws.{EachIsWhole};
 ghost use Rattle.abi_unwind.specs.Laws.{TheyAgree, TheyRefuse};
 ghost use Rattle.abi_unwind.specs.Rows.{Tails, NoTails, Cases, Jumps, Parts, Edges, Frames, Vectors, MachineFrames};
 ghost use Rattle.abi_unwind.specs.Version2Rows.{ListedEpilogues};
@@ -24,7 +25,7 @@ pub fn worked_callers()
 {}
 
 /// Callers of a worked function whose unwind info has version 2, with one epilogue listed and two:
-/// in them, before them, and where none is listed.
+/// in them, before them, and where none is listed. An entry that is refused, and one beside such.
 pub fn worked_version_2()
     ensures { ListedEpilogues }
 {}
@@ -35,4 +36,10 @@ pub fn worked_version_2()
 pub fn agreement()
     ensures agree { TheyAgree }
     ensures refuse { TheyRefuse }
+{}
+
+/// In a table that was read whole, the caller by entries that are read one by one, each refused
+/// alone, is the caller by the table.
+pub fn each_is_whole()
+    ensures { EachIsWhole }
 {}

@@ -12,11 +12,11 @@
 
 pub mod context;
 pub mod each;
+mod epilogues;
 pub mod frame;
-mod function;
+pub mod function;
 pub mod laws;
 pub mod tail;
 mod undo;
 pub mod unwinding;
 mod vectors;
-mod word;

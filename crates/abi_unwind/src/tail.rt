@@ -8,11 +8,11 @@ ghost use Rattle.abi_unwind.specs.Caller as caller;
 ghost use Rattle.abi_unwind.specs.Ran as run;
 ghost use Rattle.abi_unwind.specs.Tail as spec;
 
-use crate::word::word;
 use pe_image::fields::u32_at;
 use seh_num::size::LONGEST_INSTRUCTION;
 use virtual_unwind::UnwindErr;
 use virtual_unwind::kept::{get, raise_rsp, rsp, set, set_rsp};
+use virtual_unwind::word::word;
 use x64_machine::context::Context;
 use x64_memory::space::{CodeSpace, ReadSpace};
 

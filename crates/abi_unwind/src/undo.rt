@@ -1,35 +1,27 @@
 //! Codes undone.
 
 ghost use Rattle.std.specs.Prelude.{◌≡◌, Ok, Err, IfOk, IfErr};
-ghost use Rattle.virtual_unwind.specs.CallerOf as profile;
 ghost use Rattle.virtual_unwind.specs.Undone as general;
 ghost use Rattle.abi_unwind.specs.Caller as caller;
 ghost use Rattle.abi_unwind.specs.Undone as spec;
 ghost use Rattle.abi_unwind.specs.Views.{undo_of};
 
-use crate::context::AbiContext;
-use crate::vectors::set_vector;
-use crate::word::{wide, word};
+use crate::context::NONVOLATILE_VECTORS;
+use crate::vectors::{set_vector, wide};
 use eh_tables::{Codes, Info, RuntimeFunction, UnwindOperation};
 use virtual_unwind::UnwindErr;
-use virtual_unwind::kept::{get, raise_rsp, rsp, set, set_rsp};
-use x64_machine::context::Context;
+use virtual_unwind::kept::{raise_rsp, rsp, set, set_rsp};
+use virtual_unwind::undo::{Undo, below_frame};
+use virtual_unwind::word::word;
 use x64_memory::space::ReadSpace;
 
 /// A context on the way, and whether RIP is the caller's already.
 #[derive(Clone, Copy, Debug, PartialEq, Eq)]
 pub struct AbiUndo {
-    /// The context with the codes so far undone.
-    pub context: AbiContext,
-    /// Whether a machine frame has given RIP already.
-    pub is_returned: bool,
-}
-
-/// The base of the fixed allocation, by the frame register.
-pub fn below_frame(info: &Info, context: &Context) -> u64
-    ensures { result ≡ general.below_frame info.now context.now }
-{
-    get(context, info.frame_register()).wrapping_sub(info.frame_offset() as u64)
+    /// The general registers, with the codes so far undone.
+    pub general: Undo,
+    /// XMM6 to XMM15.
+    pub vectors: [u128; NONVOLATILE_VECTORS],
 }
 
 /// Undoes one code; what is left where it is refused isn't said.
@@ -45,7 +37,7 @@ fn undo_one<S: ReadSpace>(
     ensures refused { IfErr result (λ e. spec.undone_one (S.memory space.now) base info.now
         (undo_of undo.old) operation ≡ Err e) }
 {
-    let context = &mut undo.context.general;
+    let context = &mut undo.general.context;
     match operation {
         UnwindOperation::Push { register } => {
             let value = word(space, rsp(context))?;
@@ -69,7 +61,7 @@ fn undo_one<S: ReadSpace>(
         }
         UnwindOperation::SaveVector { register, offset } => {
             let value = wide(space, base.wrapping_add(offset as u64))?;
-            set_vector(&mut undo.context.vectors, register, value);
+            set_vector(&mut undo.vectors, register, value);
             Ok(())
         }
         UnwindOperation::MachineFrame { info } => {
@@ -78,7 +70,7 @@ fn undo_one<S: ReadSpace>(
             let stack = word(space, at.wrapping_add(24))?;
             context.rip = rip;
             set_rsp(context, stack);
-            undo.is_returned = true;
+            undo.general.is_returned = true;
             Ok(())
         }
     }
@@ -128,41 +120,6 @@ fn undone_by<S: ReadSpace>(
         }
     }
     Ok(())
-}
-
-/// Whether the frame register is set by an instruction.
-fn is_set_frame(operation: UnwindOperation) -> bool
-    ensures { result ≡ profile.is_set_frame operation }
-{
-    match operation {
-        UnwindOperation::SetFrame => true,
-        _ => false,
-    }
-}
-
-/// Whether the frame register is set by one of these.
-fn sets_frame(codes: Codes) -> bool
-    ensures { result ≡ profile.sets_frame (general.operations codes.entry) }
-{
-    for code in codes {
-        if is_set_frame(code.operation) {
-            return true;
-        }
-    }
-    false
-}
-
-/// Whether it has been set at a distance from the begin.
-pub fn sets_frame_by(distance: u64, info: &Info) -> bool
-    ensures { result ≡ profile.sets_frame (caller.codes_at info.now distance) }
-{
-    let mut left = info.codes();
-    while let Some(code) = left.next() {
-        if code.offset as u64 <= distance {
-            return is_set_frame(code.operation) || sets_frame(left);
-        }
-    }
-    false
 }
 
 /// The range that an info is chained to.

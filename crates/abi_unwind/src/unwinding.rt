@@ -14,11 +14,12 @@ use crate::context::AbiContext;
 use crate::frame::{AbiCaller, Handler};
 use crate::function::{Function, Primary, covers, function_of, leaves_inside, leaves_to, root_of};
 use crate::tail::{End, trailing};
-use crate::undo::{AbiUndo, below_frame, chain_undone, sets_frame_by};
-use crate::word::pop;
+use crate::undo::{AbiUndo, chain_undone};
 use eh_tables::{Entry, FunctionEntry, Info, Tables};
 use virtual_unwind::UnwindErr;
 use virtual_unwind::kept::rsp;
+use virtual_unwind::undo::{Undo, below_frame, sets_frame_by};
+use virtual_unwind::word::pop;
 use x64_machine::context::Context;
 use x64_memory::space::ReadSpace;
 
@@ -28,7 +29,7 @@ fn is_framed(info: &Info, distance: u64) -> bool
     info.frame_register() != 0
         && (info.prologue_size() as u64 <= distance
             || info.parent().is_some()
-            || sets_frame_by(distance, info))
+            || sets_frame_by(distance, info.codes()))
 }
 
 /// The establisher frame.
@@ -121,11 +122,15 @@ pub fn in_epilogue<S: ReadSpace>(
 fn returned<S: ReadSpace>(space: &S, undo: &AbiUndo) -> Result<AbiContext, UnwindErr>
     ensures { result ≡ undone.returned_abi (S.memory space.now) (undo_of undo.now) }
 {
-    if undo.is_returned {
-        Ok(undo.context)
+    let general = if undo.general.is_returned {
+        undo.general.context
     } else {
-        popped(space, &undo.context, &undo.context.general)
-    }
+        pop(space, &undo.general.context)?
+    };
+    Ok(AbiContext {
+        general,
+        vectors: undo.vectors,
+    })
 }
 
 fn unwound<S: ReadSpace>(
@@ -138,8 +143,11 @@ fn unwound<S: ReadSpace>(
     ensures { result ≡ spec.unwound (S.memory space.now) base rva function.now context.now }
 {
     let mut undo = AbiUndo {
-        context: *context,
-        is_returned: false,
+        general: Undo {
+            context: context.general,
+            is_returned: false,
+        },
+        vectors: context.vectors,
     };
     chain_undone(
         space,

@@ -10,8 +10,8 @@ pub record EndBy (rs : List RuntimeFunction) (count at : ℕ) : Type 0 where
   pub ends : (j : ℕ) → j < count → (slice_index_or rs j no_range).end ≤ at
 
 -- for addresses that are alike but for so many low bits, where a search may begin, and the last
--- entry that it has to look at: each entry before the first number ends at or below the address, and
--- the entry of the next number ends above it
+-- entry that it has to look at: each entry before the first number ends at or below the address,
+-- and the entry of the next number ends above it
 pub record IsIndexOf (rs : List RuntimeFunction) (shift : ℕ) (first : List ℕ) : Type 0 where
   pub below : (rva j : ℕ) → rva / 2 ^ shift < length first
       → j < slice_index first (rva / 2 ^ shift) → (slice_index_or rs j no_range).end ≤ rva

@@ -42,8 +42,8 @@ pub fn fill(tables: &Tables<'_, '_>, shift: u32, first: &mut [u32])
     }
 }
 
-/// How many low bits of an address an index with so much room leaves out, in an image of a size: the
-/// fewest with which it has a place for each address, or 31 where it has none.
+/// How many low bits of an address an index with so much room leaves out, in an image of a size:
+/// the fewest with which it has a place for each address, or 31 where it has none.
 pub fn shift_for(size: u64, room: usize) -> u32
     ensures { result < 32 }
 {

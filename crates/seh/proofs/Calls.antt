@@ -1,7 +1,7 @@
 -- Without faults, what a call gives is what its command gives.
-use Rattle.std.proofs.Common.{◌≡◌, ◌⊎◌, inl, inr, ℕ, ◌<◌, ◌≤◌, List, length, Some, Result, Ok, Err, refl, sym, ap, subst, ◌∙◌, arith}
+use Rattle.std.proofs.Common.{◌≡◌, ◌⊎◌, inl, inr, ℕ, ◌+◌, ◌<◌, ◌≤◌, min, List, length, Some, Result, Ok, Err, refl, sym, ap, subst, ◌∙◌, arith}
 use Rattle.seh_num.specs.declared.end.RunEnd.{RunEnd}
-use Rattle.seh_io.specs.Streams.{Rose, Grew}
+use Rattle.seh_io.specs.Streams.{Faults, Faulted, last_count}
 use Rattle.c_syntax.specs.Program.{ExternalDeclaration}
 use Rattle.c_checked.specs.Program.{Program}
 use Rattle.c_resolved.specs.Program.{resolve}
@@ -49,7 +49,7 @@ use Rattle.seh.specs.Images.{IsCompiled}
 use Rattle.seh.specs.Meanings.{IsProgramOf, IsMeaningAnswer, IsMeaningInputAnswer, shown_of, text_of}
 use Rattle.seh.specs.Refusals.{Reported, refusal_status}
 use Rattle.seh.specs.Statuses.{status_of, meaning_status, verdict_status}
-use Rattle.seh.specs.Streams.{Stream}
+use Rattle.seh.specs.Streams.{Stream, TookWhole}
 use Rattle.seh.proofs.Completeness.{one_image, image_refused, load_refused}
 
 -- ---- texts, programs and images
@@ -81,11 +81,13 @@ table_read t es e is refused = let q : Ok es ≡ Err e = sym is ∙ refused in c
 
 -- ---- faults
 
-no_fault : (a b : Stream) → HadNoFault a b → Rose a.faults b.faults → ⊥
-no_fault a b h rose =
-    let rises = rose h.counts in
+no_fault : (a b : Stream) → HadNoFault a b → Faulted a.faults b.faults → ⊥
+no_fault a b h fault =
+    let one : b.faults.count ≡ min (a.faults.count + 1) last_count =
+    ap (λ (f : Faults). f.count) fault in
+    let below = h.counts in
     let same = h.same in
-    omega (arith, rises, same)
+    omega (arith, one, below, same)
 
 -- ---- what is reported
 
@@ -204,16 +206,16 @@ module _ (call : Call) (out : HadNoFault call.out call.out_after)
       of_refusal (refusals.Image e) call err told
       ∙ ap (λ x. refusal_status (refusals.Image x)) (image_refused bytes image e is refused)
 
-  pub cut : {X : Type 0} → Rose call.out.faults call.out_after.faults → X
-  cut rose = absurd (no_fault call.out call.out_after out rose)
+  pub cut : {X : Type 0} → Faulted call.out.faults call.out_after.faults → X
+  cut fault = absurd (no_fault call.out call.out_after out fault)
 
   compiled : (text : List ℕ) (whole : List ExternalDeclaration) → IsAccepted text whole
       → (answer : Result CommandOutcome Refusal) → Tells answer
       → IsCompileAnswer text call.out call.out_after answer
       → WantedMemory call
       ⊎ ((image : List ℕ) × IsCompiled text image × Gave statuses.Done image call)
-  compiled text whole accepted (Ok Compiled) told (image, is, grew) =
-      inr (image, is, record { ended = told.0; wrote = grew; silent = told.1 })
+  compiled text whole accepted (Ok Compiled) told (image, is, took) =
+      inr (image, is, record { ended = told.0; wrote = took.grew; silent = told.1 })
   compiled text whole accepted (Ok done) told h = absurd h
   compiled text whole accepted (Err (refusals.Text e)) told (refused, kept) =
       inl (text_wanted text whole e accepted refused told)
@@ -229,8 +231,8 @@ module _ (call : Call) (out : HadNoFault call.out call.out_after)
     pub ran : (bytes : List ℕ) → Loads bytes → (answer : Result CommandOutcome Refusal)
         → Tells answer → IsWrittenRun text_of end_of bytes call.out call.out_after answer
         → WantedMemory call ⊎ GaveRun bytes
-    ran bytes loads (Ok (Ran end)) told (also, same, grew) =
-        inr (record { ended = told.0 ∙ ap status_of same; wrote = grew; silent = told.1 })
+    ran bytes loads (Ok (Ran end)) told (also, same, took) =
+        inr (record { ended = told.0 ∙ ap status_of same; wrote = took.grew; silent = told.1 })
     ran bytes loads (Ok done) told h = absurd h
     ran bytes loads (Err (refusals.Image e)) told (refused, kept) =
         inl (image_wanted bytes loads.image e loads.is refused told)
@@ -276,11 +278,11 @@ module _ (call : Call) (out : HadNoFault call.out call.out_after)
       → (answer : Result CommandOutcome Refusal) → Tells answer
       → IsShowAnswer bytes call.out call.out_after answer
       → WantedMemory call ⊎ Gave statuses.Done (view image) call
-  shown bytes image is (Ok Viewed) told (also, reads, grew) =
+  shown bytes image is (Ok Viewed) told (also, reads, took) =
       let same = one_image (reading bytes) also image reads is in
       inr (record {
         ended = told.0;
-        wrote = subst (λ i. Grew call.out.bytes (view i) call.out_after.bytes) same grew;
+        wrote = (subst (λ i. TookWhole (view i) call.out call.out_after) same took).grew;
         silent = told.1;
       })
   shown bytes image is (Ok done) told h = absurd h
@@ -298,11 +300,11 @@ module _ (call : Call) (out : HadNoFault call.out call.out_after)
       → tables image ≡ Ok entries → (answer : Result CommandOutcome Refusal) → Tells answer
       → IsCheckAnswer bytes call.out call.out_after answer
       → WantedMemory call ⊎ CheckedAs image
-  checked bytes image entries is whole (Ok (Checked verdict)) told (found, grew) =
+  checked bytes image entries is whole (Ok (Checked verdict)) told (found, took) =
       let same = one_image (reading bytes) found.image image found.is is in
       let comes : IsImageVerdict image CHECK_STACK verdict =
       subst (λ (i : Image). IsImageVerdict i CHECK_STACK verdict) same found.comes in
-      inr (verdict, comes, record { ended = told.0; wrote = grew; silent = told.1 })
+      inr (verdict, comes, record { ended = told.0; wrote = took.grew; silent = told.1 })
   checked bytes image entries is whole (Ok done) told h = absurd h
   checked bytes image entries is whole (Err (refusals.Image e)) told (refused, kept) =
       inl (image_wanted bytes image e is refused told)
@@ -321,7 +323,7 @@ module _ (call : Call) (out : HadNoFault call.out call.out_after)
       → (answer : Result CommandOutcome Refusal) → Tells answer
       → IsCheckAnswer bytes call.out call.out_after answer
       → WantedMemory call ⊎ ((n : ℕ) × IsChecked bytes (Yes n))
-  said_yes bytes done (Ok (Checked (Yes n))) told (found, grew) = inr (n, found)
+  said_yes bytes done (Ok (Checked (Yes n))) told (found, took) = inr (n, found)
   said_yes bytes done (Ok (Checked (No k f))) told h =
       let q : statuses.Done ≡ statuses.No = sym done ∙ told.0 in cc
   said_yes bytes done (Ok other) told h = absurd h
@@ -337,10 +339,10 @@ module _ (call : Call) (out : HadNoFault call.out call.out_after)
       → (answer : Result CommandOutcome Refusal) → Tells answer
       → IsMeaningAnswer options text call.out call.out_after answer
       → WantedMemory call ⊎ MeantBy options p
-  meant options text p is (Ok (Meant ended)) told (also, reads, same, grew) =
+  meant options text p is (Ok (Meant ended)) told (also, reads, same, took) =
       let gave : MeantBy options also = record {
         ended = told.0 ∙ ap meaning_status same;
-        wrote = grew;
+        wrote = took.grew;
         silent = told.1;
       } in
       inr (subst (MeantBy options) (program_once text also p reads is) gave)

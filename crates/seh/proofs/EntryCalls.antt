@@ -35,7 +35,7 @@ module _ (call : Call) (out : HadNoFault call.out call.out_after)
       → IsEntriesAnswer bytes call.out call.out_after answer
       → WantedMemory call ⊎ CheckedAs image
   checked bytes image entries is whole (Ok (CheckedEntries kept all)) told
-      (vs, found, some, many, grew) =
+      (vs, found, some, many, took) =
       let same = one_image (reading bytes) found.image image found.is is in
       let come : AreImageVerdicts image CHECK_STACK vs =
       subst (λ (i : Image). AreImageVerdicts i CHECK_STACK vs) same found.come in
@@ -45,7 +45,7 @@ module _ (call : Call) (out : HadNoFault call.out call.out_after)
         record {
           ended = told.0 ∙ ap (λ n. entries_status n all) some
               ∙ ap (λ n. entries_status (kept_count vs) n) many;
-          wrote = grew;
+          wrote = took.grew;
           silent = told.1;
         },
       )

@@ -33,7 +33,7 @@ from_text text source source' out out' (Err (refusals.Text e)) input h =
 from_text text source source' out out' (Err refusals.WriteFault) input h =
     record { bytes = text; input = input; comes = h }
 from_text text source source' out out' (Err refusals.NoMemory) input h =
-    (lost_all text_limit source source' text input, h)
+    ((lost_all text_limit source source' text input, input.faultless), h)
 from_text text source source' out out' (Err r) input h = absurd h
 
 -- of a text that was compiled and run
@@ -52,7 +52,7 @@ from_run options text source source' out out' (Err (refusals.Load e)) input h =
 from_run options text source source' out out' (Err refusals.WriteFault) input h =
     record { bytes = text; input = input; comes = h }
 from_run options text source source' out out' (Err refusals.NoMemory) input h =
-    (lost_all text_limit source source' text input, h)
+    ((lost_all text_limit source source' text input, input.faultless), h)
 from_run options text source source' out out' (Err refusals.Usage) input h = absurd h.2
 from_run options text source source' out out' (Err refusals.ReadFault) input h = absurd h.2
 from_run options text source source' out out' (Err (refusals.TooLong most)) input h = absurd h.2
@@ -114,7 +114,7 @@ from_checked bytes source source' out out' (Err (refusals.Image e)) input h =
 from_checked bytes source source' out out' (Err (refusals.Load e)) input h =
     record { bytes = bytes; input = input; comes = h }
 from_checked bytes source source' out out' (Err refusals.NoMemory) input h =
-    (lost_all image_limit source source' bytes input, h.1)
+    ((lost_all image_limit source source' bytes input, input.faultless), h.1)
 from_checked bytes source source' out out' (Err r) input h = absurd h.0
 
 -- of an image whose entries were checked
@@ -131,7 +131,7 @@ from_entries bytes source source' out out' (Err (refusals.Image e)) input h =
 from_entries bytes source source' out out' (Err (refusals.Load e)) input h =
     record { bytes = bytes; input = input; comes = h }
 from_entries bytes source source' out out' (Err refusals.NoMemory) input h =
-    (lost_all image_limit source source' bytes input, h.1)
+    ((lost_all image_limit source source' bytes input, input.faultless), h.1)
 from_entries bytes source source' out out' (Err r) input h = absurd h.0
 
 -- what wasn't read is the answer

@@ -1,7 +1,8 @@
 -- What comes of a text that is accepted, by what its meaning's text came to.
 use Rattle.std.proofs.Common.{◌≡◌, ℕ, List, ◌++◌, sym, ap, ◌∙◌, subst}
 use Rattle.std.specs.Prelude.{ℤ, Option}
-use Rattle.seh.specs.Words.{Shown, Rose, Grew, TookPart, Program, meaning, Ended, RunOptions, IsProgramOf, TookMeaningFront, shown_of, text_of, Stream}
+use Rattle.seh_io.specs.Streams.{Faults}
+use Rattle.seh.specs.Words.{Shown, Faultless, Faulted, Grew, TookPart, Program, meaning, Ended, RunOptions, IsProgramOf, TookMeaningFront, shown_of, text_of, Stream}
 use Rattle.c_meaning.specs.declared.interpret.MeanErr.{MeanErr}
 use Rattle.c_meaning.specs.declared.interpret.MeanErr.TheVariants.{Write, Memory}
 use Rattle.c_meaning.specs.FunctionNames.{names_of}
@@ -35,12 +36,13 @@ module _ (options : RunOptions) (p : Program) (again : ℤ) (same : again ≡ op
 
   pub front_same : (text : List ℕ) (out out' : Stream) → IsProgramOf text p
       → (part : List ℕ) × ((rest : List ℕ) × (whole ≡ part ++ rest))
-      × Grew out.bytes part out'.bytes
+      × Grew out.bytes part out'.bytes → Faultless out.faults out'.faults
       → TookMeaningFront options text out out'
-  front_same text out out' is h = record {
+  front_same text out out' is h none = record {
     program = p;
     is = is;
     took = (h.0, (h.1.0, sym text_same ∙ h.1.1), h.2);
+    faultless = none;
   }
 
   pub write_same : (e : MeanErr) (n : ℕ) → e ≡ Write n → (a b : Option (List ℕ))
@@ -51,12 +53,16 @@ module _ (options : RunOptions) (p : Program) (again : ℤ) (same : again ≡ op
 
   pub memory_same : (e : MeanErr) → e ≡ Memory → (text : List ℕ) (out out' : Stream)
       → IsProgramOf text p → texts.TookFront e out.bytes
-      whole out'.bytes
+      whole out'.bytes → Faultless out.faults out'.faults
       → TookMeaningFront options text out out'
-  memory_same e is text out out' found h = front_same text out out' found
+  memory_same e is text out out' found h none = front_same text out out' found
       (subst (λ x. texts.TookFront x out.bytes whole
-      out'.bytes) is h)
+      out'.bytes) is h) none
 
-pub rose_of : (e : MeanErr) (n : ℕ) → e ≡ Write n → (f f' : ℕ) → texts.MeaningHasCause e f f'
-    → Rose f f'
-rose_of e n is f f' h = subst (λ x. texts.MeaningHasCause x f f') is h
+pub fault_of : (e : MeanErr) (n : ℕ) → e ≡ Write n → (f f' : Faults) → texts.MeaningHasCause e f f'
+    → Faulted f f'
+fault_of e n is f f' h = subst (λ x. texts.MeaningHasCause x f f') is h
+
+pub none_of : (e : MeanErr) → e ≡ Memory → (f f' : Faults) → texts.MeaningHasCause e f f'
+    → Faultless f f'
+none_of e is f f' h = subst (λ x. texts.MeaningHasCause x f f') is h

@@ -185,7 +185,7 @@ module _ (bytes : List ℕ) (whole each : Call)
   after_verdict : (v : Verdict) → IsChecked bytes v → whole.status ≡ verdict_status v
       → (b : Result CommandOutcome Refusal) → TellsEach b
       → IsEntriesAnswer bytes each.out each.out_after b → Agree
-  after_verdict v is ended (Ok (CheckedEntries kept all)) told (vs, are, some, many, grew) =
+  after_verdict v is ended (Ok (CheckedEntries kept all)) told (vs, are, some, many, took) =
       inr (inr (ended ∙ checked_once bytes v vs is are
       ∙ sym (told.0 ∙ ap (λ n. entries_status n all) some
       ∙ ap (λ n. entries_status (kept_count vs) n) many)))
@@ -203,7 +203,7 @@ module _ (bytes : List ℕ) (whole each : Call)
   after_image : (e : ImageErr) → ImageIsRefused bytes e → Tells (Err (refusals.Image e))
       → (b : Result CommandOutcome Refusal) → TellsEach b
       → IsEntriesAnswer bytes each.out each.out_after b → Agree
-  after_image e off told (Ok (CheckedEntries kept all)) told' (vs, are, some, many, grew) =
+  after_image e off told (Ok (CheckedEntries kept all)) told' (vs, are, some, many, took) =
       inl (image_wanted whole out err bytes are.image e are.is off told)
   after_image e off told (Ok done) told' h = absurd h
   after_image e off told (Err (refusals.Image f)) told' h = both_images e f told told'
@@ -219,7 +219,7 @@ module _ (bytes : List ℕ) (whole each : Call)
   after_table : (e : TableErr) → IsRefusedTable bytes e
       → Tells (Err (refusals.Load (loads.Table e))) → (b : Result CommandOutcome Refusal)
       → TellsEach b → IsEntriesAnswer bytes each.out each.out_after b → Agree
-  after_table e off told (Ok (CheckedEntries kept all)) told' (vs, are, some, many, grew) =
+  after_table e off told (Ok (CheckedEntries kept all)) told' (vs, are, some, many, took) =
       absurd (are_not_read bytes vs e are off)
   after_table e off told (Ok done) told' h = absurd h
   after_table e off told (Err (refusals.Image f)) told' h =

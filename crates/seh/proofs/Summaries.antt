@@ -2,7 +2,7 @@
 use Rattle.std.proofs.Common.{◌≡◌, ◌+◌, ◌<◌, ◌≤◌, ◌^◌, ℕ, List, ◌++◌, length, take, min, Option, refl, sym, ap, ◌∙◌, append_assoc, arith, subst, false}
 use Rattle.seh_io.specs.Streams.{HasCount}
 use Rattle.seh_io.specs.Successive.{grew_more}
-use Rattle.seh.specs.Words.{Shown, RunEnd, Rose, Grew, last_count, text, TookPart, end_within}
+use Rattle.seh.specs.Words.{Shown, RunEnd, Grew, last_count, text, TookPart, end_within}
 use Rattle.seh.specs.Selftests.{program_line, events_line, summary_of}
 use Rattle.seh.proofs.Inputs.{took_front}
 
@@ -38,10 +38,6 @@ cut_second a b c xs ys count grew took = (
     counted = refl;
   },
 )
-
--- a fault that comes later
-pub rose_later : (f g h : ℕ) → f ≤ g → Rose g h → Rose f h
-rose_later f g h le rose below = let later = rose below in omega (arith, le, later)
 
 -- a count that was 0
 pub counted_all : (before n after : ℕ) → before ≡ 0 → after < 2 ^ 64 → HasCount (before + n) after

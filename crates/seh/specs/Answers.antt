@@ -4,7 +4,7 @@ use Rattle.std.specs.Option.{ForSome}
 use Rattle.seh_num.specs.declared.end.RunEnd.{RunEnd}
 use Rattle.seh_num.specs.Shown.{Shown}
 use Rattle.host_layout.specs.declared.limit.TheConstants.{MOST_TEXT, MOST_IMAGE}
-use Rattle.seh_io.specs.Streams.{Rose, Grew}
+use Rattle.seh_io.specs.Streams.{Faultless, Faulted}
 use Rattle.seh_io.specs.Reading.{LostAtMost}
 use Rattle.seh_io.specs.Names.{no_names}
 use Rattle.seh_io.specs.Text.{text}
@@ -26,7 +26,7 @@ use Rattle.seh.specs.declared.outcome.CommandOutcome.TheVariants.{Compiled, Ran,
 use Rattle.seh.specs.declared.refusal.Refusal.{Refusal}
 use Rattle.seh.specs.declared.refusal.Refusal.TheVariants as refusals
 use Rattle.seh.specs.Images.{IsCompiled}
-use Rattle.seh.specs.Streams.{Stream}
+use Rattle.seh.specs.Streams.{Stream, TookWhole}
 
 -- a text has at most so many bytes
 abbrev pub text_limit : ℕ
@@ -37,11 +37,12 @@ abbrev pub image_limit : ℕ
 image_limit = MOST_IMAGE
 
 -- these are the bytes that the source held, at most so many; where it is known what it held, they
--- are that, and nothing is left
+-- are that, and nothing is left; no read was a fault
 pub record IsInput (limit : ℕ) (source source' : Stream) (bytes : List ℕ) : Type 0 where
   pub within : length bytes ≤ limit
   pub all : ForSome source.bytes (λ held. bytes ≡ held)
   pub emptied : ForSome source.bytes (λ _. source'.bytes ≡ Some [])
+  pub faultless : Faultless source.faults source'.faults
 
 -- an image that is run with these options: what is shown of it, and how it ends
 abbrev pub shown_by : RunOptions → List ℕ → Shown RunEnd
@@ -78,10 +79,10 @@ pub record IsRefusedLoad (bytes : List ℕ) (e : LoadErr) : Type 0 where
 abbrev pub Unwritten : Stream → Stream → Type 0
 Unwritten out out' = out' ≡ out
 
--- the sink had a fault, and has taken a part of a text from the front
+-- the last write was a fault, and the one; the sink has taken a part of a text from the front
 abbrev pub IsCutOff : List ℕ → Stream → Stream → Type 0
 IsCutOff text out out' =
-    Rose out.faults out'.faults × ((count : ℕ) × TookPart out.bytes text out'.bytes count)
+    Faulted out.faults out'.faults × ((count : ℕ) × TookPart out.bytes text out'.bytes count)
 
 -- what comes of bytes that were read, from the sink before and after
 abbrev pub Judged : Type 1
@@ -92,7 +93,7 @@ Judged = List ℕ → Stream → Stream → Result CommandOutcome Refusal → Ty
 -- text, where the sink had a fault
 abbrev pub IsWrittenRun : (List ℕ → List ℕ) → (List ℕ → RunEnd) → Judged
 IsWrittenRun text_of end_of bytes out out' (Ok (Ran end)) =
-    Loads bytes × (end ≡ end_of bytes) × Grew out.bytes (text_of bytes) out'.bytes
+    Loads bytes × (end ≡ end_of bytes) × TookWhole (text_of bytes) out out'
 IsWrittenRun text_of end_of bytes out out' (Err (refusals.Image e)) = ImageIsRefused bytes e
     × Unwritten out out'
 IsWrittenRun text_of end_of bytes out out' (Err (refusals.Load e)) =
@@ -111,7 +112,7 @@ IsRunAnswer options = IsWrittenRun (text_by options) (end_by options)
 -- or a part of the view, where the sink had a fault
 abbrev pub IsShowAnswer : Judged
 IsShowAnswer bytes out out' (Ok Viewed) =
-    (image : Image) × IsImage bytes image × Grew out.bytes (view image) out'.bytes
+    (image : Image) × IsImage bytes image × TookWhole (view image) out out'
 IsShowAnswer bytes out out' (Err (refusals.Image e)) = ImageIsRefused bytes e × Unwritten out out'
 IsShowAnswer bytes out out' (Err refusals.WriteFault) =
     (image : Image) × IsImage bytes image × IsCutOff (view image) out out'
@@ -123,7 +124,7 @@ IsShowAnswer bytes out out' answer = ⊥
 -- sink had a fault
 abbrev pub IsCompileAnswer : Judged
 IsCompileAnswer text out out' (Ok Compiled) =
-    (image : List ℕ) × IsCompiled text image × Grew out.bytes image out'.bytes
+    (image : List ℕ) × IsCompiled text image × TookWhole image out out'
 IsCompileAnswer text out out' (Err (refusals.Text e)) = IsRefusedText text e × Unwritten out out'
 IsCompileAnswer text out out' (Err refusals.WriteFault) =
     (image : List ℕ) × IsCompiled text image × IsCutOff image out out'
@@ -162,14 +163,16 @@ IsTooLong limit source = ForSome source.bytes (λ held. limit < length held)
 abbrev pub LostFew : ℕ → Stream → Stream → Type 0
 LostFew limit source source' = LostAtMost (limit + 1) source.bytes source'.bytes
 
--- why a source's bytes weren't read: a fault of the source, more bytes than the limit, or want of
--- memory
+-- why a source's bytes weren't read: a fault of the source, which was its last read; or, without
+-- one, more bytes than the limit or want of memory
 abbrev pub IsInputRefusal : ℕ → Stream → Stream → Refusal → Type 0
 IsInputRefusal limit source source' refusals.ReadFault =
-    Rose source.faults source'.faults × LostFew limit source source'
+    Faulted source.faults source'.faults × LostFew limit source source'
 IsInputRefusal limit source source' (refusals.TooLong most) =
     (most ≡ limit) × IsTooLong limit source × LostFew limit source source'
-IsInputRefusal limit source source' refusals.NoMemory = LostFew limit source source'
+    × Faultless source.faults source'.faults
+IsInputRefusal limit source source' refusals.NoMemory =
+    LostFew limit source source' × Faultless source.faults source'.faults
 IsInputRefusal limit source source' e = ⊥
 
 -- a command that reads its input has this answer by its cause, from the source and the sink before

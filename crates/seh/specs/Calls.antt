@@ -52,8 +52,8 @@ pub record Call : Type 0 where
 
 -- the stream had no fault in a call; a count at its last value couldn't tell
 pub record HadNoFault (before after : Stream) : Type 0 where
-  pub counts : after.faults < last_count
-  pub same : after.faults ≡ before.faults
+  pub counts : after.faults.count < last_count
+  pub same : after.faults.count ≡ before.faults.count
 
 -- a call of the program with the words of a command, over a source that holds these bytes, in which
 -- no stream has a fault. Then want of memory is the one free answer: `CompileIsComplete`,

@@ -3,7 +3,6 @@
 -- The main definitions: `IsChecked`, `verdict_line`, `IsCheckAnswer`.
 use Rattle.std.specs.Prelude.{◌≡◌, ℕ, List, ◌++◌, codes, Ok, Err}
 use Rattle.std.specs.Fmt.{decimal}
-use Rattle.seh_io.specs.Streams.{Grew}
 use Rattle.seh_io.specs.Text.{hexadecimal, ended}
 use Rattle.pe_image.specs.Image.{Image}
 use Rattle.pe_image.specs.Reading.{IsImage, ImageIsRefused}
@@ -20,6 +19,7 @@ use Rattle.seh.specs.declared.outcome.CommandOutcome.TheVariants.{Checked}
 use Rattle.seh.specs.declared.refusal.Refusal.{Refusal}
 use Rattle.seh.specs.declared.refusal.Refusal.TheVariants as refusals
 use Rattle.seh.specs.declared.verdict.TheConstants.{RVA_DIGITS}
+use Rattle.seh.specs.Streams.{TookWhole}
 use Rattle.seh.specs.Answers.{Unwritten, IsCutOff, Judged}
 
 -- ---- the line
@@ -72,7 +72,7 @@ IsCheckRefusal bytes r = ⊥
 -- line, where the sink had a fault
 abbrev pub IsCheckAnswer : Judged
 IsCheckAnswer bytes out out' (Ok (Checked verdict)) =
-    IsChecked bytes verdict × Grew out.bytes (verdict_line verdict) out'.bytes
+    IsChecked bytes verdict × TookWhole (verdict_line verdict) out out'
 IsCheckAnswer bytes out out' (Err refusals.WriteFault) =
     (verdict : Verdict) × IsChecked bytes verdict × IsCutOff (verdict_line verdict) out out'
 IsCheckAnswer bytes out out' (Err r) = IsCheckRefusal bytes r × Unwritten out out'

@@ -63,11 +63,12 @@ IsAnswer words source source' out out' answer =
 -- IsCompiled, and a refusal of the text comes where `TextIsRefused` says so. For `run` the answer
 -- is one of `exec` for an image with IsCompiled, or such a refusal of the text. For `selftest`
 -- nothing is read, and `IsSelftestAnswer` of 10,000,000 turns is the answer. There is a read fault
--- only where the source's count of faults rose, and too long only where the source held more than
--- the limit. A refusal of an image is its first failing check, or the load's. There is a write
--- fault only where a sink's count rose, and then a part of the text from the front was taken. Else
--- the sink took exactly the text of `machine` on the bytes that the source held, and the status is
--- that of its end. Running out of memory alone is free.
+-- only where the source's last read was one, and too long only where the source held more than the
+-- limit. A refusal of an image is its first failing check, or the load's. There is a write fault
+-- only where a sink's last write was one, and then a part of the text from the front was taken. No
+-- other answer comes where a stream had a fault. Else the sink took exactly the text of `machine`
+-- on the bytes that the source held, and the status is that of its end. Running out of memory alone
+-- is free.
 pub record Answers (words : List (List ℕ)) (source source' out out' err err' : Stream)
     (status : Status) : Type 0 where
   pub answer : Result CommandOutcome Refusal

@@ -4,7 +4,6 @@
 -- The main definitions: `AreChecked`, `entries_text`, `IsEntriesAnswer`.
 use Rattle.std.specs.Prelude.{◌≡◌, ℕ, ◌+◌, List, [], ◌∷◌, ◌++◌, length, codes, count_by, is_none, Option, Some, None, Ok, Err}
 use Rattle.std.specs.Fmt.{decimal}
-use Rattle.seh_io.specs.Streams.{Grew}
 use Rattle.seh_io.specs.Text.{hexadecimal, ended}
 use Rattle.pe_image.specs.Image.{Image}
 use Rattle.pe_image.specs.Reading.{IsImage}
@@ -16,6 +15,7 @@ use Rattle.x64_emit.specs.declared.entry.TheConstants.{CHECK_STACK}
 use Rattle.seh.specs.declared.outcome.CommandOutcome.TheVariants.{CheckedEntries}
 use Rattle.seh.specs.declared.refusal.Refusal.TheVariants as refusals
 use Rattle.seh.specs.declared.verdict.TheConstants.{RVA_DIGITS}
+use Rattle.seh.specs.Streams.{TookWhole}
 use Rattle.seh.specs.Answers.{Unwritten, IsCutOff, Judged}
 use Rattle.seh.specs.Checks.{verdict_text, IsCheckRefusal}
 
@@ -62,7 +62,7 @@ pub record AreChecked (bytes : List ℕ) (verdicts : List EntryVerdict) : Type 0
 abbrev pub IsEntriesAnswer : Judged
 IsEntriesAnswer bytes out out' (Ok (CheckedEntries kept all)) =
     (verdicts : List EntryVerdict) × AreChecked bytes verdicts × (kept ≡ kept_count verdicts)
-    × (all ≡ length verdicts) × Grew out.bytes (entries_text verdicts) out'.bytes
+    × (all ≡ length verdicts) × TookWhole (entries_text verdicts) out out'
 IsEntriesAnswer bytes out out' (Err refusals.WriteFault) =
     (verdicts : List EntryVerdict) × AreChecked bytes verdicts
     × IsCutOff (entries_text verdicts) out out'

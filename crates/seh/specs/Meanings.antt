@@ -1,7 +1,7 @@
 -- What comes of a text that is run as its meaning says.
 use Rattle.std.specs.Prelude.{◌≡◌, ◌⊎◌, ℕ, List, Result, Ok, Err}
 use Rattle.seh_num.specs.Shown.{Shown}
-use Rattle.seh_io.specs.Streams.{Grew}
+use Rattle.seh_io.specs.Streams.{Faultless}
 use Rattle.c_syntax.specs.Program.{ExternalDeclaration}
 use Rattle.c_checked.specs.Program.{Program}
 use Rattle.source_meaning.specs.Meaning as model
@@ -16,7 +16,7 @@ use Rattle.seh.specs.declared.outcome.CommandOutcome.TheVariants.{Meant}
 use Rattle.seh.specs.declared.refusal.Refusal.{Refusal}
 use Rattle.seh.specs.declared.refusal.Refusal.TheVariants as refusals
 use Rattle.seh.specs.Answers.{text_limit, Unwritten, IsCutOff, Judged, IsInput, IsInputAnswer}
-use Rattle.seh.specs.Streams.{Stream}
+use Rattle.seh.specs.Streams.{Stream, TookWhole}
 
 -- what a text means within the steps of the options, from their argument
 abbrev pub shown_of : RunOptions → Program → Shown Ended
@@ -31,12 +31,13 @@ pub record IsProgramOf (text : List ℕ) (p : Program) : Type 0 where
   pub declarations : List ExternalDeclaration
   pub checked : IsCheckedAs text declarations p
 
--- a part of the text of the meaning was taken, from the front
+-- a part of the text of the meaning was taken, from the front, and no write was a fault
 pub record TookMeaningFront (options : RunOptions) (text : List ℕ) (out out' : Stream) : Type 0
   where
     pub program : Program
     pub is : IsProgramOf text program
     pub took : texts.TookFront Memory out.bytes (text_of options program) out'.bytes
+    pub faultless : Faultless out.faults out'.faults
 
 -- the whole text of the meaning, with its end; the refusal of the text; or a part of the text,
 -- where the sink had a fault or memory was wanting
@@ -44,7 +45,7 @@ abbrev pub IsMeaningAnswer : RunOptions → Judged
 IsMeaningAnswer options text out out' (Ok (Meant ended)) =
     (p : Program) × IsProgramOf text p
     × (ended ≡ texts.ended_within options.turns (shown_of options p).end)
-    × Grew out.bytes (text_of options p) out'.bytes
+    × TookWhole (text_of options p) out out'
 IsMeaningAnswer options text out out' (Err (refusals.Text e)) = TextIsRefused text e
     × Unwritten out out'
 IsMeaningAnswer options text out out' (Err refusals.WriteFault) =

@@ -1,7 +1,7 @@
 -- The lines of refusals, and how they are reported.
 use Rattle.std.specs.Prelude.{◌≡◌, ◌⊎◌, ℕ, List, ◌++◌, codes, Result, Ok, Err}
 use Rattle.std.specs.Fmt.{decimal}
-use Rattle.seh_io.specs.Streams.{Rose, Grew}
+use Rattle.seh_io.specs.Streams.{Faulted}
 use Rattle.seh_io.specs.Text.{ended}
 use Rattle.seh_io.specs.Writer.{TookPart}
 use Rattle.c_lex.specs.declared.lexing.LexErr.{LexErr}
@@ -27,7 +27,7 @@ use Rattle.seh.specs.declared.status.Status.TheVariants as statuses
 use Rattle.seh.specs.declared.refusal.Refusal.{Refusal}
 use Rattle.seh.specs.declared.refusal.Refusal.TheVariants as refusals
 use Rattle.seh.specs.Statuses.{outcome_status}
-use Rattle.seh.specs.Streams.{Stream}
+use Rattle.seh.specs.Streams.{Stream, TookWhole}
 
 -- a name and a number after it
 abbrev pub named : List ℕ → ℕ → List ℕ
@@ -151,10 +151,10 @@ refusal_status refusals.NoMemory = statuses.NoMemory
 
 -- what was carried out is shown by the status alone; a refusal by its line on `err` too, and where
 -- that line can't be written the status is that of a write fault, and a part of the line from the
--- front was taken
+-- front was taken; the write that failed was the last one
 abbrev pub Reported : Result CommandOutcome Refusal → Stream → Stream → Status → Type 0
 Reported (Ok done) err err' status = (status ≡ outcome_status done) × (err' ≡ err)
 Reported (Err r) err err' status =
-    ((status ≡ refusal_status r) × Grew err.bytes (ended (refusal_text r)) err'.bytes)
-    ⊎ ((status ≡ statuses.WriteFault) × Rose err.faults err'.faults
+    ((status ≡ refusal_status r) × TookWhole (ended (refusal_text r)) err err')
+    ⊎ ((status ≡ statuses.WriteFault) × Faulted err.faults err'.faults
     × ((count : ℕ) × TookPart err.bytes (ended (refusal_text r)) err'.bytes count))

@@ -1,7 +1,7 @@
 -- The words of this crate's proofs: what its lemma files import, by the crates below.
 pub use Rattle.seh_num.specs.Shown.{Shown}
 pub use Rattle.seh_num.specs.declared.end.RunEnd.{RunEnd}
-pub use Rattle.seh_io.specs.Streams.{Rose, Grew, last_count}
+pub use Rattle.seh_io.specs.Streams.{Faultless, Faulted, Grew, last_count}
 pub use Rattle.seh_io.specs.Names.{no_names}
 pub use Rattle.seh_io.specs.Text.{text, lines, end_line, ended}
 pub use Rattle.seh_io.specs.Writer.{TookPart}
@@ -32,7 +32,7 @@ pub use Rattle.seh.specs.Refusals.{Reported, refusal_status, refusal_text}
 pub use Rattle.seh.specs.SelftestLaws.{AsksSelftest, GaveSummary, SelftestReadsNothing, SelftestIsComplete, SelftestIsMeant, meant_summary}
 pub use Rattle.seh.specs.Selftests.{IsSummaryAnswer, IsSelftestAnswer, events_line, selftest_options, summary, summary_by, summary_of}
 pub use Rattle.seh.specs.Statuses.{status_of, meaning_status}
-pub use Rattle.seh.specs.Streams.{Stream, stream}
+pub use Rattle.seh.specs.Streams.{Stream, stream, TookWhole}
 pub use Rattle.seh.specs.declared.outcome.CommandOutcome.{CommandOutcome}
 pub use Rattle.seh.specs.declared.outcome.CommandOutcome.TheVariants.{Compiled, Ran, Meant, Viewed}
 pub use Rattle.seh.specs.declared.refusal.Refusal.{Refusal}

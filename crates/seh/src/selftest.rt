@@ -2,14 +2,13 @@
 //! its run is written.
 
 ghost use Rattle.std.specs.Prelude.{◌≡◌, ◌≤◌, length, IfOk, IfErr};
-ghost use Rattle.seh_io.specs.Streams.{Grew};
 ghost use Rattle.seh_io.specs.Text.{ended};
 ghost use Rattle.seh_host.specs.Running.{running_of, run_of, run_names, event_count};
 ghost use Rattle.seh_host.specs.Turns.{end_within};
 ghost use Rattle.seh.specs.Answers.{IsCutOff};
 ghost use Rattle.seh.specs.Refusals.{named};
 ghost use Rattle.seh.specs.Selftests.{summary_of, IsSummaryAnswer, IsSelftestAnswer};
-ghost use Rattle.seh.specs.Streams.{stream};
+ghost use Rattle.seh.specs.Streams.{stream, TookWhole};
 
 use crate::image::compiled_image;
 use crate::outcome::CommandOutcome;
@@ -49,9 +48,9 @@ fn write_summary<O: Sink>(
 ) -> Result<RunEnd, Refusal>
     requires { event_count host.old ≡ 0 }
     ensures end { IfOk result (λ e. e ≡ end_within turns (run_of turns (running_of host.old)).end) }
-    ensures whole { IfOk result (λ e. Grew (O.taken out.old)
-        (summary_of turns number (run_names (running_of host.old))
-        (run_of turns (running_of host.old))) (O.taken out.new)) }
+    ensures whole { IfOk result (λ e. TookWhole (summary_of turns number
+        (run_names (running_of host.old)) (run_of turns (running_of host.old)))
+        (stream O.taken O.faults out.old) (stream O.taken O.faults out.new)) }
     ensures fault { IfErr result (λ e. e ≡ Refusal.WriteFault) }
     ensures cut_off { IfErr result
         (λ e. IsCutOff (summary_of turns number (run_names (running_of host.old))

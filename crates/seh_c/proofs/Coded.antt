@@ -6,10 +6,10 @@ use Rattle.eh_tables.specs.declared.refusal.TableErr.{TableErr}
 use Rattle.eh_tables.specs.declared.refusal.TableErr.TheVariants as tables
 use Rattle.virtual_unwind.specs.declared.refusal.UnwindErr.{UnwindErr}
 use Rattle.virtual_unwind.specs.declared.refusal.UnwindErr.TheVariants.{Unreadable, Backward}
-use Rattle.seh_c.specs.declared.c_types.SehStatus.{SehStatus}
-use Rattle.seh_c.specs.declared.refusal.Refusal.{Refusal}
-use Rattle.seh_c.specs.declared.refusal.Refusal.TheVariants.{Range, NoMemory, Image, Table, Unwinding}
-use Rattle.seh_c.specs.Statuses.{ok, image_status, table_status, unwind_status, refusal_status}
+use Rattle.seh_views.specs.declared.c_types.SehStatus.{SehStatus}
+use Rattle.seh_views.specs.declared.refusal.Refusal.{Refusal}
+use Rattle.seh_views.specs.declared.refusal.Refusal.TheVariants.{Range, NoMemory, Image, Table, Unwinding}
+use Rattle.seh_views.specs.Statuses.{ok, image_status, table_status, unwind_status, refusal_status}
 
 image_is_not : (e : ImageErr) → (image_status e).code ≡ 0 → ⊥
 image_is_not (images.Truncated at) h = absurd cc

@@ -1,9 +1,2 @@
-pub mod Asked
 pub mod Coded
-pub mod FramesMore
-pub mod Known
-pub mod Opened
-pub mod RangesHeld
-pub mod Rests
 pub mod Validated
-pub mod ViewsMade

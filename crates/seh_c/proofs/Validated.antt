@@ -8,12 +8,12 @@ use Rattle.eh_tables.specs.declared.refusal.TableErr.{TableErr}
 use Rattle.eh_tables.specs.Tables.{tables}
 use Rattle.image_code.specs.Verdicts.{IsImageVerdict}
 use Rattle.unwind_check.specs.declared.rule.Verdict.{Verdict}
-use Rattle.seh_c.specs.declared.c_types.SehVerdict.{SehVerdict}
-use Rattle.seh_c.specs.declared.c_types.SehStatus.{SehStatus}
-use Rattle.seh_c.specs.declared.refusal.Refusal.{Refusal}
-use Rattle.seh_c.specs.declared.refusal.Refusal.TheVariants as refusals
-use Rattle.seh_c.specs.Openings.{of_image, Gives, opened_whole}
-use Rattle.seh_c.specs.Statuses.{ok, refusal_status}
+use Rattle.seh_views.specs.declared.c_types.SehVerdict.{SehVerdict}
+use Rattle.seh_views.specs.declared.c_types.SehStatus.{SehStatus}
+use Rattle.seh_views.specs.declared.refusal.Refusal.{Refusal}
+use Rattle.seh_views.specs.declared.refusal.Refusal.TheVariants as refusals
+use Rattle.seh_views.specs.Openings.{of_image, Gives, opened_whole}
+use Rattle.seh_views.specs.Statuses.{ok, refusal_status}
 use Rattle.seh_c.specs.Validations.{c_verdict, IsValidated, IsUnvalidated, VerdictAnswers}
 
 -- an opening refuses no table

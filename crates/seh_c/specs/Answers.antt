@@ -1,18 +1,20 @@
 -- What a call writes and returns, by its answer. Any call may answer that memory is wanting, and
 -- then writes nothing.
 --
--- `Answers`, `WalkAnswers`, `FunctionAnswers`, `ScopeAnswers`: what a call returns and writes by such
--- an answer; or memory is wanting, and nothing is written.
+-- `Answers`, `WalkAnswers`, `FunctionAnswers`, `ScopeAnswers`: what a call returns and writes by
+-- such an answer; or memory is wanting, and nothing is written.
 use Rattle.std.specs.Prelude.{◌≡◌, ◌⊎◌, ℕ, List, Option, Some, None, Ok, Err}
-use Rattle.seh_c.specs.declared.c_types.SehFrame.{SehFrame}
-use Rattle.seh_c.specs.declared.c_types.SehFunction.{SehFunction}
-use Rattle.seh_c.specs.declared.c_types.SehStatus.{SehStatus}
-use Rattle.seh_c.specs.declared.refusal.Refusal.TheVariants as refusals
-use Rattle.seh_c.specs.declared.unwinding.Step.{Step}
-use Rattle.seh_c.specs.Openings.{Answer}
-use Rattle.seh_c.specs.Shapes.{c_frame}
-use Rattle.seh_c.specs.Statuses.{ok, no_function, refusal_status}
-use Rattle.seh_c.specs.Walks.{Walked}
+use Rattle.seh_views.specs.declared.c_types.SehFrame.{SehFrame}
+use Rattle.seh_views.specs.declared.c_types.SehFunction.{SehFunction}
+use Rattle.seh_views.specs.declared.c_types.SehScope.{SehScope}
+use Rattle.seh_views.specs.declared.c_types.SehStatus.{SehStatus}
+use Rattle.seh_views.specs.declared.refusal.Refusal.TheVariants as refusals
+use Rattle.seh_views.specs.declared.step.Step.{Step}
+use Rattle.seh_views.specs.Openings.{Answer}
+use Rattle.seh_views.specs.Scopes.{Filled}
+use Rattle.seh_views.specs.Shapes.{c_frame}
+use Rattle.seh_views.specs.Statuses.{ok, no_function, refusal_status}
+use Rattle.seh_views.specs.Walks.{Walked}
 
 -- ---- a frame
 
@@ -79,3 +81,27 @@ abbrev pub FunctionAnswers : Answer (Option SehFunction) → SehFunction → Seh
     → Type 0
 FunctionAnswers answer old new given =
     SaysFunction answer old new given ⊎ SaysFunction (Err refusals.NoMemory) old new given
+
+-- ---- the scope records that hold an address
+
+abbrev pub scopes_status : Answer Filled → SehStatus
+scopes_status (Ok f) = f.status
+scopes_status (Err e) = refusal_status e
+
+abbrev pub scopes_after : List SehScope → Answer Filled → List SehScope
+scopes_after old (Ok f) = f.scopes
+scopes_after old (Err e) = old
+
+abbrev pub scopes_count : Answer Filled → ℕ
+scopes_count (Ok f) = f.count
+scopes_count (Err e) = 0
+
+pub record SaysScopes (answer : Answer Filled) (old new : List SehScope) (written : ℕ)
+    (given : SehStatus) : Type 0 where
+  pub status : given ≡ scopes_status answer
+  pub scopes : new ≡ scopes_after old answer
+  pub count : written ≡ scopes_count answer
+
+abbrev pub ScopeAnswers : Answer Filled → List SehScope → List SehScope → ℕ → SehStatus → Type 0
+ScopeAnswers answer old new count given =
+    SaysScopes answer old new count given ⊎ SaysScopes (Err refusals.NoMemory) old new count given

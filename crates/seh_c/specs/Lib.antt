@@ -1,12 +1,2 @@
-pub mod Shapes
-pub mod Ranges
-pub mod Snapshot
-pub mod Snapshots
-pub mod Statuses
-pub mod Openings
-pub mod Callers
-pub mod Views
-pub mod Validations
-pub mod Walks
 pub mod Answers
-pub mod Scopes
+pub mod Validations

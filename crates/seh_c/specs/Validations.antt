@@ -11,13 +11,13 @@ use Rattle.unwind_check.specs.declared.rule.Rule.{Rule}
 use Rattle.unwind_check.specs.declared.rule.Rule.TheVariants as rules
 use Rattle.unwind_check.specs.declared.rule.Verdict.{Verdict}
 use Rattle.unwind_check.specs.declared.rule.Verdict.TheVariants.{Yes, No}
-use Rattle.seh_c.specs.declared.c_types.SehStatus.{SehStatus}
-use Rattle.seh_c.specs.declared.c_types.SehVerdict.{SehVerdict}
-use Rattle.seh_c.specs.declared.codes.TheConstants.{RULE_NONE, RULE_DECODE, RULE_CHAIN, RULE_CODES, RULE_PROLOGUE, RULE_STACK_WRITE, RULE_UNSAVED, RULE_EPILOGUE}
-use Rattle.seh_c.specs.declared.refusal.Refusal.{Refusal}
-use Rattle.seh_c.specs.declared.refusal.Refusal.TheVariants as refusals
-use Rattle.seh_c.specs.Openings.{Gives, opened_whole}
-use Rattle.seh_c.specs.Statuses.{ok, refusal_status}
+use Rattle.seh_views.specs.declared.c_types.SehStatus.{SehStatus}
+use Rattle.seh_views.specs.declared.c_types.SehVerdict.{SehVerdict}
+use Rattle.seh_views.specs.declared.codes.TheConstants.{RULE_NONE, RULE_DECODE, RULE_CHAIN, RULE_CODES, RULE_PROLOGUE, RULE_STACK_WRITE, RULE_UNSAVED, RULE_EPILOGUE}
+use Rattle.seh_views.specs.declared.refusal.Refusal.{Refusal}
+use Rattle.seh_views.specs.declared.refusal.Refusal.TheVariants as refusals
+use Rattle.seh_views.specs.Openings.{Gives, opened_whole}
+use Rattle.seh_views.specs.Statuses.{ok, refusal_status}
 
 abbrev pub rule_code : Rule → ℕ
 rule_code rules.Decode = RULE_DECODE
@@ -65,7 +65,7 @@ pub record GivesNone (layout : ImageLayout) (bytes : List ℕ) (old new : SehVer
   pub status : given ≡ refusal_status refusal
   pub kept : new ≡ old
 
--- what `seh_validate` returns and writes: the verdict, by `IsImageVerdict` on the image that the
+-- what `seh_check` returns and writes: the verdict, by `IsImageVerdict` on the image that the
 -- bytes are read as (`IsValidated`), or why there is none, with nothing written (`IsUnvalidated`)
 abbrev pub VerdictAnswers : ImageLayout → List ℕ → List ℕ → SehVerdict → SehVerdict → SehStatus
     → Type 0

@@ -1,21 +1,9 @@
-//! The unwinder for programs that aren't Rattle: C functions over views of images, ranges of memory,
-//! and registers. `include/seh.h` declares them.
+//! The unwinder for programs that aren't Rattle: what C calls. `include/seh.h` declares it.
 //!
-//! Proved: an opening makes a view of the image that the bytes are (`specs/Views.antt`). By such a
-//! view each answer is the definition's, which opens the bytes anew (`specs/Callers.antt`,
-//! `specs/Walks.antt`), or that memory is wanting. By any view a call is safe, and an entry that it
-//! finds is one of the table, and covers the address. Begin with `specs/Callers.antt`.
+//! Proved: each call returns and writes what `specs/Answers.antt` says, by the definitions of crate
+//! seh_views: of a view that `seh_open` made, exactly what opening its bytes anew finds, or that
+//! memory is wanting.
 #![tactic(auto)]
 
-mod c_types;
-mod codes;
 mod exports;
-mod finding;
-mod opening;
-mod ranges;
-mod refusal;
-mod scopes;
-mod snapshot;
-mod unwinding;
 mod validating;
-mod walking;

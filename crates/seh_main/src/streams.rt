@@ -2,6 +2,7 @@
 //! count their faults. What reaches them is the outside, and no contract speaks of it.
 
 ghost use Rattle.std.specs.Prelude.{None};
+ghost use Rattle.seh_io.specs.Streams.{faults_of};
 
 use seh_io::sink::Sink;
 use seh_io::source::{Failed, Source};
@@ -13,21 +14,28 @@ pub struct Input<R> {
     reader: R,
     /// One for each read that failed; it stays at 2^64 - 1.
     faults: u64,
+    /// Whether the last read failed.
+    failed: bool,
 }
 
 impl<R: Read> Input<R> {
     /// A source that has had no fault.
     pub fn new(reader: R) -> Input<R> {
-        Input { reader, faults: 0 }
+        Input {
+            reader,
+            faults: 0,
+            failed: false,
+        }
     }
 }
 
 impl<R: Read> Source for Input<R> {
     ghost left = { λ _. None };
 
-    ghost faults = { λ s. s.faults };
+    ghost faults = { λ s. faults_of s.faults s.failed };
 
     fn read(&mut self, buf: &mut [u8]) -> Result<usize, Failed> {
+        self.failed = false;
         for _ in 0..u64::MAX {
             match self.reader.read(buf) {
                 Ok(count) => return Ok(count),
@@ -36,6 +44,7 @@ impl<R: Read> Source for Input<R> {
             }
         }
         self.faults = self.faults.saturating_add(1);
+        self.failed = true;
         Err(Failed)
     }
 }
@@ -46,21 +55,28 @@ pub struct Output<W> {
     writer: W,
     /// One for each write that failed, or took nothing of a piece with bytes; it stays at 2^64 - 1.
     faults: u64,
+    /// Whether that was so of the last write.
+    failed: bool,
 }
 
 impl<W: Write> Output<W> {
     /// A sink that has had no fault.
     pub fn new(writer: W) -> Output<W> {
-        Output { writer, faults: 0 }
+        Output {
+            writer,
+            faults: 0,
+            failed: false,
+        }
     }
 }
 
 impl<W: Write> Sink for Output<W> {
     ghost taken = { λ _. None };
 
-    ghost faults = { λ s. s.faults };
+    ghost faults = { λ s. faults_of s.faults s.failed };
 
     fn write(&mut self, piece: &[u8]) -> Result<usize, Failed> {
+        self.failed = false;
         for _ in 0..u64::MAX {
             match self.writer.write(piece) {
                 Ok(0) if !piece.is_empty() => break,
@@ -70,6 +86,7 @@ impl<W: Write> Sink for Output<W> {
             }
         }
         self.faults = self.faults.saturating_add(1);
+        self.failed = true;
         Err(Failed)
     }
 }

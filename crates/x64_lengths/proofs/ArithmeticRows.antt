@@ -16,11 +16,11 @@ use Rattle.x64_instr.specs.Reading.{bit}
 use Rattle.x64_instr.specs.Operands.{width_of, source}
 use Rattle.x64_instr.specs.Spelling.{rm_r, r_rm}
 use Rattle.x64_instr.specs.Spelling as spelling
-use Rattle.x64_lengths.specs.declared.cell.Cell.{Cell}
-use Rattle.x64_lengths.specs.declared.cell.Form.TheVariants as forms
-use Rattle.x64_lengths.specs.declared.cell.Immediate.TheVariants as immediates
-use Rattle.x64_lengths.specs.declared.cell.Row.TheVariants as rows
-use Rattle.x64_lengths.specs.declared.words.TheConstants as words
+use Rattle.x64_maps.specs.declared.cell.Cell.{Cell}
+use Rattle.x64_maps.specs.declared.cell.Form.TheVariants as forms
+use Rattle.x64_maps.specs.declared.cell.Immediate.TheVariants as immediates
+use Rattle.x64_maps.specs.declared.cell.Row.TheVariants as rows
+use Rattle.x64_maps.specs.declared.words.TheConstants as words
 use Rattle.x64_lengths.specs.declared.spelled.Map.TheVariants.{OneByte}
 use Rattle.x64_lengths.specs.Maps.{row}
 use Rattle.x64_lengths.specs.Effects.{is_no_operation}

@@ -12,13 +12,13 @@ use Rattle.x64_instr.specs.Reading.{Read, ◌>>=◌, number}
 use Rattle.x64_instr.specs.Operands.{place, is_listed, modrm_with_opcode_extension, rm_and_opcode_extension}
 use Rattle.x64_instr.specs.Spelling.{plain_row, rm_extension, group_5}
 use Rattle.x64_instr.proofs.Readers.{pair, bind_some}
-use Rattle.x64_lengths.specs.declared.cell.Cell.{Cell}
-use Rattle.x64_lengths.specs.declared.cell.Form.TheVariants as forms
-use Rattle.x64_lengths.specs.declared.cell.Group.TheVariants as groups
-use Rattle.x64_lengths.specs.declared.cell.Row.{Row}
-use Rattle.x64_lengths.specs.declared.cell.Row.TheVariants as rows
-use Rattle.x64_lengths.specs.declared.words.TheConstants as words
-use Rattle.x64_lengths.specs.declared.groups.TheConstants.{GROUPS}
+use Rattle.x64_maps.specs.declared.cell.Cell.{Cell}
+use Rattle.x64_maps.specs.declared.cell.Form.TheVariants as forms
+use Rattle.x64_maps.specs.declared.cell.Group.TheVariants as groups
+use Rattle.x64_maps.specs.declared.cell.Row.{Row}
+use Rattle.x64_maps.specs.declared.cell.Row.TheVariants as rows
+use Rattle.x64_maps.specs.declared.words.TheConstants as words
+use Rattle.x64_maps.specs.declared.groups.TheConstants.{GROUPS}
 use Rattle.x64_lengths.specs.declared.spelled.Kind.TheVariants as kinds
 use Rattle.x64_lengths.specs.declared.spelled.Mandatory.TheVariants as mandatories
 use Rattle.x64_lengths.specs.declared.spelled.Map.{Map}

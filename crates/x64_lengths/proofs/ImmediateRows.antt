@@ -13,8 +13,8 @@ use Rattle.x64_instr.specs.Operands.{width_of, register_of_low_bits}
 use Rattle.x64_instr.specs.Spelling.{move_immediate}
 use Rattle.x64_instr.specs.Spelling as spelling
 use Rattle.x64_instr.proofs.Readers.{pair, bind_some}
-use Rattle.x64_lengths.specs.declared.cell.Row.TheVariants as rows
-use Rattle.x64_lengths.specs.declared.words.TheConstants as words
+use Rattle.x64_maps.specs.declared.cell.Row.TheVariants as rows
+use Rattle.x64_maps.specs.declared.words.TheConstants as words
 use Rattle.x64_lengths.specs.declared.spelled.Map.TheVariants.{OneByte}
 use Rattle.x64_lengths.specs.Maps.{row}
 use Rattle.x64_lengths.specs.Effects.{effects_of}

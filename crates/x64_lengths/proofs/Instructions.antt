@@ -6,10 +6,10 @@ use Rattle.x64_instr.specs.declared.prefixes.Prefixes.{Prefixes}
 use Rattle.x64_instr.specs.Reading.{Read, ◌>>=◌, byte, number, bit}
 use Rattle.x64_instr.proofs.Readers.{Takes, IsReader, pair, byte-IsReader, done-IsReader, fail-IsReader, bind-IsReader, map-IsReader, if-IsReader, number-IsReader}
 use Rattle.x64_instr.proofs.Table.{place-IsReader}
-use Rattle.x64_lengths.specs.declared.cell.Cell.{Cell}
-use Rattle.x64_lengths.specs.declared.cell.Form.{Form}
-use Rattle.x64_lengths.specs.declared.cell.Form.TheVariants as forms
-use Rattle.x64_lengths.specs.declared.cell.Row.{Row}
+use Rattle.x64_maps.specs.declared.cell.Cell.{Cell}
+use Rattle.x64_maps.specs.declared.cell.Form.{Form}
+use Rattle.x64_maps.specs.declared.cell.Form.TheVariants as forms
+use Rattle.x64_maps.specs.declared.cell.Row.{Row}
 use Rattle.x64_lengths.specs.declared.places.ModRm.{ModRm}
 use Rattle.x64_lengths.specs.declared.effects.Effects.{Effects}
 use Rattle.x64_lengths.specs.declared.spelled.Map.{Map}

@@ -18,12 +18,12 @@ use Rattle.x64_instr.specs.Operands.{width_of, place, register_of_reg_field, mod
 use Rattle.x64_instr.specs.Spelling.{rm_r}
 use Rattle.x64_instr.specs.Spelling as spelling
 use Rattle.x64_instr.proofs.Readers.{pair, bind_some}
-use Rattle.x64_lengths.specs.declared.cell.Cell.{Cell}
-use Rattle.x64_lengths.specs.declared.cell.Form.TheVariants as forms
-use Rattle.x64_lengths.specs.declared.cell.Part.TheVariants as parts
-use Rattle.x64_lengths.specs.declared.cell.Immediate.TheVariants as immediates
-use Rattle.x64_lengths.specs.declared.cell.Row.TheVariants as rows
-use Rattle.x64_lengths.specs.declared.words.TheConstants as words
+use Rattle.x64_maps.specs.declared.cell.Cell.{Cell}
+use Rattle.x64_maps.specs.declared.cell.Form.TheVariants as forms
+use Rattle.x64_maps.specs.declared.cell.Part.TheVariants as parts
+use Rattle.x64_maps.specs.declared.cell.Immediate.TheVariants as immediates
+use Rattle.x64_maps.specs.declared.cell.Row.TheVariants as rows
+use Rattle.x64_maps.specs.declared.words.TheConstants as words
 use Rattle.x64_lengths.specs.declared.places.ModRm.{ModRm}
 use Rattle.x64_lengths.specs.declared.spelled.Map.{Map}
 use Rattle.x64_lengths.specs.declared.spelled.Map.TheVariants.{OneByte}

@@ -20,9 +20,9 @@ use Rattle.x64_instr.specs.Spelling.{plain_row, r_rm, load, given, condition, ju
 use Rattle.x64_instr.specs.Spelling as spelling
 use Rattle.x64_instr.proofs.Readers.{pair, bind_some}
 use Rattle.x64_instr.proofs.RegisterNumbers.{number_register}
-use Rattle.x64_lengths.specs.declared.cell.Cell.{Cell}
-use Rattle.x64_lengths.specs.declared.cell.Row.TheVariants as rows
-use Rattle.x64_lengths.specs.declared.words.TheConstants as words
+use Rattle.x64_maps.specs.declared.cell.Cell.{Cell}
+use Rattle.x64_maps.specs.declared.cell.Row.TheVariants as rows
+use Rattle.x64_maps.specs.declared.words.TheConstants as words
 use Rattle.x64_lengths.specs.declared.spelled.Map.{Map}
 use Rattle.x64_lengths.specs.declared.spelled.Map.TheVariants.{OneByte}
 use Rattle.x64_lengths.specs.Maps.{row, row_of, has_form}

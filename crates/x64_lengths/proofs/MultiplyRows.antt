@@ -14,11 +14,11 @@ use Rattle.x64_instr.specs.Reading.{Read, ◌>>=◌, number, signed, bit}
 use Rattle.x64_instr.specs.Operands.{width_of, immediate_of, register_of_low_bits, memory_operand, place, rm_and_register}
 use Rattle.x64_instr.specs.Spelling.{multiply_by, address_to, plain_row}
 use Rattle.x64_instr.proofs.Readers.{read_as, pair, bind_some}
-use Rattle.x64_lengths.specs.declared.cell.Cell.{Cell}
-use Rattle.x64_lengths.specs.declared.cell.Form.TheVariants as forms
-use Rattle.x64_lengths.specs.declared.cell.Part.TheVariants as parts
-use Rattle.x64_lengths.specs.declared.cell.Row.TheVariants as rows
-use Rattle.x64_lengths.specs.declared.words.TheConstants as words
+use Rattle.x64_maps.specs.declared.cell.Cell.{Cell}
+use Rattle.x64_maps.specs.declared.cell.Form.TheVariants as forms
+use Rattle.x64_maps.specs.declared.cell.Part.TheVariants as parts
+use Rattle.x64_maps.specs.declared.cell.Row.TheVariants as rows
+use Rattle.x64_maps.specs.declared.words.TheConstants as words
 use Rattle.x64_lengths.specs.declared.spelled.Map.TheVariants.{OneByte}
 use Rattle.x64_lengths.specs.Maps.{row, row_of, by_modrm, has_form}
 use Rattle.x64_lengths.specs.Places.{operands}

@@ -13,11 +13,11 @@ use Rattle.x64_instr.specs.Operands.{register_of_low_bits}
 use Rattle.x64_instr.specs.Spelling.{plain_row}
 use Rattle.x64_instr.proofs.Readers.{pair}
 use Rattle.x64_instr.proofs.RegisterNumbers.{number_register}
-use Rattle.x64_lengths.specs.declared.cell.Cell.{Cell}
-use Rattle.x64_lengths.specs.declared.cell.Ending.{Ending}
-use Rattle.x64_lengths.specs.declared.cell.Row.{Row}
-use Rattle.x64_lengths.specs.declared.cell.Row.TheVariants as rows
-use Rattle.x64_lengths.specs.declared.words.TheConstants as words
+use Rattle.x64_maps.specs.declared.cell.Cell.{Cell}
+use Rattle.x64_maps.specs.declared.cell.Ending.{Ending}
+use Rattle.x64_maps.specs.declared.cell.Row.{Row}
+use Rattle.x64_maps.specs.declared.cell.Row.TheVariants as rows
+use Rattle.x64_maps.specs.declared.words.TheConstants as words
 use Rattle.x64_lengths.specs.declared.spelled.Map.{Map}
 use Rattle.x64_lengths.specs.declared.spelled.Map.TheVariants.{OneByte}
 use Rattle.x64_lengths.specs.Maps.{row, row_of}

@@ -20,13 +20,13 @@ use Rattle.x64_instr.specs.Spelling.{rm_extension, group_2_immediate, group_2_cl
 use Rattle.x64_instr.specs.Spelling as spelling
 use Rattle.x64_instr.specs.Written.{written}
 use Rattle.x64_instr.proofs.Readers.{read_as, pair, bind_some}
-use Rattle.x64_lengths.specs.declared.cell.Cell.{Cell}
-use Rattle.x64_lengths.specs.declared.cell.Form.TheVariants as forms
-use Rattle.x64_lengths.specs.declared.cell.Group.{Group}
-use Rattle.x64_lengths.specs.declared.cell.Group.TheVariants as groups
-use Rattle.x64_lengths.specs.declared.cell.Row.TheVariants as rows
-use Rattle.x64_lengths.specs.declared.words.TheConstants as words
-use Rattle.x64_lengths.specs.declared.groups.TheConstants.{GROUPS}
+use Rattle.x64_maps.specs.declared.cell.Cell.{Cell}
+use Rattle.x64_maps.specs.declared.cell.Form.TheVariants as forms
+use Rattle.x64_maps.specs.declared.cell.Group.{Group}
+use Rattle.x64_maps.specs.declared.cell.Group.TheVariants as groups
+use Rattle.x64_maps.specs.declared.cell.Row.TheVariants as rows
+use Rattle.x64_maps.specs.declared.words.TheConstants as words
+use Rattle.x64_maps.specs.declared.groups.TheConstants.{GROUPS}
 use Rattle.x64_lengths.specs.declared.spelled.Map.TheVariants.{OneByte}
 use Rattle.x64_lengths.specs.Maps.{row, by_prefix, row_of, by_modrm, group_number, at}
 use Rattle.x64_lengths.specs.Effects.{effects_of}

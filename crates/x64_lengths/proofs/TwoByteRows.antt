@@ -12,9 +12,9 @@ use Rattle.x64_instr.specs.Reading.{◌>>=◌, bit}
 use Rattle.x64_instr.specs.Operands.{width_of, sized_narrow, rm_and_opcode_extension}
 use Rattle.x64_instr.specs.Spelling.{r_rm, given, condition, jump_if, set_if, extend}
 use Rattle.x64_instr.proofs.Readers.{read_as, pair}
-use Rattle.x64_lengths.specs.declared.cell.Cell.{Cell}
-use Rattle.x64_lengths.specs.declared.cell.Row.TheVariants as rows
-use Rattle.x64_lengths.specs.declared.words.TheConstants as words
+use Rattle.x64_maps.specs.declared.cell.Cell.{Cell}
+use Rattle.x64_maps.specs.declared.cell.Row.TheVariants as rows
+use Rattle.x64_maps.specs.declared.words.TheConstants as words
 use Rattle.x64_lengths.specs.declared.spelled.Kind.TheVariants as kinds
 use Rattle.x64_lengths.specs.declared.spelled.Mandatory.TheVariants as mandatories
 use Rattle.x64_lengths.specs.declared.spelled.Map.TheVariants.{TwoByte}

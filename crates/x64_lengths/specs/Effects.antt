@@ -8,13 +8,13 @@ use Rattle.x64_instr.specs.declared.operand.RegisterOrMemory.{RegisterOrMemory}
 use Rattle.x64_instr.specs.declared.operand.RegisterOrMemory.TheVariants as places
 use Rattle.x64_instr.specs.Registers.{number}
 use Rattle.x64_instr.specs.Reading.{bit, extended}
-use Rattle.x64_lengths.specs.declared.cell.Cell.{Cell}
-use Rattle.x64_lengths.specs.declared.cell.Part.{Part}
-use Rattle.x64_lengths.specs.declared.cell.Part.TheVariants as parts
-use Rattle.x64_lengths.specs.declared.cell.Vector.{Vector}
-use Rattle.x64_lengths.specs.declared.cell.Vector.TheVariants as vector_kinds
-use Rattle.x64_lengths.specs.declared.cell.Ending.{Ending}
-use Rattle.x64_lengths.specs.declared.cell.Ending.TheVariants as endings
+use Rattle.x64_maps.specs.declared.cell.Cell.{Cell}
+use Rattle.x64_maps.specs.declared.cell.Part.{Part}
+use Rattle.x64_maps.specs.declared.cell.Part.TheVariants as parts
+use Rattle.x64_maps.specs.declared.cell.Vector.{Vector}
+use Rattle.x64_maps.specs.declared.cell.Vector.TheVariants as vector_kinds
+use Rattle.x64_maps.specs.declared.cell.Ending.{Ending}
+use Rattle.x64_maps.specs.declared.cell.Ending.TheVariants as endings
 use Rattle.x64_lengths.specs.declared.places.ModRm.{ModRm}
 use Rattle.x64_lengths.specs.declared.effects.Flow.{Flow}
 use Rattle.x64_lengths.specs.declared.effects.Flow.TheVariants as flows

@@ -3,15 +3,15 @@
 -- The main definitions: `row`, `mask`, `row_of`, `by_modrm`.
 use Rattle.std.specs.Prelude.{ℕ, ◌+◌, ◌*◌, ◌/◌, ◌%◌, Bool, true, false, ◌==◌, if◌then◌else◌, List, [], Option, Some, None, slice_index_or}
 use Rattle.x64_instr.specs.Reading.{bit}
-use Rattle.x64_lengths.specs.declared.cell.Cell.{Cell}
-use Rattle.x64_lengths.specs.declared.cell.Form.{Form}
-use Rattle.x64_lengths.specs.declared.cell.Form.TheVariants as forms
-use Rattle.x64_lengths.specs.declared.cell.Group.{Group}
-use Rattle.x64_lengths.specs.declared.cell.Group.TheVariants as groups
-use Rattle.x64_lengths.specs.declared.cell.Prefixed.{Prefixed}
-use Rattle.x64_lengths.specs.declared.cell.Prefixed.TheVariants as prefixed_rows
-use Rattle.x64_lengths.specs.declared.cell.Row.{Row}
-use Rattle.x64_lengths.specs.declared.cell.Row.TheVariants as rows
+use Rattle.x64_maps.specs.declared.cell.Cell.{Cell}
+use Rattle.x64_maps.specs.declared.cell.Form.{Form}
+use Rattle.x64_maps.specs.declared.cell.Form.TheVariants as forms
+use Rattle.x64_maps.specs.declared.cell.Group.{Group}
+use Rattle.x64_maps.specs.declared.cell.Group.TheVariants as groups
+use Rattle.x64_maps.specs.declared.cell.Prefixed.{Prefixed}
+use Rattle.x64_maps.specs.declared.cell.Prefixed.TheVariants as prefixed_rows
+use Rattle.x64_maps.specs.declared.cell.Row.{Row}
+use Rattle.x64_maps.specs.declared.cell.Row.TheVariants as rows
 use Rattle.x64_lengths.specs.declared.spelled.Kind.{Kind}
 use Rattle.x64_lengths.specs.declared.spelled.Kind.TheVariants as kinds
 use Rattle.x64_lengths.specs.declared.spelled.Spelled.{Spelled}
@@ -19,12 +19,12 @@ use Rattle.x64_lengths.specs.declared.spelled.Map.{Map}
 use Rattle.x64_lengths.specs.declared.spelled.Map.TheVariants as maps
 use Rattle.x64_lengths.specs.declared.spelled.Mandatory.{Mandatory}
 use Rattle.x64_lengths.specs.declared.spelled.Mandatory.TheVariants as mandatories
-use Rattle.x64_lengths.specs.declared.one_byte.TheConstants.{ONE_BYTE}
-use Rattle.x64_lengths.specs.declared.two_byte.TheConstants.{TWO_BYTE, TWO_BYTE_SPELLINGS}
-use Rattle.x64_lengths.specs.declared.three_byte_38.TheConstants.{THREE_BYTE_38, THREE_BYTE_38_SPELLINGS}
-use Rattle.x64_lengths.specs.declared.three_byte_3a.TheConstants.{THREE_BYTE_3A, THREE_BYTE_3A_SPELLINGS}
-use Rattle.x64_lengths.specs.declared.groups.TheConstants.{GROUPS}
-use Rattle.x64_lengths.specs.declared.prefixed.TheConstants.{PREFIXED}
+use Rattle.x64_maps.specs.declared.one_byte.TheConstants.{ONE_BYTE}
+use Rattle.x64_maps.specs.declared.two_byte.TheConstants.{TWO_BYTE, TWO_BYTE_SPELLINGS}
+use Rattle.x64_maps.specs.declared.three_byte_38.TheConstants.{THREE_BYTE_38, THREE_BYTE_38_SPELLINGS}
+use Rattle.x64_maps.specs.declared.three_byte_3a.TheConstants.{THREE_BYTE_3A, THREE_BYTE_3A_SPELLINGS}
+use Rattle.x64_maps.specs.declared.groups.TheConstants.{GROUPS}
+use Rattle.x64_maps.specs.declared.prefixed.TheConstants.{PREFIXED}
 
 -- ---- the places of rows in the tables
 

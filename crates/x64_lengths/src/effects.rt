@@ -3,12 +3,12 @@
 ghost use Rattle.std.specs.Prelude.{◌≡◌, ◌<◌, ◌≤◌, ◌^◌};
 ghost use Rattle.x64_lengths.specs.Effects as spec;
 
-use crate::cell::{Cell, Ending, Part, Vector};
 use crate::places::ModRm;
 use crate::spelled::{Extended, Kind, Map, Spelled};
 use seh_num::width::Width;
 use x64_instr::operand::RegisterOrMemory;
 use x64_instr::reading::{bit, extended};
+use x64_maps::cell::{Cell, Ending, Part, Vector};
 
 /// How the flow goes on after an instruction. Displacements are from the next instruction, modulo 2
 /// to the 64.

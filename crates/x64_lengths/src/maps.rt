@@ -3,14 +3,14 @@
 ghost use Rattle.std.specs.Prelude.{◌≡◌, ◌<◌};
 ghost use Rattle.x64_lengths.specs.Maps as spec;
 
-use crate::cell::{Cell, Form, Prefixed, Row};
-use crate::groups::GROUPS;
-use crate::one_byte::ONE_BYTE;
-use crate::prefixed::{PREFIXED, PREFIXED_ROWS};
 use crate::spelled::{Kind, Mandatory, Map, Spelled};
-use crate::three_byte_3a::{THREE_BYTE_3A, THREE_BYTE_3A_SPELLINGS};
-use crate::three_byte_38::{THREE_BYTE_38, THREE_BYTE_38_SPELLINGS};
-use crate::two_byte::{TWO_BYTE, TWO_BYTE_SPELLINGS};
+use x64_maps::cell::{Cell, Form, Prefixed, Row};
+use x64_maps::groups::GROUPS;
+use x64_maps::one_byte::ONE_BYTE;
+use x64_maps::prefixed::{PREFIXED, PREFIXED_ROWS};
+use x64_maps::three_byte_3a::{THREE_BYTE_3A, THREE_BYTE_3A_SPELLINGS};
+use x64_maps::three_byte_38::{THREE_BYTE_38, THREE_BYTE_38_SPELLINGS};
+use x64_maps::two_byte::{TWO_BYTE, TWO_BYTE_SPELLINGS};
 
 /// The row of an opcode.
 #[tactic(auto, unfolding(crate::specs::Maps::row))]

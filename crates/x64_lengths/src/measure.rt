@@ -6,13 +6,13 @@ ghost use Rattle.x64_lengths.specs.Effects.{IsSmall};
 ghost use Rattle.x64_lengths.specs.Maps.{by_modrm, cell_of};
 ghost use Rattle.x64_lengths.specs.Measures as spec;
 
-use crate::cell::{Cell, Ending, Immediate, Row};
 use crate::effects::{Effects, effects_of};
 use crate::maps::{by_modrm, cell_of, has_modrm, row_of};
 use crate::places::{ModRm, operands};
 use crate::spelled::{Spelled, prefixes_and_opcode};
 use x64_instr::operand::RegisterOrMemory;
 use x64_instr::reading::{byte, number};
+use x64_maps::cell::{Cell, Ending, Immediate, Row};
 
 /// An instruction's length and effects.
 #[derive(Clone, Copy, Debug, PartialEq, Eq)]

@@ -4,11 +4,11 @@
 ghost use Rattle.std.specs.Prelude.{◌≡◌, ◌<◌, ◌+◌, option_map, IfSome};
 ghost use Rattle.x64_lengths.specs.Places as spec;
 
-use crate::cell::Form;
 use x64_instr::operand::RegisterOrMemory;
 use x64_instr::places::place;
 use x64_instr::prefixes::Prefixes;
 use x64_instr::reading::bit;
+use x64_maps::cell::Form;
 
 /// ModRM, as it is read.
 #[derive(Clone, Copy, Debug, PartialEq, Eq)]

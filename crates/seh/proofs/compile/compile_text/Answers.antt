@@ -7,8 +7,11 @@ pub returns-in-Ok-put_all : goal.returns-in-Ok-put_all
 returns-in-Ok-put_all g c = (
   c.in-Ok.image.items,
   c.in-Ok.ensures.found,
-  subst (λ t. Grew (g.O.Sink.taken c.args.out.now) t (g.O.Sink.taken c.put_all.new.sink))
-      c.deref.ensures.value c.in-Ok-put_all.ensures.ok,
+  record {
+    grew = subst (λ t. Grew (g.O.Sink.taken c.args.out.now) t (g.O.Sink.taken c.put_all.new.sink))
+        c.deref.ensures.value c.in-Ok-put_all.ensures.ok;
+    faultless = c.in-Ok-put_all.ensures.faultless;
+  },
 )
 
 pub returns : goal.returns

@@ -23,14 +23,18 @@ returns-in-Ok-run g c =
         loads = c.in-Ok-load.ensures.accepted;
       },
       ends,
-      subst (λ t. Grew (g.O.Sink.taken c.args.out.now) t (g.O.Sink.taken c.run.new.sink))
-          (ap (λ (s : Shown RunEnd). text s.events c.in-Ok-run.end c.args.options.trace
-          (run_names r)) same
-          ∙ ap (λ e. text (shown_by c.args.options c.args.bytes.now).events e
-          c.args.options.trace (run_names r)) ends
-          ∙ ap (text (shown_by c.args.options c.args.bytes.now).events
-          (end_by c.args.options c.args.bytes.now) c.args.options.trace) named)
-          c.in-Ok-run.ensures.text,
+      record {
+        grew =
+            subst (λ t. Grew (g.O.Sink.taken c.args.out.now) t (g.O.Sink.taken c.run.new.sink))
+            (ap (λ (s : Shown RunEnd). text s.events c.in-Ok-run.end c.args.options.trace
+            (run_names r)) same
+            ∙ ap (λ e. text (shown_by c.args.options c.args.bytes.now).events e
+            c.args.options.trace (run_names r)) ends
+            ∙ ap (text (shown_by c.args.options c.args.bytes.now).events
+            (end_by c.args.options c.args.bytes.now) c.args.options.trace) named)
+            c.in-Ok-run.ensures.text;
+        faultless = c.in-Ok-run.ensures.faultless;
+      },
     )
 
 pub returns : goal.returns

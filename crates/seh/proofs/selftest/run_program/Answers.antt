@@ -1,5 +1,5 @@
 use Rattle.std.proofs.Common.{ap, ◌∙◌, subst, sym, Err}
-use Rattle.seh.specs.Words.{Shown, RunEnd, running_of, run_of, names_by, end_within, Grew, Refusal, IsSummaryAnswer, selftest_options, summary_of, stream}
+use Rattle.seh.specs.Words.{Shown, RunEnd, running_of, run_of, names_by, end_within, TookWhole, Refusal, IsSummaryAnswer, selftest_options, summary_of, stream}
 use Rattle.seh.specs.Answers.{IsCutOff}
 use Rattle.seh.proofs.Shown.{shown_is, named_is}
 use Rattle.seh.proofs.selftest.run_program.Goals as goal
@@ -18,7 +18,8 @@ returns-in-Ok-write_summary g c =
       },
       c.in-Ok-write_summary.ensures.end
           ∙ ap (λ (s : Shown RunEnd). end_within c.args.turns s.end) same,
-      subst (λ t. Grew (g.O.Sink.taken c.args.out.now) t (g.O.Sink.taken c.write_summary.new.out))
+      subst (λ t. TookWhole t (stream g.O.Sink.taken g.O.Sink.faults c.args.out.now)
+          (stream g.O.Sink.taken g.O.Sink.faults c.write_summary.new.out))
           (ap (λ names. summary_of c.args.turns c.args.number names
           (run_of c.args.turns (running_of c.in-Ok-load.host))) named
           ∙ ap (summary_of c.args.turns c.args.number (names_by c.args.bytes.now)) same)

@@ -1,11 +1,12 @@
 use Rattle.std.proofs.Common.{◌≡◌, ◌∙◌, ℕ, length, false, ap, subst, arith}
 use Rattle.std.specs.Prelude.{codes}
+use Rattle.seh_io.specs.Successive.{faulted_later}
 use Rattle.seh_io.specs.Text.{ended, text}
 use Rattle.seh_host.specs.Running.{event_count, run_names}
 use Rattle.seh.specs.Words.{RunEnd, Grew, taken_before, running_of, run_of}
 use Rattle.seh.specs.Refusals.{named}
 use Rattle.seh.specs.Selftests.{program_line, events_line}
-use Rattle.seh.proofs.Summaries.{rose_later, counted_all, cut_in_program, cut_in_run, cut_in_events, wrote_summary}
+use Rattle.seh.proofs.Summaries.{counted_all, cut_in_program, cut_in_run, cut_in_events, wrote_summary}
 use Rattle.seh.proofs.selftest.write_summary.Goals as goal
 
 pub returns-in-Err-clause-cut_off : goal.returns-in-Err-clause-cut_off
@@ -27,7 +28,7 @@ returns-in-Err-run-clause-cut_off g c =
     let shown = run_of c.args.turns (running_of c.args.host.now) in
     let line : c.as_bytes.result.now ≡ program_line c.args.number =
     c.as_bytes.ensures.value ∙ c.number_line-first.ensures in (
-      rose_later _ _ _ c.put_all.ensures.faults c.in-Err-run.ensures.cause,
+      faulted_later _ _ _ c.in-Ok.ensures.faultless c.in-Err-run.ensures.cause,
       cut_in_run c.args.turns c.args.number
           (run_names (running_of c.args.host.now)) shown
           (taken c.args.out.now) (taken c.put_all.new.sink)
@@ -51,8 +52,8 @@ returns-in-Err-put_all-clause-cut_off g c =
     let ends : c.as_bytes-2.result.now ≡ events_line (length shown.events) =
     c.as_bytes-2.ensures.value ∙ c.number_line-last.ensures
     ∙ ap (λ (n : ℕ). ended (named (codes "events ") n)) counted in (
-      rose_later _ _ _ c.put_all.ensures.faults
-          (rose_later _ _ _ c.run.ensures.faults c.in-Err-put_all.ensures.cause),
+      faulted_later _ _ _ c.in-Ok.ensures.faultless
+          (faulted_later _ _ _ c.in-Ok-run.ensures.faultless c.in-Err-put_all.ensures.cause),
       cut_in_events c.args.turns c.args.number
           (run_names (running_of c.args.host.now)) shown (taken c.args.out.now)
           (taken c.put_all.new.sink) c.as_bytes.result.now line c.in-Ok.ensures.ok
@@ -77,8 +78,12 @@ returns-in-Ok-put_all-clause-whole g c =
     let ends : c.as_bytes-2.result.now ≡ events_line (length shown.events) =
     c.as_bytes-2.ensures.value ∙ c.number_line-last.ensures
     ∙ ap (λ (n : ℕ). ended (named (codes "events ") n)) counted in
-    wrote_summary c.args.turns c.args.number
-    (run_names (running_of c.args.host.now)) shown
-    (taken c.args.out.now) (taken c.put_all.new.sink)
-    c.as_bytes.result.now line c.in-Ok.ensures.ok (taken c.run.new.sink)
-    (taken c.put_all-2.new.sink) ran c.as_bytes-2.result.now ends c.in-Ok-put_all.ensures.ok
+    record {
+      grew = wrote_summary c.args.turns c.args.number
+          (run_names (running_of c.args.host.now)) shown
+          (taken c.args.out.now) (taken c.put_all.new.sink)
+          c.as_bytes.result.now line c.in-Ok.ensures.ok (taken c.run.new.sink)
+          (taken c.put_all-2.new.sink) ran c.as_bytes-2.result.now ends c.in-Ok-put_all.ensures.ok;
+      faultless = c.in-Ok-put_all.ensures.faultless ∙ c.in-Ok-run.ensures.faultless
+          ∙ c.in-Ok.ensures.faultless;
+    }

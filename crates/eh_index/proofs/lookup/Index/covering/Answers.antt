@@ -12,7 +12,8 @@ loop-low-init c =
     record {
       within = omega arith;
       below = λ up k lt. c.bounds-begin.ensures.below rs up.index k lt;
-      above = λ up lt. c.bounds-begin.ensures.above rs (omega arith) up.index up.ascend (omega arith);
+      above = λ up lt.
+          c.bounds-begin.ensures.above rs (omega arith) up.index up.ascend (omega arith);
     }
 
 pub loop-low-preserved-then-range-rva : goal.loop-low-preserved-then-range-rva

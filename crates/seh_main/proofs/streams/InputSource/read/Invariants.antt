@@ -1,5 +1,5 @@
-use Rattle.std.proofs.Common.{◌≡◌}
+use Rattle.std.proofs.Common.{◌≡◌, false}
 use Rattle.seh_main.proofs.streams.InputSource.read.Given as goal
 
 abbrev pub invariant-loop : goal.invariant-loop
-invariant-loop g l = l.self.faults ≡ l.fn.self.faults
+invariant-loop g l = (l.self.faults ≡ l.fn.self.faults) × (l.self.failed ≡ false)

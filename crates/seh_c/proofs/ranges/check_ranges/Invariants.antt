@@ -1,7 +1,0 @@
-use Rattle.std.proofs.Common.{◌≡◌, drop}
-use Rattle.seh_c.specs.Ranges.{ranges_checked}
-use Rattle.seh_c.proofs.ranges.check_ranges.Given as goal
-
-abbrev pub invariant-loop-index : goal.invariant-loop-index
-invariant-loop-index l =
-    ranges_checked l.index l.end (drop l.index l.ranges) ≡ ranges_checked 0 0 l.ranges

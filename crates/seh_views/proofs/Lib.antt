@@ -1,0 +1,10 @@
+pub mod Asked
+pub mod Found
+pub mod FramesMore
+pub mod Known
+pub mod ModulesMore
+pub mod Opened
+pub mod RangesHeld
+pub mod RowsFilled
+pub mod Rests
+pub mod ViewsMade

@@ -1,0 +1,12 @@
+pub mod Shapes
+pub mod Ranges
+pub mod Snapshot
+pub mod Snapshots
+pub mod Statuses
+pub mod Openings
+pub mod Callers
+pub mod Views
+pub mod Walks
+pub mod Modules
+pub mod Scopes
+pub mod NamedScopes
