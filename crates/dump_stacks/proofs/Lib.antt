@@ -1,0 +1,4 @@
+pub mod SameMemory
+pub mod SameWalk
+pub mod ListedRanges
+pub mod ThreadWalked
