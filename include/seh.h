@@ -84,7 +84,8 @@ enum seh_code {
     SEH_TABLE_MISALIGNED = 33,  /* the table or unwind info at RVA `at` isn't 4-aligned */
     SEH_TABLE_EMPTY_RANGE = 34, /* the entry's begin isn't below its end */
     SEH_TABLE_UNSORTED = 35,    /* the entry begins below the end of the one before */
-    SEH_TABLE_VERSION = 36,     /* the unwind info's version is `more`, and not 1 */
+    SEH_TABLE_VERSION = 36,     /* the unwind info's version is `more`, and not 1; where a caller is
+                                   found as Windows does, not 2 either */
     SEH_TABLE_FLAGS = 37,       /* the unwind info's flags aren't defined */
     SEH_TABLE_OPERATION = 38,   /* the unwind code at slot `more` isn't defined */
     SEH_TABLE_CODE_ORDER = 39,  /* the unwind code at slot `more` is out of order */

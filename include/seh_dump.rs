@@ -10,7 +10,7 @@
 //! }
 //! ```
 
-use crate::seh::{Context, Range, Status, OK};
+use crate::seh::{Context, Range, Status, Vector, OK};
 use std::marker::PhantomData;
 
 /// `SEH_DUMP_MISSING`: there is no such stream, or no record of that index.
@@ -57,6 +57,10 @@ pub struct M128A {
     pub high: u64,
 }
 
+/// The flag of a context whose vector registers were filled (Windows headers, `winnt.h`,
+/// CONTEXT_FLOATING_POINT).
+const CONTEXT_FLOATING_POINT: u32 = 8;
+
 /// The registers of a thread.
 #[repr(C)]
 #[derive(Clone, Copy, Debug, Default, PartialEq, Eq)]
@@ -86,7 +90,11 @@ impl Registers {
             r13: n[13],
             r14: n[14],
             r15: n[15],
-            ..Context::default()
+            xmm: std::array::from_fn(|k| Vector {
+                low: self.xmm[6 + k].low,
+                high: self.xmm[6 + k].high,
+            }),
+            has_vectors: self.context_flags & CONTEXT_FLOATING_POINT,
         }
     }
 }

@@ -103,6 +103,8 @@ void read_modules(struct stack_dump *d)
     uint64_t count = d->dump.modules.count;
 
     d->modules = need(calloc(count + 1, sizeof *d->modules));
+    d->views = need(calloc(count + 1, sizeof *d->views));
+    d->opened = need(calloc(count + 1, sizeof *d->opened));
     for (d->module_count = 0; d->module_count < count; d->module_count++) {
         struct module *m = &d->modules[d->module_count];
 
@@ -300,6 +302,10 @@ bool open_module(struct stack_dump *d, struct module *m)
     /* a name of a dump leads out of no folder */
     for (int k = 0; !m->open && m->name[0] && m->name[0] != '.' && k < d->folder_count; k++)
         m->open = open_from_folder(m, d->folders[k]);
+    if (m->open) {
+        d->opened[d->view_count] = m;
+        d->views[d->view_count++] = m->view;
+    }
     return m->open;
 }
 
@@ -311,5 +317,7 @@ void free_dump(struct stack_dump *d)
         free(d->modules[k].owned);
     }
     free(d->modules);
+    free(d->views);
+    free(d->opened);
     free(d->ranges);
 }

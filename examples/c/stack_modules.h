@@ -19,6 +19,9 @@ struct stack_dump {
     seh_dump dump;
     struct module *modules; /* by their bases */
     size_t module_count;
+    seh_view *views;         /* of the images that are open */
+    struct module **opened;  /* the module of each view */
+    size_t view_count;
     seh_range *ranges; /* in order, without overlaps */
     size_t range_count;
     uint64_t refused_ranges; /* how many aren't in the file */

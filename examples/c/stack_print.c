@@ -8,13 +8,19 @@
 #define MOST_OF_THREAD 1000
 #define MOST_FRAMES 20000
 
-/* RIP, RSP and the other nonvolatile integer registers. */
+#define CONTEXT_FLOATING_POINT 8 /* of ContextFlags: the XMM registers were filled (winnt.h) */
+
+/* The nonvolatile registers. */
 static seh_context context_of(const seh_dump_registers *r)
 {
     const uint64_t *n = r->integer;
+    seh_context c = {.rip = r->rip, .rsp = n[4], .rbx = n[3], .rbp = n[5], .rsi = n[6], .rdi = n[7],
+                     .r12 = n[12], .r13 = n[13], .r14 = n[14], .r15 = n[15],
+                     .has_vectors = r->context_flags & CONTEXT_FLOATING_POINT};
 
-    return (seh_context){.rip = r->rip, .rsp = n[4], .rbx = n[3], .rbp = n[5], .rsi = n[6], .rdi = n[7],
-                         .r12 = n[12], .r13 = n[13], .r14 = n[14], .r15 = n[15]};
+    for (int k = 0; k < 10; k++)
+        c.xmm[k] = (seh_vector){r->xmm[6 + k].low, r->xmm[6 + k].high};
+    return c;
 }
 
 /* The __try records around a place of a module. */
@@ -71,16 +77,18 @@ static void print_registers(const seh_context *c)
            c->rip, c->rsp, c->rbx, c->rbp, c->rsi, c->rdi, c->r12, c->r13, c->r14, c->r15);
 }
 
-/* The frames of a module from a context on, which becomes that of the last one's caller. */
-static seh_status walk_module(struct stack_dump *d, const struct module *m, seh_context *context,
-                              unsigned *number, bool raised)
+/* The frames from a context on through the images that are open, some at a time; the context becomes
+   that of the last one's caller. */
+static seh_status walk_open(struct stack_dump *d, seh_context *context, unsigned *number, bool raised)
 {
     seh_frame frames[16];
     uint64_t written;
-    seh_status status = seh_walk(&m->view, d->ranges, d->range_count, context, frames,
-                                 sizeof frames / sizeof *frames, &written);
+    seh_status status = seh_walk_modules(d->views, d->view_count, d->ranges, d->range_count, context,
+                                         frames, sizeof frames / sizeof *frames, &written);
 
     for (uint64_t k = 0; k < written; k++) {
+        const struct module *m = d->opened[frames[k].module_index];
+
         if (d->frames_alone)
             print_registers(context);
         else
@@ -125,26 +133,27 @@ static void guess_caller(const struct stack_dump *d, seh_context *context, unsig
     context->rsp += 8;
 }
 
-/* The frames of a thread from its registers on. */
+/* The frames of a thread from its registers on. An image is opened as its first frame comes. */
 static void print_frames(struct stack_dump *d, const seh_dump_registers *registers, bool raised)
 {
     seh_context context = context_of(registers);
-    seh_status status = {SEH_OK, 0, 0};
     unsigned number = 0;
 
     if (!module_at(d, context.rip) && !d->frames_alone)
         guess_caller(d, &context, &number);
-    while (context.rip && number < MOST_OF_THREAD && d->frame_count < MOST_FRAMES) {
+    while (number < MOST_OF_THREAD && d->frame_count < MOST_FRAMES) {
+        seh_status status = walk_open(d, &context, &number, raised);
         struct module *m = module_at(d, context.rip);
 
-        if (m && open_module(d, m))
-            status = walk_module(d, m, &context, &number, raised);
-        if (!m || !m->open || (status.code != SEH_OK && status.code != SEH_MORE)) {
-            print_end(d, number, m, &context, status);
+        if (status.code == SEH_END)
             return;
-        }
+        if (status.code == SEH_MORE ||
+            (status.code == SEH_UNKNOWN_CODE && m && !m->tried && open_module(d, m)))
+            continue;
+        print_end(d, number, m, &context, status);
+        return;
     }
-    if (context.rip && !d->frames_alone)
+    if (!d->frames_alone)
         printf("  ..\n");
 }
 

@@ -119,7 +119,8 @@ int main(int argc, char **argv)
                    "another entry", rva);
         if (code == SEH_OK && one.has_handler)
             compare_scopes(&view, rva, one.handler);
-        compare_walks(&view, rva);
+        if (rva < view.image_size)
+            compare_walks(&view, rva);
     }
     view.options = SEH_PROFILE_OWN;
     for (uint32_t rva = 0; rva < view.image_size; rva += 7)

@@ -5,25 +5,27 @@ use Rattle.frame_rules.specs.Words.{W64, Instr, State, with_rip, load, registers
 use Rattle.virtual_unwind.specs.CallerOf.{distance}
 use Rattle.abi_unwind.specs.Caller.{tail_of, abi_caller}
 use Rattle.x64_instr.specs.declared.instruction.Instr.TheVariants as instrs
-use Rattle.frame_rules.specs.Body.{is_a_call}
 use Rattle.frame_known.specs.Known.{abi_known, EndsRight}
 use Rattle.frame_known.specs.Knowledge.{at_entry, Entry, Place, Knowledge, HasRegisters, Fits, SaysLess}
-use Rattle.frame_known.specs.Laws.{stepped, seen, IsCaller}
-use Rattle.frame_known.specs.Standing.{Assigned, AnyOf, Stands, ways, AllWays, GoesOn, AllGoOn, leaves, StepsTo, StandingGoesOn, AllOf, StandingIsFound, ReturnsRight, Code, GoesOnThrough, Walks, EntryStands, WalksAreFound}
-use Rattle.frame_known.proofs.Stepping.{after_fits, calls_fit, less_fits, entry_fits}
-use Rattle.frame_known.proofs.Ways.{OneOf, way}
+use Rattle.frame_known.specs.Laws.{seen, IsCaller}
+use Rattle.frame_known.specs.Measured.{Step, Machine, Other, OneOf, calls, is_call, after_called, after_step, flow_ways, step_ways, step_leaves}
+use Rattle.x64_lengths.specs.declared.effects.Flow.{Flow}
+use Rattle.x64_lengths.specs.declared.effects.Flow.TheVariants as flows
+use Rattle.frame_known.specs.Standing.{Assigned, AnyOf, Stands, AllWays, GoesOn, AllGoOn, StepsTo, StandingGoesOn, AllOf, StandingIsFound, ReturnsRight, Code, GoesOnThrough, Walks, EntryStands, WalksAreFound}
+use Rattle.frame_known.proofs.Stepping.{after_fits, others_fit, calls_fit, less_fits, entry_fits}
+use Rattle.frame_known.proofs.Ways.{way}
 use Rattle.frame_known.proofs.Answers.{ok_same}
 use Rattle.frame_known.proofs.Fitting.{is_same, has_stack}
 use Rattle.frame_known.proofs.Unwinding.{callers_found, return_word}
 use Rattle.frame_rules.proofs.Leaving.{load_at}
 use Rattle.frame_rules.proofs.Returning.{return_effect}
 
-record Picked (at : Assigned) (e s : State) (x : Instr) (next : ℕ) : Type 0 where
+record Picked (at : Assigned) (e s : State) (x : Step) (next : ℕ) : Type 0 where
   known : Knowledge
   fits : Fits e s known
   goes_on : GoesOn at x next known
 
-pick : (at : Assigned) (e s : State) (x : Instr) (next : ℕ) (ks : List Knowledge)
+pick : (at : Assigned) (e s : State) (x : Step) (next : ℕ) (ks : List Knowledge)
     → AnyOf (Fits e s) ks → AllGoOn at x next ks → Picked at e s x next
 pick at e s x next [] f g = absurd f
 pick at e s x next (k ∷ ks) (inl f) g = record { known = k; fits = f; goes_on = g.0 }
@@ -40,33 +42,43 @@ any_fits e t known [] f a = a
 any_fits e t known (k ∷ ks) f (inl less) = inl (less_fits e t known k f less)
 any_fits e t known (k ∷ ks) f (inr later) = inr (any_fits e t known ks f later)
 
-call_way : (x : Instr) (a next : ℕ) → is_a_call x ≡ true → a ≡ next → OneOf a (ways x next)
-call_way (instrs.Call to) a next c h = inl h
-call_way x a next c h = absurd (false≢true c)
+call_way : (x : Step) (a next : ℕ) → is_call x ≡ true → a ≡ next → OneOf a (step_ways x next)
+call_way (Machine (instrs.Call to)) a next c h = inl h
+call_way (Machine x) a next c h = absurd (false≢true c)
+call_way (Other x) a next c h = go x.flow c
+  where
+    go : (f : Flow) → calls f ≡ true → OneOf a (flow_ways f next)
+    go (flows.Call d) c = inl h
+    go flows.CallIndirect c = inl h
+    go f c = absurd (false≢true c)
 
-record Went (e t : State) (x : Instr) (next : ℕ) (b : Bool) (known : Knowledge) : Type 0 where
-  fits : Fits e t (stepped b x known)
-  way : OneOf t.cpu.rip (ways x next)
+record Went (e t : State) (x : Step) (next : ℕ) (b : Bool) (known : Knowledge) : Type 0 where
+  fits : Fits e t (after_called b x known)
+  way : OneOf t.cpu.rip (step_ways x next)
 
-went : (e s t : State) (x : Instr) (next : ℕ) (known : Knowledge) (b : Bool) → is_a_call x ≡ b
-    → HasRegisters e → leaves x ≡ false → Fits e s known → StepsTo b e s x next t known
+went : (e s t : State) (x : Step) (next : ℕ) (known : Knowledge) (b : Bool) → is_call x ≡ b
+    → HasRegisters e → step_leaves x ≡ false → Fits e s known → StepsTo b e s x next t known
     → Went e t x next b known
 went e s t x next known true c he l f h = record {
   fits = calls_fit e s t known false f h.0 h.1;
   way = call_way x t.cpu.rip next c h.2;
 }
-went e s t x next known false c he l f h = record {
+went e s t (Machine x) next known false c he l f h = record {
   fits = after_fits e s t known next x he c f h.0 h.1;
   way = way (with_rip s next) t x c l h.0;
+}
+went e s t (Other x) next known false c he l f h = record {
+  fits = others_fit e s t known next x f h.0 h.1;
+  way = h.0.way;
 }
 
 pub standing_goes_on : StandingGoesOn
 standing_goes_on at e s t x next he l go stands steps =
     let p = pick at e s x next (at s.cpu.rip) stands go in
-    let w = went e s t x next p.known (is_a_call x) refl he l p.fits (steps p.known p.fits) in
-    any_fits e t (stepped (is_a_call x) x p.known) (at t.cpu.rip) w.fits
-    (at_way (λ a. AnyOf (SaysLess (stepped (is_a_call x) x p.known)) (at a)) t.cpu.rip (ways x next)
-    w.way p.goes_on)
+    let w = went e s t x next p.known (is_call x) refl he l p.fits (steps p.known p.fits) in
+    let less = after_step x p.known in
+    any_fits e t less (at t.cpu.rip) w.fits
+    (at_way (λ a. AnyOf (SaysLess less) (at a)) t.cpu.rip (step_ways x next) w.way p.goes_on)
 
 -- ---- what it gives
 

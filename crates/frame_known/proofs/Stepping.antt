@@ -5,7 +5,10 @@ use Rattle.frame_rules.specs.Words.{Instr, State, registers, with_rip, is_nonvol
 use Rattle.frame_rules.specs.Body.{is_a_call}
 use Rattle.frame_known.specs.Knowledge.{Known, Entry, Place, Nothing, Knowledge, Is, HasRegisters, Fits, with_known, unchanged}
 use Rattle.frame_known.specs.After.{is_below, from_stack, registers_after, stored, store_of}
-use Rattle.frame_known.specs.Laws.{EntryFits, LessFits, AfterFits, CallsFit, StepsOnce, stepped, StepsFit}
+use Rattle.x64_instr.specs.Reading.{bit}
+use Rattle.x64_lengths.specs.declared.effects.Effects.{Effects}
+use Rattle.frame_known.specs.Measured.{Obeys, forgotten_by}
+use Rattle.frame_known.specs.Laws.{EntryFits, LessFits, AfterFits, OthersFit, CallsFit, StepsOnce, stepped, StepsFit}
 use Rattle.frame_known.proofs.Fitting.{is_same, with-same, with-other}
 use Rattle.frame_known.proofs.Memories.{named_after, protection_after}
 use Rattle.frame_known.proofs.Registers.{registers_are}
@@ -36,6 +39,28 @@ after_fits e s t known a x he n fits h sp =
           (registers_after x known 4) (stored known.words (store_of x known.registers)) k r z);
       back = words.back ∙ fits.back;
     }
+
+measured_fits : (e s t : State) (known : Knowledge) (next : ℕ) (x : Effects) → Fits e s known
+    → Obeys x s t next → (r : ℕ) → Is e (registers t r) (forgotten_by x.general known.registers r)
+measured_fits e s t known next x fits o r = go (eqb (bit r x.general) 0) refl
+  where
+    go : (b : Bool) → eqb (bit r x.general) 0 ≡ b
+        → Is e (registers t r) (cond b (known.registers r) Nothing)
+    go true h = is_same e (registers s r) (registers t r) (known.registers r) (known.registers r)
+        (o.kept r (eqb-true (bit r x.general) 0 h)) refl (fits.is r)
+    go false h = tt
+
+pub others_fit : OthersFit
+others_fit e s t known next x fits o sp = record {
+  numbers = o.numbers;
+  protection = o.protection ∙ fits.protection;
+  is = measured_fits e s t known next x fits o;
+  words = λ k r z.
+      let top = forgotten_by x.general known.registers 4 in
+      let w = from_stack_named top known.words k r z in
+      sp.words k r w ∙ fits.words k r w;
+  back = sp.back ∙ fits.back;
+}
 
 pub calls_fit : CallsFit
 calls_fit e s u known probe fits done sp = record {

@@ -16,7 +16,7 @@ use Rattle.x64_instr.specs.declared.instruction.Operation.{Operation}
 use Rattle.x64_instr.specs.declared.instruction.Operation.TheVariants as operations
 use Rattle.x64_instr.specs.declared.instruction.Instr.TheVariants as instrs
 use Rattle.frame_rules.specs.Body.{is_a_call}
-use Rattle.frame_known.specs.Standing.{ways, leaves}
+use Rattle.frame_known.specs.Measured.{OneOf, ways, leaves}
 use Rattle.frame_known.proofs.Answers.{bound, ok_same}
 
 abbrev Same : State → State → Type 0
@@ -72,10 +72,6 @@ quotient_rip s t w (Ok x) e = same_rip s
 quotient_rip s t w (Err x) e = absurd cc
 
 -- ---- the ways
-
-abbrev pub OneOf : ℕ → List ℕ → Type 0
-OneOf a [] = ⊥
-OneOf a (b ∷ bs) = (a ≡ b) ⊎ OneOf a bs
 
 jumped_way : (c : Cpu) (b : Bool) (a : ℕ) → OneOf (cond b (record c { rip = a }) c).rip
     (c.rip ∷ a ∷ [])

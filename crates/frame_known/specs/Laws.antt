@@ -15,6 +15,8 @@ use Rattle.abi_unwind.specs.declared.tail.Part.{Part}
 use Rattle.abi_unwind.specs.Caller.{AbiFrame, abi_at, tail_of, abi_caller}
 use Rattle.frame_known.specs.Knowledge.{Reach, Knowledge, HasRegisters, IsEntered, Fits, at_entry, SaysLess}
 use Rattle.frame_known.specs.Known.{abi_known, IsRight, EndsRight}
+use Rattle.x64_lengths.specs.declared.effects.Effects.{Effects}
+use Rattle.frame_known.specs.Measured.{Obeys, after_other}
 use Rattle.frame_known.specs.After.{store_of, after, SparesAll, Spares, after_call}
 
 -- a state with its vector registers, as the unwinder sees it
@@ -71,6 +73,14 @@ AfterFits =
     → HasRegisters e → is_a_call x ≡ false → Fits e s known → effect (with_rip s a) x ≡ Ok t
     → SparesAll e s.memory t.memory known (store_of x known.registers)
     → Fits e t (after x known)
+
+-- an instruction that isn't the machine's leads to one that fits, where a processor does no more
+-- than the table says, and the named words and the return address are left
+abbrev pub OthersFit : Type 0
+OthersFit =
+    (e s t : State) (known : Knowledge) (next : ℕ) (x : Effects)
+    → Fits e s known → Obeys x s t next → Spares e s.memory t.memory known
+    → Fits e t (after_other x known)
 
 -- a call that has returned, of a function that keeps the nonvolatile registers
 pub record HasReturned (probe : Bool) (s u : State) : Type 0 where

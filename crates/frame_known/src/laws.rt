@@ -1,8 +1,9 @@
 //! What holds of knowledge.
 
-ghost use Rattle.frame_known.specs.Laws.{KnownRight, CallersFound, LeavesFound, EntryFits, LessFits, AfterFits, CallsFit, StepsFit};
+ghost use Rattle.frame_known.specs.Laws.{KnownRight, CallersFound, LeavesFound, EntryFits, LessFits, AfterFits, OthersFit, CallsFit, StepsFit};
 ghost use Rattle.frame_known.specs.Rows.{Right, Wrong};
 ghost use Rattle.frame_known.specs.Standing.{StandingGoesOn, StandingIsFound, ReturnsRight, EntryStands, WalksAreFound};
+ghost use Rattle.frame_known.specs.Kept.{KeptIsFound};
 ghost use Rattle.frame_known.specs.Tests.{TestTells};
 
 /// Where undoing codes or running an epilogue is right by what is known, the unwinder finds the
@@ -18,6 +19,7 @@ pub fn callers()
 pub fn steps()
     ensures entry { EntryFits }
     ensures instructions { AfterFits }
+    ensures others { OthersFit }
     ensures calls { CallsFit }
     ensures less { LessFits }
     ensures all { StepsFit }
@@ -32,6 +34,12 @@ pub fn standing()
     ensures returns { ReturnsRight }
     ensures first { EntryStands }
     ensures walks { WalksAreFound }
+{}
+
+/// Where an assignment of knowledge goes on through the instructions of an entry and is right at
+/// each of its addresses, the caller is found wherever they lead.
+pub fn entries()
+    ensures { KeptIsFound }
 {}
 
 /// The test tells, and what it says of worked functions.

@@ -3,12 +3,12 @@
 ghost use Rattle.std.specs.Prelude.{◌≡◌, IfOk, IfErr};
 ghost use Rattle.seh_c.specs.Validations as spec;
 
+use image_code::{ValidationErr, validate_image};
+use pe_image::ImageLayout;
 use seh_views::c_types::SehVerdict;
 use seh_views::codes;
 use seh_views::opening::open_with_imports;
 use seh_views::refusal::Refusal;
-use image_code::{ValidationErr, validate_image};
-use pe_image::ImageLayout;
 use std::alloc::Global;
 use unwind_check::{Rule, Verdict};
 

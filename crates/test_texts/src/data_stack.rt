@@ -248,6 +248,9 @@ int main(void){ char a[65536]; return 0; }
 => 2 ! refused TooMany 34 arraybytes
 # by alignment: int main(void){ char a[9]; long long b[8191]; return 0; }
 => 2 ! refused TooMany 39 arraybytes
+# by what alignment leaves before others, 65,537 bytes where the sum is 65,530:
+int main(void){ char a[1]; long long b[8191]; char c[1]; return 0; }
+=> 2 ! refused TooMany 53 arraybytes
 # as many as can be said: int main(void){ long long a[18446744073709551615]; return 0; }
 => 2 ! refused TooMany 28 arraybytes
 ";

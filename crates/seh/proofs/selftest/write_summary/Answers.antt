@@ -28,7 +28,8 @@ returns-in-Err-run-clause-cut_off g c =
     let shown = run_of c.args.turns (running_of c.args.host.now) in
     let line : c.as_bytes.result.now ≡ program_line c.args.number =
     c.as_bytes.ensures.value ∙ c.number_line-first.ensures in (
-      faulted_later _ _ _ c.in-Ok.ensures.faultless c.in-Err-run.ensures.cause,
+      faulted_later (g.O.Sink.faults c.args.out.now) (g.O.Sink.faults c.put_all.new.sink)
+          (g.O.Sink.faults c.run.new.sink) c.in-Ok.ensures.faultless c.in-Err-run.ensures.cause,
       cut_in_run c.args.turns c.args.number
           (run_names (running_of c.args.host.now)) shown
           (taken c.args.out.now) (taken c.put_all.new.sink)
@@ -52,8 +53,11 @@ returns-in-Err-put_all-clause-cut_off g c =
     let ends : c.as_bytes-2.result.now ≡ events_line (length shown.events) =
     c.as_bytes-2.ensures.value ∙ c.number_line-last.ensures
     ∙ ap (λ (n : ℕ). ended (named (codes "events ") n)) counted in (
-      faulted_later _ _ _ c.in-Ok.ensures.faultless
-          (faulted_later _ _ _ c.in-Ok-run.ensures.faultless c.in-Err-put_all.ensures.cause),
+      faulted_later (g.O.Sink.faults c.args.out.now) (g.O.Sink.faults c.put_all.new.sink)
+          (g.O.Sink.faults c.put_all-2.new.sink) c.in-Ok.ensures.faultless
+          (faulted_later (g.O.Sink.faults c.put_all.new.sink) (g.O.Sink.faults c.run.new.sink)
+          (g.O.Sink.faults c.put_all-2.new.sink) c.in-Ok-run.ensures.faultless
+          c.in-Err-put_all.ensures.cause),
       cut_in_events c.args.turns c.args.number
           (run_names (running_of c.args.host.now)) shown (taken c.args.out.now)
           (taken c.put_all.new.sink) c.as_bytes.result.now line c.in-Ok.ensures.ok

@@ -1,0 +1,10 @@
+pub mod Plain
+pub mod CodeCalls
+pub mod FrontThunks
+pub mod TextFront
+pub mod BlockPieces
+pub mod PlannedCalls
+pub mod Bounds
+pub mod ProgramLinks
+pub mod EntryCalls
+pub mod TextPieces

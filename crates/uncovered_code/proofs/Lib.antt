@@ -1,0 +1,4 @@
+pub mod Routines
+pub mod Instructions
+pub mod Rows
+pub mod Pieces

@@ -1,0 +1,4 @@
+pub mod References
+pub mod Routines
+pub mod Laws
+pub mod Worked
