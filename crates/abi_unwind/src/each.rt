@@ -49,7 +49,7 @@ fn leaves(tables: &Tables, base: u64, function: &Function, target: u64) -> Resul
     }
 }
 
-fn is_end(tables: &Tables, base: u64, function: &Function, end: End) -> Result<bool, EntryErr>
+pub fn is_end(tables: &Tables, base: u64, function: &Function, end: End) -> Result<bool, EntryErr>
     requires { RangesAscend tables.now.ranges }
     ensures { result ≡ spec.is_end tables.now base function.now end }
 {

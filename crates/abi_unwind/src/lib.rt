@@ -13,10 +13,10 @@
 pub mod context;
 pub mod each;
 pub mod frame;
-mod function;
+pub mod function;
 pub mod laws;
 pub mod tail;
-mod undo;
+pub mod undo;
 pub mod unwinding;
 mod vectors;
 mod word;

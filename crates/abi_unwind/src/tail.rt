@@ -219,7 +219,7 @@ fn then_ran<S: ReadSpace>(
 
 /// What an instruction is to the pops and the end of an epilogue.
 #[derive(Clone, Copy, Debug, PartialEq, Eq)]
-pub(crate) enum Next {
+pub enum Next {
     /// It pops a register, and has so many bytes.
     Pops(u8, usize),
     /// It is the end.
@@ -229,7 +229,7 @@ pub(crate) enum Next {
 }
 
 #[tactic(auto, unfolding(crate::specs::Ran::next_at))]
-fn read_next<S: CodeSpace>(space: &S, at: u64) -> Next
+pub fn read_next<S: CodeSpace>(space: &S, at: u64) -> Next
     ensures { result ≡ run.next_at (S.memory space.now) at }
 {
     let mut bytes = [0; LONGEST_INSTRUCTION];
@@ -269,7 +269,7 @@ fn pops<S: ReadSpace>(
 }
 
 #[tactic(auto, unfolding(crate::specs::Ran::opening_at))]
-fn fetched_opening<S: CodeSpace>(space: &S, register: u8, at: u64) -> Option<(Part, usize)>
+pub fn fetched_opening<S: CodeSpace>(space: &S, register: u8, at: u64) -> Option<(Part, usize)>
     ensures { result ≡ run.opening_at register (S.memory space.now) at }
 {
     let mut bytes = [0; LONGEST_INSTRUCTION];
