@@ -28,39 +28,37 @@ use Rattle.frame_known.proofs.Storing.{Stored, stores, IsStored, IsLow, KeepsNam
 
 -- ---- by the operand that is written
 
-pub record StoredSome (m : Memory) (t : State) (at : ℕ) : Type 0 where
-  pub n : ℕ
+pub record StoredSome (m : Memory) (t : State) (n at : ℕ) : Type 0 where
   pub v : ℕ
   pub is : Stored m t n at v
 
-abbrev pub MemoryIs : Memory → State → Cpu → Option MemRef → Type 0
+abbrev pub MemoryIs : Memory → State → Cpu → Option (MemRef × Width) → Type 0
 MemoryIs m t c None = t.memory ≡ m
-MemoryIs m t c (Some a) = StoredSome m t (address_of c a)
+MemoryIs m t c (Some x) = StoredSome m t (bytes_of x.1) (address_of c x.0)
 
 same_memory : (m : Memory) (u t : State) → u.memory ≡ m → ◌≡◌ {A = Answer State} (Ok u) (Ok t)
     → t.memory ≡ m
 same_memory m u t h e = ap (λ (x : State). x.memory) (sym (ok_same e)) ∙ h
 
 write_memory : (s t : State) (w : Width) (to : RegisterOrMemory) (v : ℕ) → write s w to v ≡ Ok t
-    → MemoryIs s.memory t s.cpu (place_of to)
+    → MemoryIs s.memory t s.cpu (place_of w to)
 write_memory s t w (places.Register r) v e = same_memory s.memory
     (record s { cpu = with_register w s.cpu r v }) t refl e
 write_memory s t w (places.Memory a) v e = record {
-  n = bytes_of w;
   v = v;
   is = stores s t (address_of s.cpu a) w v (omega arith) e;
 }
 
 -- the flags don't matter
 flagged_memory : (s t : State) (f : Flags) (w : Width) (to : RegisterOrMemory) (v : ℕ)
-    → write (with_flags s f) w to v ≡ Ok t → MemoryIs s.memory t s.cpu (place_of to)
+    → write (with_flags s f) w to v ≡ Ok t → MemoryIs s.memory t s.cpu (place_of w to)
 flagged_memory s t f w (places.Register r) v e = write_memory (with_flags s f) t w
     (places.Register r) v e
 flagged_memory s t f w (places.Memory a) v e = write_memory (with_flags s f) t w
     (places.Memory a) v e
 
 change_memory : (s t : State) (o : Operation) (w : Width) (to : RegisterOrMemory) (from : Operand)
-    → change s o w to from ≡ Ok t → MemoryIs s.memory t s.cpu (place_of to)
+    → change s o w to from ≡ Ok t → MemoryIs s.memory t s.cpu (place_of w to)
 change_memory s t o w to from e =
     let b = bound (operand s w from) (λ b. may_change s w to >>= λ _. read s w to
     >>= λ a. write (with_flags s (computed o w a b).1) w to (computed o w a b).0) t e in
@@ -177,13 +175,15 @@ address_is e s now m h = is_raised e (base_of s.cpu m.base + index_of s.cpu m.in
     m.displacement (base_known now m.base m.index) (base_is e s now m.base m.index h)
 
 -- the store of an instruction whose value isn't asked
-named_by : (e s t : State) (known : Knowledge) (o : Option MemRef) → HasRegisters e
+named_by : (e s t : State) (known : Knowledge) (o : Option (MemRef × Width)) → HasRegisters e
     → ((r : ℕ) → Is e (registers s r) (known.registers r))
     → ((j r : ℕ) → known.words j ≡ Some r → word_of s.memory (place e j) ≡ registers e r)
     → MemoryIs s.memory t s.cpu o → SparesAll e s.memory t.memory known (store_to known.registers o)
     → KeepsNamed e s t known.words (stored known.words (store_to known.registers o))
 named_by e s t known None he i w m sp = same_named e s t known.words m w
-named_by e s t known (Some a) he i w m sp = keeps_named e s t m.n (address_of s.cpu a) m.v
+named_by e s t known (Some x) he i w m sp =
+    let a = x.0 in
+    keeps_named e s t (bytes_of x.1) (address_of s.cpu a) m.v
     (address known.registers a) Nothing known he
     (low_raised a.displacement (base_known known.registers a.base a.index))
     (address_is e s known.registers a i) m.is tt w sp.0 sp.1
@@ -223,7 +223,7 @@ named_after e s t known (instrs.Move W64 (places.Memory m) (operands.Register r)
 named_after e s t known x he hs n i w h sp = named_by e s t known (destination x) he i w
     (memory_is s t x n refl h) sp
 
-protection_by : (s t : State) (o : Option MemRef) → MemoryIs s.memory t s.cpu o
+protection_by : (s t : State) (o : Option (MemRef × Width)) → MemoryIs s.memory t s.cpu o
     → t.memory.protection ≡ s.memory.protection
 protection_by s t None m = ap (λ (x : Memory). x.protection) m
 protection_by s t (Some a) m = ap (λ (x : Memory). x.protection) m.is.is

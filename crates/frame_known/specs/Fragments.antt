@@ -37,15 +37,15 @@ base xs = or_top (top_framed xs) (top xs)
 -- the words, each stored over those before it
 abbrev pub words : ℕ → List UnwindOperation → ℕ → Option ℕ
 words at [] = λ k. None
-words at (Push r ∷ xs) = with_word (words at xs) (top (Push r ∷ xs)) (Entry r)
-words at (Save r n ∷ xs) = with_word (words at xs) ((at + n) % 2 ^ 64) (Entry r)
+words at (Push r ∷ xs) = with_word (words at xs) 8 (top (Push r ∷ xs)) (Entry r)
+words at (Save r n ∷ xs) = with_word (words at xs) 8 ((at + n) % 2 ^ 64) (Entry r)
 words at (x ∷ xs) = words at xs
 
 -- none of them meets the return address
 abbrev pub spare_return : ℕ → List UnwindOperation → Bool
 spare_return at [] = true
-spare_return at (Push r ∷ xs) = not (meet (top (Push r ∷ xs)) 0) && spare_return at xs
-spare_return at (Save r n ∷ xs) = not (meet ((at + n) % 2 ^ 64) 0) && spare_return at xs
+spare_return at (Push r ∷ xs) = not (meet 8 (top (Push r ∷ xs)) 0) && spare_return at xs
+spare_return at (Save r n ∷ xs) = not (meet 8 ((at + n) % 2 ^ 64) 0) && spare_return at xs
 spare_return at (x ∷ xs) = spare_return at xs
 
 abbrev pub framed : ℕ → Option ℕ → Known → Known
