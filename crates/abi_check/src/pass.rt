@@ -58,6 +58,9 @@ pub struct Pass {
     judges: bool,
     dropped: u32,
     dropped_vectors: u32,
+    /// The first instruction of the body that changes a register, of those that are dropped.
+    dropped_at: [u64; 16],
+    vector_dropped_at: [u64; 16],
     stack_moves: bool,
     fault: Option<Fault>,
     /// The knowledge whose codes were undone last, all of them, and what is lost.
@@ -83,6 +86,8 @@ impl Pass {
             judges: false,
             dropped: 0,
             dropped_vectors: 0,
+            dropped_at: [0; 16],
+            vector_dropped_at: [0; 16],
             stack_moves: false,
             fault: None,
             seen: None,
@@ -193,7 +198,7 @@ impl Pass {
     }
 
     /// Notes what an instruction of the body changes.
-    fn note(&mut self, decoded: &Decoded, then: &Knowledge, has_tail: bool) {
+    fn note(&mut self, rva: u64, decoded: &Decoded, then: &Knowledge, has_tail: bool) {
         let Some(first) = self.first else {
             return;
         };
@@ -203,10 +208,16 @@ impl Pass {
             if r != 4 && is_nonvolatile(r) && writes {
                 let value = then.registers[r];
                 if value != Known::Entry(r as u8) && value != first.registers[r] {
+                    if self.dropped >> r & 1 == 0 {
+                        self.dropped_at[r] = rva;
+                    }
                     self.dropped |= 1 << r;
                 }
             }
             if decoded.effects.vectors >> r & 1 == 1 && then.vectors[r] != Some(r as u8) {
+                if self.dropped_vectors >> r & 1 == 0 {
+                    self.vector_dropped_at[r] = rva;
+                }
                 self.dropped_vectors |= 1 << r;
             }
         }
@@ -339,6 +350,10 @@ impl Pass {
             self.blame(rva, Rule::Prologue);
             return;
         }
+        if let Some(writer) = writer_before(subject, list, index, lost) {
+            self.blame(writer, Rule::Unsaved);
+            return;
+        }
         if has_tail {
             self.blame(rva, Rule::Epilogue);
             return;
@@ -351,19 +366,33 @@ impl Pass {
                 return;
             }
         }
-        if 0 < index && subject.body < rva {
-            let before = list[index - 1];
-            if before.falls_through && before.rva + before.length == rva {
-                if let Some(decoded) = decoded_at(subject.space, before.rva) {
-                    let effects = decoded.effects;
-                    if lost.general & effects.general != 0 || lost.vectors & effects.vectors != 0 {
-                        self.blame(before.rva, Rule::Unsaved);
-                        return;
-                    }
-                }
+        match self.dropped_by(lost) {
+            Some(writer) => self.blame(writer, Rule::Unsaved),
+            None => self.blame(rva, Rule::Body),
+        }
+    }
+
+    /// The instruction that changes a register, where all that is lost is lost since the body's
+    /// knowledge leaves it out.
+    fn dropped_by(&self, lost: Lost) -> Option<u64> {
+        if lost.stack || lost.is_right() {
+            return None;
+        }
+        if lost.general & self.dropped != lost.general
+            || lost.vectors & self.dropped_vectors != lost.vectors
+        {
+            return None;
+        }
+        let mut first = u64::MAX;
+        for r in 0..16usize {
+            if lost.general >> r & 1 == 1 && self.dropped_at[r] < first {
+                first = self.dropped_at[r];
+            }
+            if lost.vectors >> r & 1 == 1 && self.vector_dropped_at[r] < first {
+                first = self.vector_dropped_at[r];
             }
         }
-        self.blame(rva, Rule::Body);
+        Some(first)
     }
 
     /// Judges a boundary.
@@ -444,7 +473,7 @@ impl Pass {
                 then.registers[0] = known.registers[0];
             }
             if in_body && !self.judges {
-                self.note(&decoded, &then, has_tail);
+                self.note(boundary.rva, &decoded, &then, has_tail);
             }
             self.step(subject, list, index, &decoded, &then)?;
         }
@@ -485,6 +514,30 @@ impl Pass {
         self.again();
         self.run(subject, list, begin, otherwise, probes)?;
         Ok(self.fault)
+    }
+}
+
+/// The instruction of the body that leads to a boundary by falling through, where it writes a
+/// register that is lost there.
+fn writer_before<S: CodeSpace>(
+    subject: &Subject<'_, '_, '_, S>,
+    list: &[Boundary],
+    index: usize,
+    lost: Lost,
+) -> Option<u64> {
+    let rva = list[index].rva;
+    if index == 0 || rva <= subject.body || lost.stack {
+        return None;
+    }
+    let before = list[index - 1];
+    if !before.falls_through || before.rva + before.length != rva {
+        return None;
+    }
+    let effects = decoded_at(subject.space, before.rva)?.effects;
+    if lost.general & effects.general != 0 || lost.vectors & effects.vectors != 0 {
+        Some(before.rva)
+    } else {
+        None
     }
 }
 
