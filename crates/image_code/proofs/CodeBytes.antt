@@ -4,9 +4,8 @@ use Rattle.std.specs.Ordering.{nat_cmp}
 use Rattle.std.specs.BTreeMap.{BTreeMap, get}
 use Rattle.host_layout.specs.Ranges.{in_stack, in_data_stack}
 use Rattle.pe_image.specs.Image.{Section, Image, is_executable}
-use Rattle.pe_image.specs.Imports.{imports_of}
-use Rattle.host_model.specs.Loading.{section_of, mode_in, stack_mode, byte_in, stored_byte, with_slots, mapped}
-use Rattle.image_code.specs.Code.{code_of, executable_byte, byte_or, laid_over}
+use Rattle.host_model.specs.Loading.{section_of, mode_in, stack_mode, byte_in, stored_byte, mapped}
+use Rattle.image_code.specs.Code.{code_of, executable_byte, byte_or, is_code, HasSlots}
 
 from_base : (n : ℕ) → 0 + n ≡ n
 from_base n = omega arith
@@ -31,7 +30,7 @@ pub not_executed : (image : Image) (a : ℕ) (s : Section) → section_of 0 a im
 not_executed image a s is e = none_executed image a (ap (λ o. (mode_in o a).execute) is ∙ e)
 
 module _ (image : Image) (bytes : BTreeMap ℕ ℕ)
-    (bound : (byte : ℕ → ℕ) → laid_over bytes byte ≡ with_slots 0 byte (imports_of image)) where
+    (bound : HasSlots bytes image) where
   pub executed : (a : ℕ) (s : Section) → section_of 0 a image.sections ≡ Some s
       → is_executable s ≡ true → executable_byte (code_of image) a
       ≡ Some (byte_or (get nat_cmp bytes a) (get_or s.raw (a - s.address) 0))
@@ -40,6 +39,6 @@ module _ (image : Image) (bytes : BTreeMap ℕ ℕ)
       ap (λ b. cond b (Some ((code_of image).byte a)) None)
       (ap (λ o. (mode_in o a).execute) is ∙ e)
       ∙ ap (λ (n : ℕ). Some n)
-      (sym (ap (λ f. f a) (bound (stored_byte (record image { base = 0 }))))
+      (sym (bound (stored_byte (record image { base = 0 })) a (ap is_code is ∙ e))
       ∙ ap (λ o. byte_or (get nat_cmp bytes a) (byte_in 0 o a)) is
       ∙ ap (λ n. byte_or (get nat_cmp bytes a) (get_or s.raw (a - n) 0)) (from_base s.address))

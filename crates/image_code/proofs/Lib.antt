@@ -1,5 +1,6 @@
 pub mod Sections
 pub mod BoundBytes
+pub mod SlotBytes
 pub mod CodeBytes
 pub mod Fetching
 pub mod StoredCode

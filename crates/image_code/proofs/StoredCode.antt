@@ -5,9 +5,8 @@ use Rattle.std.specs.Ordering.{nat_cmp}
 use Rattle.std.specs.BTreeMap.{BTreeMap, get}
 use Rattle.flat_memory.specs.Memory.{executable, next}
 use Rattle.pe_image.specs.Image.{Section, Image, AreAscending, is_executable}
-use Rattle.pe_image.specs.Imports.{imports_of}
-use Rattle.host_model.specs.Loading.{section_of, with_slots}
-use Rattle.image_code.specs.Code.{code_of, executable_byte, byte_or, laid_over}
+use Rattle.host_model.specs.Loading.{section_of}
+use Rattle.image_code.specs.Code.{code_of, executable_byte, byte_or, HasSlots}
 use Rattle.image_code.proofs.CodeBytes.{executed}
 use Rattle.image_code.proofs.Fetching.{executable_more, executable_zero}
 use Rattle.image_code.proofs.Sections.{covering}
@@ -20,7 +19,7 @@ taken_from zero n (x ∷ xs) lt = refl
 taken_from (suc k) n (x ∷ xs) lt = taken_from k n xs (omega arith)
 
 module _ (image : Image) (bytes : BTreeMap ℕ ℕ)
-    (bound : (byte : ℕ → ℕ) → laid_over bytes byte ≡ with_slots 0 byte (imports_of image))
+    (bound : HasSlots bytes image)
     (s : Section) (run : is_executable s ≡ true) where
   in_section : (n a : ℕ) → s.address ≤ a → a - s.address + n ≤ length s.raw → a + n < 2 ^ 64
       → ((k : ℕ) → k < n → section_of 0 (a + k) image.sections ≡ Some s)

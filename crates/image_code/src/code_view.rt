@@ -6,7 +6,7 @@ ghost use Rattle.std.specs.BTreeMap.{get};
 ghost use Rattle.flat_memory.specs.Memory.{executable};
 ghost use Rattle.pe_image.specs.Image.{Section, AreAscending};
 ghost use Rattle.host_model.specs.Loading.{pages, section_of, covers};
-ghost use Rattle.image_code.specs.Code.{code_of, executable_byte};
+ghost use Rattle.image_code.specs.Code.{code_of, executable_byte, in_code};
 
 use crate::slots::bound_bytes;
 use host_layout::range::pages;
@@ -19,8 +19,8 @@ use x64_memory::space::CodeSpace;
 
 /// The executable bytes of an image, at addresses relative to its base: what the file stores of the
 /// section that covers an address, zeros from there to the end of the section's last page, and over
-/// both the addresses of the services that slots of imports are bound to. The image needs no place
-/// in memory. A clause sees it as the image.
+/// both the addresses of the services that slots of imports there are bound to. The image needs no
+/// place in memory. A clause sees it as the image.
 #[derive(Drop)]
 pub struct CodeView<'image, 'bytes> {
     image: &'image ImageView<'bytes>,
@@ -28,18 +28,14 @@ pub struct CodeView<'image, 'bytes> {
 }
 
 impl<'image, 'bytes> Model for CodeView<'image, 'bytes> {
-    ghost use Rattle.std.specs.Prelude.{◌≡◌, ℕ};
-    ghost use Rattle.host_model.specs.Loading.{with_slots};
     ghost use Rattle.pe_image.specs.Image.{Image};
-    ghost use Rattle.pe_image.specs.Imports.{imports_of};
-    ghost use Rattle.image_code.specs.Code.{laid_over};
+    ghost use Rattle.image_code.specs.Code.{HasSlots};
 
     ghost Value = { Image };
 
     ghost view = { λ v. v.image.now };
 
-    ghost invariant = { λ v. (byte : ℕ → ℕ)
-        → laid_over v.bound byte ≡ with_slots 0 byte (imports_of v.image.now) };
+    ghost invariant = { λ v. HasSlots v.bound v.image.now };
 }
 
 /// Whether an address lies in the pages of a section.
@@ -75,6 +71,17 @@ fn section_at<'a, 'b>(sections: &'a [SectionView<'b>], rva: u64) -> Option<&'a S
         Some(section)
     } else {
         None
+    }
+}
+
+/// Whether the byte at an address may be executed.
+pub fn in_code(sections: &[SectionView<'_>], rva: u64) -> bool
+    requires { AreAscending 0 sections.now }
+    ensures { result ≡ in_code sections.now rva }
+{
+    match section_at(sections, rva) {
+        None => false,
+        Some(section) => section.is_executable(),
     }
 }
 
@@ -120,7 +127,7 @@ fn are_unbound(bound: &BTreeMap<u64, u8>, rva: u64) -> bool
 }
 
 impl<'image, 'bytes> CodeView<'image, 'bytes> {
-    /// The code of an image. Refused for want of memory alone, which the slots of its imports take.
+    /// The code of an image. Refused for want of memory alone, which slots of imports in code take.
     pub fn of(
         alloc: Global,
         image: &'image ImageView<'bytes>,
