@@ -1,7 +1,7 @@
 //! What comes before the body of a routine.
 
 ghost use Rattle.std.specs.Prelude.{◌≡◌, OnOk};
-ghost use Rattle.x64_emit.specs.Appending.{Appended};
+ghost use Rattle.x64_operations.specs.Appending.{Appended};
 ghost use Rattle.x64_emit.specs.Near.{IsNear};
 ghost use Rattle.image_link.specs.Near.{IsFrameNear, IsEntryNear, IsRoutineNear};
 ghost use Rattle.image_link.specs.Text as spec;

@@ -2,7 +2,7 @@
 //! which it becomes a handler and is one no more.
 
 ghost use Rattle.std.specs.Prelude.{◌≡◌, ◌+◌, ◌*◌, ◌<◌, ◌≤◌, ◌^◌, ◌++◌, length, OnOk};
-ghost use Rattle.x64_emit.specs.Appending.{Appended};
+ghost use Rattle.x64_operations.specs.Appending.{Appended};
 ghost use Rattle.x64_emit.specs.Near.{IsNear, AreNear};
 ghost use Rattle.image_link.specs.Handlers as spec;
 ghost use Rattle.image_link.specs.Near.{AreFew, AreBlocksNear};

@@ -4,7 +4,7 @@ ghost use Rattle.std.specs.Prelude.{◌≡◌, ◌+◌, ◌*◌, ◌≤◌, [], 
 ghost use Rattle.std.specs.List.{AllByRecursion};
 ghost use Rattle.template_code.specs.ColdParts.{cold_code};
 ghost use Rattle.template_code.specs.Template.{code_from};
-ghost use Rattle.x64_emit.specs.Appending.{Appended};
+ghost use Rattle.x64_operations.specs.Appending.{Appended};
 ghost use Rattle.x64_emit.specs.Bodies.{EndsNear};
 ghost use Rattle.x64_emit.specs.Linking as linking;
 ghost use Rattle.x64_emit.specs.Near.{IsNear, AreNear};

@@ -4,5 +4,4 @@ pub mod TemplateSizes
 pub mod Nearby
 pub mod Parts
 pub mod CheckStack
-pub mod StackWords
 pub mod Stubs

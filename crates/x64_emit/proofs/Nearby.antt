@@ -10,11 +10,8 @@ use Rattle.c_operations.specs.declared.operation.Operation.{Operation}
 use Rattle.c_operations.specs.declared.operation.Operation.TheVariants as operations
 use Rattle.c_operations.specs.declared.operation.Pure.{Pure}
 use Rattle.c_operations.specs.declared.operation.Pure.TheVariants as pures
+pub use Rattle.x64_operations.proofs.Spelled.{on_ok}
 use Rattle.x64_emit.proofs.Lemmas.{sizes_spelled, template_sizes, short, sizes_small, fetch_length, PassesFew}
-
-pub on_ok : {A E : Type 0} (P Q : Type 0) (r : Result A E) → (P → Q) → OnOk r P → OnOk r Q
-on_ok P Q (Ok x) f p = f p
-on_ok P Q (Err e) f p = tt
 
 -- what two parts spell
 pub spelled_both : (old a b : List ℕ) (is js : List Instr) → a ≡ old ++ spelled is

@@ -12,18 +12,11 @@ use Rattle.linear_code.specs.declared.instruction.Instruction.TheVariants as ins
 use Rattle.template_code.specs.Operations.{before, work}
 use Rattle.x64_emit.proofs.Rooms.{copied_size}
 use Rattle.x64_emit.specs.Words.{W64, Rax, Rcx, Rdx, R8, R9, little, opcode_register, modrm, size, sizes, spelled, Layout, Slot, Local, Temporary, local_at, temporary_at, fetch, fetch_if, has_first, has_second, keep, operands_code, finish_code, compute_code, arguments_code, compare_zero, clear_result, template_size, place_of, parameter_register, Place, InRegister, InFrame, Arriving, fetch_placed, keep_placed, fetch_local, keep_local}
-use Rattle.x64_emit.specs.StackWords.{stack_word}
-use Rattle.x64_emit.proofs.StackWords.{near_bytes, far_bytes}
+use Rattle.x64_operations.specs.StackWords.{stack_word}
+use Rattle.x64_operations.proofs.StackWords.{near_bytes, far_bytes}
 use Rattle.x64_emit.proofs.Lemmas.{sizes_append, jump_size, jump_if_zero_size, call_code_size}
 
 -- ---- one instruction
-
-pub constant_spelled : (v : ℕ) → v < 2 ^ 64
-    → spelled (instrs.Move W64 (places.Register Rax) (operands.Immediate (low W64 v)) ∷ [])
-    ≡ 0x48 ∷ 0xB8 ∷ little 8 v
-unfolding opcode_register
-constant_spelled v lt =
-    let e : low W64 v ≡ v = omega arith in λ i. 0x48 ∷ 0xB8 ∷ little 8 (e i)
 
 pub near_length : (d : ℕ) → d < 128 → (op : ℕ) (r : Reg) → length (stack_word op r d) ≡ 5
 near_length d lt op r = ap length (near_bytes op r d lt)

@@ -5,7 +5,7 @@ ghost use Rattle.std.specs.List.{AllByRecursion};
 ghost use Rattle.x64_emit.specs.Bodies as spec;
 ghost use Rattle.x64_emit.specs.Linking.{links_of};
 ghost use Rattle.x64_emit.specs.Near.{IsInstructionNear};
-ghost use Rattle.x64_emit.specs.Appending.{Appended};
+ghost use Rattle.x64_operations.specs.Appending.{Appended};
 ghost use Rattle.template_code.specs.ColdParts.{AreParts, side_from};
 ghost use Rattle.template_code.specs.Template.{code_from, body_size, template_size};
 

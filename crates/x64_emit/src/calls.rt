@@ -12,12 +12,9 @@ ghost use Rattle.frame_layout.specs.Plans.{plan_of};
 ghost use Rattle.template_code.specs.Jumps as jumps;
 ghost use Rattle.template_code.specs.Operations as operations;
 ghost use Rattle.template_code.specs.Bytes.{spelled};
-ghost use Rattle.x64_emit.specs.Appending.{Appended};
+ghost use Rattle.x64_operations.specs.Appending.{Appended};
 
 use crate::frames::put_epilogue;
-use crate::put::{RAX, above, copy, load, put, set};
-use crate::slots::{put_fetch, put_keep};
-use crate::stack_words::{put_load, put_store};
 use c_operations::field::Field;
 use frame_layout::FrameLayout;
 use linear_code::slot::Slot;
@@ -27,6 +24,9 @@ use template_code::layout::Layout;
 use x64_instr::instruction::{Condition, Instr, Operation, Target};
 use x64_instr::operand::{Base, MemRef, Operand, RegisterOrMemory};
 use x64_instr::register::Reg;
+use x64_operations::put::{RAX, above, copy, load, put, set};
+use x64_operations::slots::{put_fetch, put_keep};
+use x64_operations::stack_words::{put_load, put_store};
 
 /// The bytes of a jump or a call with a displacement.
 pub(crate) const JUMP_SIZE: u64 = 5;

@@ -9,14 +9,11 @@ ghost use Rattle.template_code.specs.Jumps.{distance};
 ghost use Rattle.template_code.specs.Operations as operations;
 ghost use Rattle.template_code.specs.Slots as places;
 ghost use Rattle.template_code.specs.Bytes.{spelled, thunk};
-ghost use Rattle.x64_emit.specs.Appending.{Appended};
+ghost use Rattle.x64_operations.specs.Appending.{Appended};
 ghost use Rattle.template_code.specs.Probing.{check_stack};
 ghost use Rattle.x64_emit.specs.declared.entry.TheConstants.{CHECK_STACK};
 
 use crate::calls::distance;
-use crate::put::{copy, load, parameter_register, put, store};
-use crate::slots::put_keep;
-use crate::stack_words::put_load;
 use linear_code::slot::Slot;
 use seh_num::width::Width;
 use std::alloc::AllocError;
@@ -24,6 +21,9 @@ use template_code::layout::{Layout, Place};
 use x64_instr::instruction::{Instr, Target};
 use x64_instr::operand::{Base, MemRef, RegisterOrMemory};
 use x64_instr::register::Reg;
+use x64_operations::put::{copy, load, parameter_register, put, store};
+use x64_operations::slots::put_keep;
+use x64_operations::stack_words::put_load;
 
 /// The bytes of the thunk of a service.
 pub const THUNK_SIZE: u32 = 6;

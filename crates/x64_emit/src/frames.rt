@@ -9,14 +9,14 @@ ghost use Rattle.frame_layout.specs.Layout.{IsFrame};
 ghost use Rattle.frame_layout.specs.Plans.{plan_of};
 ghost use Rattle.template_code.specs.Frames.{probing};
 ghost use Rattle.template_code.specs.Bytes.{spelled};
-ghost use Rattle.x64_emit.specs.Appending.{Appended};
+ghost use Rattle.x64_operations.specs.Appending.{Appended};
 ghost use Rattle.x64_emit.specs.Near.{IsNear};
 
 use crate::calls::distance;
-use crate::put::put;
 use frame_layout::{FrameLayout, epilogue, probe_end, prologue};
 use std::alloc::AllocError;
 use x64_instr::instruction::Instr;
+use x64_operations::put::put;
 
 /// Adds the bytes of instructions.
 fn put_all(code: &mut Vec<u8>, instrs: &[Instr]) -> Result<(), AllocError>

@@ -3,17 +3,17 @@
 ghost use Rattle.std.specs.Prelude.{◌≡◌, ◌+◌, ◌<◌, OnOk};
 ghost use Rattle.x64_encode.specs.Chosen.{IsEncodable};
 ghost use Rattle.template_code.specs.Handlers as spec;
-ghost use Rattle.x64_emit.specs.Appending.{Appended};
+ghost use Rattle.x64_operations.specs.Appending.{Appended};
 ghost use Rattle.x64_emit.specs.Near.{IsNear};
 
 use crate::calls::{distance, put_jump};
 use crate::entry::put_thunk;
-use crate::put::{above, load, put};
 use seh_num::width::Width;
 use std::alloc::AllocError;
 use x64_instr::instruction::Instr;
 use x64_instr::operand::{Base, MemRef, Operand, RegisterOrMemory};
 use x64_instr::register::Reg;
+use x64_operations::put::{above, load, put};
 
 /// The bytes of a name thunk.
 pub const NAME_THUNK_SIZE: u32 = 15;

@@ -7,16 +7,16 @@ ghost use Rattle.template_code.specs.Operations.{before, work};
 ghost use Rattle.template_code.specs.Slots as spec;
 ghost use Rattle.template_code.specs.Template as templates;
 ghost use Rattle.x64_emit.specs.Near.{IsNear, IsSlotNear, AreArgumentsNear, IsInstructionNear};
-ghost use Rattle.x64_emit.specs.StackWords.{stack_word};
+ghost use Rattle.x64_operations.specs.StackWords.{stack_word};
 ghost use Rattle.x64_instr.specs.declared.register.Reg.{Reg};
 
 use crate::calls::{JUMP_IF_SIZE, JUMP_SIZE, MOVE_SIZE};
-use crate::operation_bytes::operation_bytes;
 use c_operations::operation::{Operation, Pure};
 use linear_code::instruction::Instruction;
 use linear_code::slot::Slot;
 use template_code::layout::{Layout, Place};
 use template_code::operands::{has_first, has_second};
+use x64_operations::operation_bytes::operation_bytes;
 
 /// The bytes of a move of a number of 64 bits to RAX.
 const CONSTANT_SIZE: u32 = 10;

@@ -3,7 +3,7 @@
 ghost use Rattle.std.specs.Prelude.{OnOk};
 ghost use Rattle.x64_emit.specs.Linking.{links_of};
 ghost use Rattle.x64_emit.specs.Near.{IsNear, IsInstructionNear, IsCallInstruction};
-ghost use Rattle.x64_emit.specs.Appending.{Appended};
+ghost use Rattle.x64_operations.specs.Appending.{Appended};
 ghost use Rattle.template_code.specs.Template.{template};
 
 use crate::calls::{
@@ -11,12 +11,12 @@ use crate::calls::{
     put_local_unwind, put_passing_call, put_return,
 };
 use crate::links::Links;
-use crate::put::put;
-use crate::slots::{put_compute, put_keep};
 use linear_code::instruction::Instruction;
 use std::alloc::AllocError;
 use template_code::layout::Layout;
 use x64_instr::instruction::Instr;
+use x64_operations::put::put;
+use x64_operations::slots::{put_compute, put_keep};
 
 /// Adds the template of an instruction that calls.
 fn put_call_instruction(

@@ -4,7 +4,7 @@ ghost use Rattle.std.specs.Prelude.{◌≡◌, true, [], ◌∷◌, OnOk};
 ghost use Rattle.c_operations.specs.Numbers as numbers;
 ghost use Rattle.x64_encode.specs.Chosen.{is_wide, IsEncodable};
 ghost use Rattle.template_code.specs.Operations as spec;
-ghost use Rattle.x64_emit.specs.Appending.{Appended};
+ghost use Rattle.x64_operations.specs.Appending.{Appended};
 
 use crate::data_stack::{put_allocate, put_clear, put_place, put_set, put_set_pointer};
 use crate::immediates::put_constant;

@@ -6,7 +6,7 @@ ghost use Rattle.seh_num.specs.Widths.{bytes_of};
 ghost use Rattle.c_operations.specs.declared.operation.Operation.TheVariants as operations;
 ghost use Rattle.x64_encode.specs.Chosen.{IsEncodable};
 ghost use Rattle.template_code.specs.Operations as spec;
-ghost use Rattle.x64_emit.specs.Appending.{Appended};
+ghost use Rattle.x64_operations.specs.Appending.{Appended};
 
 use crate::put::{arithmetic, copy, put, set};
 use host_layout::range::DATA_STACK_START;

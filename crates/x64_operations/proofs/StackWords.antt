@@ -12,8 +12,8 @@ use Rattle.x64_instr.specs.Registers.{number}
 use Rattle.x64_encode.specs.declared.writing.Opcode.TheVariants as opcodes
 use Rattle.x64_encode.specs.Chosen.{opcode_bytes}
 use Rattle.template_code.specs.Operations.{above}
-use Rattle.x64_emit.specs.Words.{W8, W32, W64, is_signed, little, modrm, modrm_bits, prefixes, place_bytes, spelled, fetched}
-use Rattle.x64_emit.specs.StackWords.{stack_word}
+use Rattle.x64_operations.specs.Words.{W8, W32, W64, is_signed, little, modrm, modrm_bits, prefixes, place_bytes, spelled, fetched}
+use Rattle.x64_operations.specs.StackWords.{stack_word}
 
 -- ---- displacements
 

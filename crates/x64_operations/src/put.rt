@@ -4,7 +4,7 @@ ghost use Rattle.std.specs.Prelude.{◌≡◌, [], ◌∷◌, OnOk};
 ghost use Rattle.x64_encode.specs.Chosen.{IsEncodable};
 ghost use Rattle.template_code.specs.Operations.{above, move};
 ghost use Rattle.template_code.specs.Places.{parameter_register};
-ghost use Rattle.x64_emit.specs.Appending.{Appended};
+ghost use Rattle.x64_operations.specs.Appending.{Appended};
 ghost use Rattle.template_code.specs.Slots as slots;
 
 use crate::immediates::put_displaced;

@@ -1,7 +1,7 @@
 use Rattle.std.proofs.Common.{ℕ, List, ◌++◌, sym, ap, ◌∙◌, arith}
-use Rattle.x64_emit.proofs.Nearby.{on_ok}
-use Rattle.x64_emit.proofs.TemplateSizes.{constant_spelled}
-use Rattle.x64_emit.proofs.operations.put_number.Goals as goal
+use Rattle.x64_operations.proofs.Spelled.{on_ok}
+use Rattle.x64_operations.proofs.Spelled.{constant_spelled}
+use Rattle.x64_operations.proofs.operations.put_number.Goals as goal
 
 pub returns : goal.returns
 returns c = on_ok _ _ c.put_constant.result

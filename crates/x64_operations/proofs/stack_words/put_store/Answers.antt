@@ -1,7 +1,7 @@
 use Rattle.std.proofs.Common.{ℕ, List, ◌++◌, sym, ap, ◌∙◌}
-use Rattle.x64_emit.proofs.Nearby.{on_ok}
-use Rattle.x64_emit.proofs.StackWords.{store_spelled}
-use Rattle.x64_emit.proofs.stack_words.put_store.Goals as goal
+use Rattle.x64_operations.proofs.Spelled.{on_ok}
+use Rattle.x64_operations.proofs.StackWords.{store_spelled}
+use Rattle.x64_operations.proofs.stack_words.put_store.Goals as goal
 
 pub returns : goal.returns
 returns c = on_ok _ _ c.put_word.result

@@ -1,11 +1,11 @@
 use Rattle.std.proofs.Common.{◌≡◌, ℕ, [], ◌∷◌, ◌++◌, ap, ◌∙◌, arith}
 use Rattle.seh_num.specs.Widths.{low}
-use Rattle.x64_emit.specs.Words.{W64, Instr, spelled}
+use Rattle.x64_operations.specs.Words.{W64, Instr, spelled}
 use Rattle.x64_instr.specs.declared.operand.RegisterOrMemory.TheVariants as places
 use Rattle.x64_instr.specs.declared.operand.Operand.TheVariants as operands
 use Rattle.x64_instr.specs.declared.instruction.Instr.TheVariants as instrs
-use Rattle.x64_emit.proofs.Nearby.{on_ok}
-use Rattle.x64_emit.proofs.data_stack.put_set.Goals as goal
+use Rattle.x64_operations.proofs.Spelled.{on_ok}
+use Rattle.x64_operations.proofs.data_stack.put_set.Goals as goal
 
 pub returns : goal.returns
 returns c =

@@ -1,6 +1,6 @@
 use Rattle.std.proofs.Common.{ℕ, ◌+◌, ◌*◌, ◌/◌, ◌%◌, [], ◌∷◌, sym, ap, ◌∙◌}
-use Rattle.x64_emit.proofs.StackWords.{near_bytes}
-use Rattle.x64_emit.proofs.stack_words.near_word.Goals as goal
+use Rattle.x64_operations.proofs.StackWords.{near_bytes}
+use Rattle.x64_operations.proofs.stack_words.near_word.Goals as goal
 
 pub returns : goal.returns
 returns c = ap (λ (n : ℕ). (0x48 + 4 * (n / 8)) ∷ c.args.opcode ∷ (0x44 + 8 * (n % 8)) ∷ 0x24

@@ -4,9 +4,9 @@
 ghost use Rattle.std.specs.Prelude.{◌≡◌, ◌≤◌, ◌<◌, ◌^◌, ◌++◌, [], ◌∷◌, OnOk};
 ghost use Rattle.template_code.specs.Operations.{above};
 ghost use Rattle.template_code.specs.Slots.{fetched};
-ghost use Rattle.x64_emit.specs.Appending.{Appended};
-ghost use Rattle.x64_emit.specs.Near.{IsNear};
-ghost use Rattle.x64_emit.specs.StackWords.{stack_word};
+ghost use Rattle.x64_operations.specs.Appending.{Appended};
+ghost use Rattle.x64_operations.specs.Near.{IsNear};
+ghost use Rattle.x64_operations.specs.StackWords.{stack_word};
 
 use seh_num::width::Width;
 use std::alloc::AllocError;

@@ -1,6 +1,6 @@
 use Rattle.std.proofs.Common.{ℕ, ◌+◌, ◌*◌, ◌/◌, ◌%◌, [], ◌∷◌, sym, ap, ◌∙◌}
-use Rattle.x64_emit.proofs.StackWords.{far_bytes}
-use Rattle.x64_emit.proofs.stack_words.far_word.Goals as goal
+use Rattle.x64_operations.proofs.StackWords.{far_bytes}
+use Rattle.x64_operations.proofs.stack_words.far_word.Goals as goal
 
 pub returns : goal.returns
 returns c =

@@ -1,8 +1,8 @@
 //! Slots, fetched and kept.
 
 ghost use Rattle.std.specs.Prelude.{◌++◌, OnOk};
-ghost use Rattle.x64_emit.specs.Near.{IsSlotNear};
-ghost use Rattle.x64_emit.specs.Appending.{Appended};
+ghost use Rattle.x64_operations.specs.Near.{IsSlotNear};
+ghost use Rattle.x64_operations.specs.Appending.{Appended};
 ghost use Rattle.template_code.specs.Operations.{before, work};
 ghost use Rattle.template_code.specs.Slots as spec;
 

@@ -1,0 +1,4 @@
+pub mod Appending
+pub mod Near
+pub mod StackWords
+pub mod Words
