@@ -1,4 +1,4 @@
 mod Lists
 mod ExpressionWalks
 mod StatementWalks
-mod ProgramWalks
+pub mod ProgramWalks

@@ -11,6 +11,7 @@ pub mod Compiled
 mod EventLines
 pub mod Headline
 pub mod PrintedWalk
+pub mod FunctionNames
 pub mod Meanings
 pub mod Completeness
 pub mod TamePrograms

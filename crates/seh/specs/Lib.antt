@@ -8,6 +8,7 @@ pub mod Checks
 pub mod EntryChecks
 pub mod Headline
 pub mod PrintedWalk
+pub mod FunctionNames
 pub mod Meanings
 pub mod Commands
 pub mod Completeness

@@ -8,6 +8,7 @@ ghost use Rattle.seh.specs.EntryCheckLaws.{EntryCheckIsComplete, EntriesHaveOneV
 ghost use Rattle.seh.specs.EntryFrames.{YesLinesFindCallers, FirstNoIsOfCheck};
 ghost use Rattle.seh.specs.Completeness.{AcceptedTextsCompile, CompiledImagesRun};
 ghost use Rattle.seh.specs.Existence.{ImagesExist};
+ghost use Rattle.seh.specs.FunctionNames.{NamesAreThere, OthersShowNoWalk};
 ghost use Rattle.seh.specs.Headline.{Headline, NothingMore, Walks};
 ghost use Rattle.seh.specs.PrintedWalk.{PrintedWalk};
 ghost use Rattle.seh.specs.SelftestLaws.{SelftestReadsNothing, SelftestIsComplete, SelftestIsMeant};
@@ -33,6 +34,15 @@ pub fn headline()
 /// filters and in `__finally` blocks, and where an unwinding has left others.
 pub fn printed_walk()
     ensures { PrintedWalk }
+{}
+
+/// The names of functions, by what the text says. Where a function of the text names `walk`, in an
+/// expression of a statement, of a filter or of a `__finally` block, the image has for each number
+/// the name of the function of that number, and no other names. Where none does, the program never
+/// shows a line of a printed walk.
+pub fn function_names()
+    ensures there { NamesAreThere }
+    ensures others { OthersShowNoWalk }
 {}
 
 /// Completeness: no accepted text is refused, and no image of one. What `compile` answers to an
