@@ -37,7 +37,7 @@
  *  - malloc, realloc and free are one allocator's, which aligns a block as C demands. No call is
  *    made in a signal handler that may have interrupted malloc. A call takes one block, of 32 bytes
  *    for each section of the image, since an image may have up to 65,535 of them; seh_scopes takes
- *    more for the imports, and seh_check for the instructions of a function at a time. A call
+ *    more for the imports, and seh_check for the instructions of a prologue at a time. A call
  *    gives back all that it takes; what it answers holds none.
  *
  * Addresses in an image (RVAs) count from its base. All numbers are little-endian, as in the

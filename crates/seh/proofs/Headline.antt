@@ -36,7 +36,7 @@ module _ (source image : List ℕ) (compiled : IsCompiled source image) where
   program = (resolve source compiled.whole).program
 
   -- the image of a program that calls `walk` has the names of its functions
-  named : calls_walk (lowered program) ≡ true → names_by image ≡ names_of program
+  pub named : calls_walk (lowered program) ≡ true → names_by image ≡ names_of program
   named walks =
       let real = compiled.realises in
       ap names_read real.is

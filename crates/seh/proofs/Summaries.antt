@@ -1,5 +1,5 @@
 -- A summary is written in three pieces: a line, the text of a run, and a line.
-use Rattle.std.proofs.Common.{◌≡◌, ◌+◌, ◌<◌, ◌≤◌, ◌^◌, ℕ, List, ◌++◌, length, take, min, Option, refl, sym, ap, ◌∙◌, append_assoc, arith, subst, false}
+use Rattle.std.proofs.Common.{◌≡◌, ◌+◌, ◌<◌, ◌^◌, ℕ, List, ◌++◌, length, take, min, Option, refl, sym, ap, ◌∙◌, append_assoc, arith, subst, false}
 use Rattle.seh_io.specs.Streams.{HasCount}
 use Rattle.seh_io.specs.Successive.{grew_more}
 use Rattle.seh.specs.Words.{Shown, RunEnd, Grew, last_count, text, TookPart, end_within}

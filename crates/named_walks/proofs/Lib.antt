@@ -1,0 +1,4 @@
+mod Lists
+mod ExpressionWalks
+mod StatementWalks
+pub mod ProgramWalks
