@@ -24,9 +24,9 @@ pub fn range_of<'a>(file: &Minidump<'a>, range: MemoryRange) -> SehRange<'a>
     }
 }
 
-/// Writes the frames of a thread, from the context at a location on ([`crate::location_of`]). The views are those of the
-/// images that the caller opened, and the ranges have the dump's memory. A context that can't be
-/// read is refused, and then nothing is written.
+/// Writes the frames of a thread, from the context at a location on ([`crate::location_of`]). The
+/// views are those of the images that the caller opened, and the ranges have the dump's memory. A
+/// context that can't be read is refused, and then nothing is written.
 pub fn walk_thread(
     alloc: Global,
     file: &Minidump<'_>,
