@@ -10,6 +10,6 @@ mod laws;
 mod registers;
 mod stacks;
 
-pub use laws::stacks_are_walks;
+pub use laws::{stacks_are_walks, worked_ranges};
 pub use registers::{location_of, registers_of};
 pub use stacks::{range_of, walk_thread};
