@@ -3,7 +3,9 @@
 -- The main definition: `knowledge_of`.
 use Rattle.std.specs.Prelude.{◌≡◌, ℕ, ◌^◌, Bool, nat_eq, nat_le, if◌then◌else◌, List, [], ◌∷◌, slice_index_or, Option, Some, None}
 use Rattle.virtual_unwind.specs.CallerOf.{distance}
-use Rattle.frame_known.specs.Knowledge.{Known, Nothing, Knowledge}
+use Rattle.frame_known.specs.declared.known.Known.{Known}
+use Rattle.frame_known.specs.declared.known.Known.TheVariants.{Nothing}
+use Rattle.frame_known.specs.Knowledge.{Knowledge}
 use Rattle.frame_known.specs.After.{meet}
 use Rattle.known_frames.specs.declared.knowledge.Saved.{Saved}
 use Rattle.known_frames.specs.declared.knowledge.Knowledge as code

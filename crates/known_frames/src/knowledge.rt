@@ -69,6 +69,7 @@ pub fn known_of(registers: &[Known; 16], register: Reg) -> Known
 }
 
 /// The same registers with one by its number, which is below 16, set.
+#[tactic(auto, using(crate::proofs::Entered::set_known))]
 pub fn with_known(registers: &[Known; 16], register: u8, known: Known) -> [Known; 16]
     requires { register < 16 }
     ensures { (r : ℕ) → registers_of result r

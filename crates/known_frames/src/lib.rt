@@ -7,4 +7,6 @@
 
 pub mod address;
 pub mod knowledge;
+pub mod less;
+pub mod stores;
 pub mod words;

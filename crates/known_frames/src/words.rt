@@ -3,7 +3,7 @@
 ghost use Rattle.std.specs.Prelude.{◌≡◌, ◌⊎◌, ℕ, Some, None, if◌then◌else◌};
 ghost use Rattle.frame_known.specs.Known as runs;
 ghost use Rattle.frame_known.specs.After as spec;
-ghost use Rattle.frame_known.specs.Knowledge.{Nothing};
+ghost use Rattle.frame_known.specs.declared.known.Known.TheVariants.{Nothing};
 ghost use Rattle.known_frames.specs.Views as views;
 ghost use Rattle.known_frames.specs.Views.{words_of, loses};
 
@@ -67,13 +67,7 @@ fn left(loss: Loss, saved: Option<Saved>) -> Option<Saved>
     ensures { result ≡ views.left loss saved }
 {
     match saved {
-        Some(one) => {
-            if is_lost(loss, one.at) {
-                None
-            } else {
-                saved
-            }
-        }
+        Some(one) => { if is_lost(loss, one.at) { None } else { saved } }
         None => None,
     }
 }
@@ -89,6 +83,7 @@ pub fn lose(loss: Loss, words: &mut [Option<Saved>])
 }
 
 /// Names a word, where there is room.
+#[tactic(auto, using(crate::proofs::NamedWords::named))]
 pub fn name(words: &mut [Option<Saved>], saved: Saved)
     ensures { (j : ℕ) → (words_of words.new j ≡ words_of words.old j)
         ⊎ ((j ≡ saved.at) × (words_of words.new j ≡ Some saved.register)) }
