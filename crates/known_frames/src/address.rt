@@ -1,6 +1,6 @@
 //! What is known of addresses.
 
-ghost use Rattle.std.specs.Prelude.{◌≡◌, ◌-◌, ◌^◌};
+ghost use Rattle.std.specs.Prelude.{◌≡◌, ◌-◌, ◌%◌, ◌^◌};
 ghost use Rattle.frame_known.specs.Known as runs;
 ghost use Rattle.frame_known.specs.After as spec;
 ghost use Rattle.known_frames.specs.Views.{registers_of};
@@ -19,9 +19,9 @@ pub fn raised(by: u64, known: Known) -> Known
     }
 }
 
-/// The same with a number that needn't be below 2 to the 64: minus so many bytes.
+/// So many bytes below a place, modulo 2 to the 64.
 pub fn lowered(by: u64, known: Known) -> Known
-    ensures { result ≡ runs.raised (2 ^ 64 - by) known }
+    ensures { result ≡ runs.raised (2 ^ 64 - by % 2 ^ 64) known }
 {
     match known {
         Known::Place(k) => Known::Place(k.wrapping_sub(by)),

@@ -6,7 +6,9 @@
 #![tactic(auto)]
 
 pub mod address;
+pub mod after;
 pub mod knowledge;
 pub mod less;
+pub mod registers;
 pub mod stores;
 pub mod words;

@@ -1,13 +1,11 @@
 //! Words of the stack that are known.
 
 ghost use Rattle.std.specs.Prelude.{◌≡◌, ◌⊎◌, ℕ, Some, None, if◌then◌else◌};
-ghost use Rattle.frame_known.specs.Known as runs;
 ghost use Rattle.frame_known.specs.After as spec;
-ghost use Rattle.frame_known.specs.declared.known.Known.TheVariants.{Nothing};
 ghost use Rattle.known_frames.specs.Views as views;
-ghost use Rattle.known_frames.specs.Views.{words_of, loses};
+ghost use Rattle.known_frames.specs.Views.{knowledge_of, words_of, loses};
 
-use crate::knowledge::Saved;
+use crate::knowledge::{Knowledge, Saved};
 use frame_known::known::Known;
 
 /// What takes words away.
@@ -33,11 +31,11 @@ pub fn word(words: &[Option<Saved>], at: u64) -> Option<u8>
 }
 
 /// What is known of the word at a place.
-pub fn word_at(words: &[Option<Saved>], at: Known) -> Known
-    ensures { result ≡ spec.word_at (record { registers = λ r. Nothing; words = words_of words.now }) at }
+pub fn word_at(known: &Knowledge, at: Known) -> Known
+    ensures { result ≡ spec.word_at (knowledge_of known.now) at }
 {
     match at {
-        Known::Place(k) => match word(words, k) {
+        Known::Place(k) => match word(&known.words, k) {
             Some(register) => Known::Entry(register),
             None => Known::Nothing,
         },

@@ -1,0 +1,64 @@
+//! What is known after an instruction (Intel manual, volume 2).
+
+ghost use Rattle.std.specs.Prelude.{◌≡◌, ◌⊎◌, ◌<◌, ℕ, None, IfSome};
+ghost use Rattle.frame_known.specs.Knowledge.{SaysLess};
+ghost use Rattle.frame_known.specs.After as spec;
+ghost use Rattle.known_frames.specs.Views.{knowledge_of, words_of};
+
+use crate::knowledge::{Knowledge, Saved, known_of};
+use crate::registers::registers_after;
+use crate::stores::store_of;
+use crate::words::{Loss, lose, name};
+use frame_known::known::{Known, Store};
+use x64_instr::instruction::Instr;
+use x64_instr::register::Reg;
+
+/// The words after a store of so many bytes so far from S.
+fn store_at(words: &mut [Option<Saved>], at: u64, size: u64, value: Known)
+    requires { 0 < size }
+    ensures { (j : ℕ) → (words_of words.new j ≡ None)
+        ⊎ (words_of words.new j ≡ spec.with_word (words_of words.old) size at value j) }
+{
+    lose(Loss::Store { at, size }, words);
+    match value {
+        Known::Entry(register) => name(words, Saved { at, register }),
+        _ => (),
+    }
+}
+
+/// The words after a store, where there is one.
+fn store(words: &mut [Option<Saved>], store: Option<Store>)
+    requires { IfSome store (λ s. 0 < s.size) }
+    ensures { (j : ℕ) → (words_of words.new j ≡ None)
+        ⊎ (words_of words.new j ≡ spec.stored (words_of words.old) store j) }
+{
+    match store {
+        None => (),
+        Some(one) => match one.to {
+            Known::Place(at) => store_at(words, at, one.size, one.value),
+            _ => (),
+        },
+    }
+}
+
+/// Below RSP no word stays.
+fn lose_below(words: &mut [Option<Saved>], top: Known)
+    ensures { (j : ℕ) → words_of words.new j ≡ spec.from_stack top (words_of words.old) j }
+{
+    match top {
+        Known::Place(at) => lose(Loss::Below(at), words),
+        _ => (),
+    }
+}
+
+/// What is known after an instruction of the machine other than a call; perhaps less, where more
+/// than sixteen words would be known.
+pub fn after(instr: &Instr, known: &Knowledge) -> Knowledge
+    ensures { SaysLess (spec.after instr.now (knowledge_of known.now)) (knowledge_of result) }
+{
+    let registers = registers_after(instr, known);
+    let mut words = known.words;
+    store(&mut words, store_of(instr, &known.registers));
+    lose_below(&mut words, known_of(&registers, Reg::Rsp));
+    Knowledge { registers, words }
+}
