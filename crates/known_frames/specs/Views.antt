@@ -1,7 +1,7 @@
 -- What the code keeps, as the definitions see it.
 --
 -- The main definition: `knowledge_of`.
-use Rattle.std.specs.Prelude.{◌≡◌, ℕ, ◌^◌, Bool, nat_eq, nat_le, if◌then◌else◌, List, [], ◌∷◌, slice_index_or, Option, Some, None}
+use Rattle.std.specs.Prelude.{ℕ, ◌^◌, Bool, nat_eq, nat_le, if◌then◌else◌, List, [], ◌∷◌, slice_index_or, Option, Some, None}
 use Rattle.virtual_unwind.specs.CallerOf.{distance}
 use Rattle.frame_known.specs.declared.known.Known.{Known}
 use Rattle.frame_known.specs.declared.known.Known.TheVariants.{Nothing}

@@ -1,9 +1,10 @@
 //! What is known after an instruction (Intel manual, volume 2).
 
-ghost use Rattle.std.specs.Prelude.{◌≡◌, ◌⊎◌, ◌<◌, ℕ, None, IfSome};
+ghost use Rattle.std.specs.Prelude.{◌≡◌, ◌⊎◌, ◌<◌, ℕ, None, IfSome, false};
 ghost use Rattle.frame_known.specs.Knowledge.{SaysLess};
+ghost use Rattle.frame_known.specs.Known as runs;
 ghost use Rattle.frame_known.specs.After as spec;
-ghost use Rattle.known_frames.specs.Views.{knowledge_of, words_of};
+ghost use Rattle.known_frames.specs.Views.{knowledge_of, registers_of, words_of};
 
 use crate::knowledge::{Knowledge, Saved, known_of};
 use crate::registers::registers_after;
@@ -59,6 +60,28 @@ pub fn after(instr: &Instr, known: &Knowledge) -> Knowledge
     let registers = registers_after(instr, known);
     let mut words = known.words;
     store(&mut words, store_of(instr, &known.registers));
+    lose_below(&mut words, known_of(&registers, Reg::Rsp));
+    Knowledge { registers, words }
+}
+
+fn nonvolatile(registers: &[Known; 16]) -> [Known; 16]
+    ensures { (r : ℕ) → registers_of result r ≡ runs.kept (registers_of registers.now) r }
+{
+    let k = registers;
+    let lost = Known::Nothing;
+    [
+        lost, lost, lost, k[3], k[4], k[5], k[6], k[7], lost, lost, lost, lost, k[12], k[13],
+        k[14], k[15],
+    ]
+}
+
+/// What is known after a call whose callee keeps the ABI (Microsoft x64 ABI, "Caller/callee saved
+/// registers").
+pub fn after_call(known: &Knowledge) -> Knowledge
+    ensures { SaysLess (spec.after_call false (knowledge_of known.now)) (knowledge_of result) }
+{
+    let registers = nonvolatile(&known.registers);
+    let mut words = known.words;
     lose_below(&mut words, known_of(&registers, Reg::Rsp));
     Knowledge { registers, words }
 }

@@ -11,4 +11,5 @@ pub mod knowledge;
 pub mod less;
 pub mod registers;
 pub mod stores;
+pub mod unwound;
 pub mod words;
