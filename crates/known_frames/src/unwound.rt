@@ -1,19 +1,23 @@
 //! Windows' unwinder, run on what is known in place of a state (Microsoft x64 ABI, "Unwind
 //! procedure").
 
-ghost use Rattle.std.specs.Prelude.{◌≡◌, ◌<◌, Some, true, IfSome};
+ghost use Rattle.std.specs.Prelude.{◌≡◌, ◌<◌, None, Some, true, IfSome};
 ghost use Rattle.virtual_unwind.specs.Contexts as contexts;
+ghost use Rattle.virtual_unwind.specs.Undone.{operations};
+ghost use Rattle.abi_unwind.specs.Caller as caller;
 ghost use Rattle.frame_known.specs.Knowledge as knowledge;
 ghost use Rattle.frame_known.specs.Known as spec;
 ghost use Rattle.frame_known.specs.Tests as tests;
-ghost use Rattle.known_frames.specs.Views.{registers_of, words_of};
+ghost use Rattle.known_frames.specs.Views.{knowledge_of, registers_of, words_of};
 
 use crate::address::{lowered, raised};
-use crate::knowledge::{Saved, known_of, with_known};
+use crate::knowledge::{Knowledge, Saved, known_of, with_known};
 use crate::words::word;
+use abi_unwind::function::Function;
 use abi_unwind::tail::Part;
-use eh_tables::{Info, UnwindOperation};
+use eh_tables::{Codes, Info, RuntimeFunction, UnwindOperation};
 use frame_known::known::{Known, Reach};
+use virtual_unwind::undo::sets_frame_by;
 use x64_instr::register::Reg;
 
 fn in_reach(reach: Reach, k: u64) -> bool
@@ -191,4 +195,125 @@ pub fn ends_right(registers: &[Known; 16]) -> bool
         && is_entry(k[13], 13)
         && is_entry(k[14], 14)
         && is_entry(k[15], 15)
+}
+
+fn undone(
+    reach: Reach,
+    words: &[Option<Saved>],
+    base: Known,
+    info: &Info,
+    codes: Codes,
+    registers: &[Known; 16],
+) -> Option<[Known; 16]>
+    ensures { IfSome result (λ a. spec.undone reach (words_of words.now) base info.now
+        (operations codes.entry) (registers_of registers.now) ≡ Some (registers_of a)) }
+{
+    let mut now = *registers;
+    for code in codes {
+        match undone_one(reach, words, base, info, &now, code.operation) {
+            None => return None,
+            Some(next) => now = next,
+        }
+    }
+    Some(now)
+}
+
+/// What undoing the codes of the instructions that have been run at a distance leaves.
+fn undone_by(
+    reach: Reach,
+    words: &[Option<Saved>],
+    base: Known,
+    info: &Info,
+    distance: u64,
+    registers: &[Known; 16],
+) -> Option<[Known; 16]>
+    ensures { IfSome result (λ a. spec.undone reach (words_of words.now) base info.now
+        (caller.codes_at info.now distance) (registers_of registers.now)
+        ≡ Some (registers_of a)) }
+{
+    let mut left = info.codes();
+    while let Some(code) = left.next() {
+        if code.offset as u64 <= distance {
+            return match undone_one(reach, words, base, info, registers, code.operation) {
+                None => None,
+                Some(next) => undone(reach, words, base, info, left, &next),
+            };
+        }
+    }
+    Some(*registers)
+}
+
+fn parent_or(range: RuntimeFunction, info: &Info) -> RuntimeFunction
+    ensures { result ≡ caller.parent_or range info.now.parent }
+{
+    match info.parent() {
+        None => range,
+        Some(parent) => parent,
+    }
+}
+
+/// What undoing the codes of a chain of infos leaves, all from one establisher frame.
+fn chain_undone(
+    reach: Reach,
+    words: &[Option<Saved>],
+    base: Known,
+    rva: u64,
+    range: RuntimeFunction,
+    info: &Info,
+    parents: &[Info],
+    registers: &[Known; 16],
+) -> Option<[Known; 16]>
+    ensures { IfSome result (λ a. spec.chain_undone reach (words_of words.now) base rva range
+        info.now parents.now (registers_of registers.now) ≡ Some (registers_of a)) }
+{
+    let distance = rva.wrapping_sub(range.begin as u64);
+    match undone_by(reach, words, base, info, distance, registers) {
+        None => None,
+        Some(own) => match parents {
+            [] => Some(own),
+            [first, rest @ ..] => {
+                let parent = parent_or(range, info);
+                chain_undone(reach, words, base, rva, parent, first, rest, &own)
+            }
+        },
+    }
+}
+
+fn is_framed(info: &Info, distance: u64) -> bool
+    ensures { result ≡ caller.is_framed info.now distance }
+{
+    info.frame_register() != 0
+        && (info.prologue_size() as u64 <= distance
+            || info.parent().is_some()
+            || sets_frame_by(distance, info.codes()))
+}
+
+/// What undoing codes leaves at an address in a function's range where no epilogue stands; none
+/// where a word can't be read.
+pub fn by_codes(
+    reach: Reach,
+    known: &Knowledge,
+    rva: u64,
+    function: &Function,
+) -> Option<[Known; 16]>
+    ensures { IfSome result (λ a. spec.abi_known reach (knowledge_of known.now) rva function.now
+        None ≡ Some (registers_of a)) }
+{
+    let registers = &known.registers;
+    let distance = rva.wrapping_sub(function.range.begin as u64);
+    let base = if is_framed(function.info, distance) {
+        below_frame(function.info, registers)
+    } else {
+        known_of(registers, Reg::Rsp)
+    };
+    chain_undone(
+        reach,
+        &known.words,
+        base,
+        rva,
+        function.range,
+        function.info,
+        function.parents,
+        registers,
+    )
 }
