@@ -1,11 +1,13 @@
 -- The registers that a call keeps.
 use Rattle.std.proofs.Common.{◌≡◌, ℕ, zero, suc, ◌<◌, ◌≤◌, List, [], ◌∷◌, length, get_or, refl, sym, ◌∙◌, arith, Bool, true, false}
-use Rattle.std.specs.Prelude.{if◌then◌else◌}
+use Rattle.std.specs.Prelude.{nat_eq, if◌then◌else◌}
 use Rattle.std.proofs.lemmas.List.{get_or_past}
 use Rattle.virtual_unwind.specs.Contexts.{is_nonvolatile}
 use Rattle.frame_known.specs.declared.known.Known.{Known}
 use Rattle.frame_known.specs.declared.known.Known.TheVariants.{Nothing}
 use Rattle.frame_known.specs.Known.{kept}
+use Rattle.x64_instr.specs.Reading.{bit}
+use Rattle.frame_known.specs.Measured.{forgotten_by}
 use Rattle.known_frames.specs.Views.{registers_of}
 
 -- ---- sixteen of them
@@ -71,3 +73,17 @@ from_four ks d n =
 pub kept_registers : (ks : List Known) (d : Known) (r : ℕ) → length ks ≡ 16 → KeptAt ks d r
 kept_registers ks d r n =
     by_four (KeptAt ks d) refl refl refl (within ks d 3 (omega (arith, n))) (from_four ks d n) r
+
+-- ---- made one by one
+
+pub four_made : (f : ℕ → Known) (a b c d : Known) (xs : List Known) → a ≡ f 0 → b ≡ f 1 → c ≡ f 2
+    → d ≡ f 3 → ((r : ℕ) → registers_of xs r ≡ f (up r)) → (r : ℕ)
+    → registers_of (a ∷ b ∷ c ∷ d ∷ xs) r ≡ f r
+four_made f a b c d xs e1 e2 e3 e4 more =
+    by_four (λ r. registers_of (a ∷ b ∷ c ∷ d ∷ xs) r ≡ f r) e1 e2 e3 e4 more
+
+pub nothing_past : (general : ℕ) (ks : List Known) (r : ℕ) → length ks ≡ 16 → 16 ≤ r
+    → Nothing ≡ forgotten_by general (registers_of ks) r
+nothing_past general ks r n le =
+    neither (nat_eq (bit r general) 0) (registers_of ks r)
+    (get_or_past ks r Nothing (omega (arith, n, le)))

@@ -4,6 +4,7 @@ ghost use Rattle.std.specs.Prelude.{◌≡◌, ◌⊎◌, ◌<◌, ℕ, None, If
 ghost use Rattle.frame_known.specs.Knowledge.{SaysLess};
 ghost use Rattle.frame_known.specs.Known as runs;
 ghost use Rattle.frame_known.specs.After as spec;
+ghost use Rattle.frame_known.specs.Measured as measured;
 ghost use Rattle.known_frames.specs.Views.{knowledge_of, registers_of, words_of};
 
 use crate::knowledge::{Knowledge, Saved, known_of};
@@ -13,6 +14,7 @@ use crate::words::{Loss, lose, name};
 use frame_known::known::{Known, Store};
 use x64_instr::instruction::Instr;
 use x64_instr::register::Reg;
+use x64_lengths::effects::Effects;
 
 /// The words after a store of so many bytes so far from S.
 fn store_at(words: &mut [Option<Saved>], at: u64, size: u64, value: Known)
@@ -81,6 +83,55 @@ pub fn after_call(known: &Knowledge) -> Knowledge
     ensures { SaysLess (spec.after_call false (knowledge_of known.now)) (knowledge_of result) }
 {
     let registers = nonvolatile(&known.registers);
+    let mut words = known.words;
+    lose_below(&mut words, known_of(&registers, Reg::Rsp));
+    Knowledge { registers, words }
+}
+
+/// Of registers in a set, bit r for register r, nothing is known.
+fn forgotten_by(general: u32, registers: &[Known; 16]) -> [Known; 16]
+    ensures { (r : ℕ) → registers_of result r
+        ≡ measured.forgotten_by general (registers_of registers.now) r }
+{
+    let k = registers;
+    [
+        one(general, 0, k),
+        one(general, 1, k),
+        one(general, 2, k),
+        one(general, 3, k),
+        one(general, 4, k),
+        one(general, 5, k),
+        one(general, 6, k),
+        one(general, 7, k),
+        one(general, 8, k),
+        one(general, 9, k),
+        one(general, 10, k),
+        one(general, 11, k),
+        one(general, 12, k),
+        one(general, 13, k),
+        one(general, 14, k),
+        one(general, 15, k),
+    ]
+}
+
+fn one(general: u32, register: u8, registers: &[Known; 16]) -> Known
+    requires { register < 16 }
+    ensures { result ≡ measured.forgotten_by general (registers_of registers.now) register }
+{
+    if general >> register & 1 == 0 {
+        registers[register as usize]
+    } else {
+        Known::Nothing
+    }
+}
+
+/// What is known after an instruction other than a call of which the table of all instructions says
+/// what it may write.
+pub fn after_other(effects: &Effects, known: &Knowledge) -> Knowledge
+    ensures { SaysLess (measured.after_other effects.now (knowledge_of known.now))
+        (knowledge_of result) }
+{
+    let registers = forgotten_by(effects.general, &known.registers);
     let mut words = known.words;
     lose_below(&mut words, known_of(&registers, Reg::Rsp));
     Knowledge { registers, words }
