@@ -1,0 +1,4 @@
+pub mod Entered
+pub mod NamedWords
+pub mod Kept
+pub mod Runs
