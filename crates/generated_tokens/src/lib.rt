@@ -1,0 +1,4 @@
+//! The tokens of generated programs, text by text.
+#![tactic(auto)]
+
+pub mod laws;
