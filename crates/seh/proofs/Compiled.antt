@@ -24,7 +24,8 @@ use Rattle.image_code.proofs.ImageBounds.{IsBounded, bounded}
 use Rattle.image_runs.specs.ImageMeaning.{Realises}
 use Rattle.seh.specs.Images.{IsKeptByCode}
 use Rattle.seh.proofs.CompiledEntries.{verdict_is_yes}
-use Rattle.seh.proofs.UncoveredRoutines.{uncovered_code_is_routines}
+use Rattle.text_routines.proofs.TextPieces.{uncovered_code_is_frameless}
+use Rattle.seh.proofs.FrameSizes.{frames_are_small}
 use Rattle.seh.proofs.Completeness.{one_image}
 
 -- ---- by linear code
@@ -98,9 +99,10 @@ of_checked text image whole p short checked link =
         shape = lowered_is_shaped (resolve text whole).program sound fits;
       };
       kept = kept_by_code image (resolve text whole).program fits w real;
-      outside = uncovered_code_is_routines (lowered (resolve text whole).program) fits
+      outside = uncovered_code_is_frameless (lowered (resolve text whole).program) fits
           (lowered_has_regions (resolve text whole).program)
           (image_bounded image (resolve text whole).program w real);
+      sizes = frames_are_small (resolve text whole).program fits;
       realises = real;
       no_more = nothing_more text whole image a.read.within a.rules fits w (length text)
           (few text whole a);

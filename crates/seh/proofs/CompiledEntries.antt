@@ -36,6 +36,7 @@ use Rattle.unwind_check.proofs.FragmentEntries.{right_fragments_keep_rules}
 use Rattle.unwind_check.proofs.RightEntries.{right_functions_keep_rules}
 use Rattle.pe_image.specs.Image.{Image}
 use Rattle.pe_write.specs.Program.{image_of}
+use Rattle.host_layout.specs.declared.imported.ImportedService.{ImportedService}
 use Rattle.host_layout.specs.declared.imported.ImportedService.TheVariants.{CSpecificHandler}
 use Rattle.host_model.specs.Loading.{mapped}
 use Rattle.image_code.specs.Code.{code_of}
@@ -48,11 +49,11 @@ use Rattle.image_link.specs.Fits.{FitsProgram}
 use Rattle.image_link.specs.Near.{IsSiteNear}
 use Rattle.image_link.specs.Routines.{RoutineView, routines}
 use Rattle.image_link.specs.declared.fragments.TheConstants.{CHAINED_SIZE}
-use Rattle.image_link.specs.Text.{SiteView, thunk_at}
+use Rattle.image_link.specs.Text.{SiteView, service_thunk, thunk_at, front_code}
 use Rattle.image_link.specs.Linked.{text_begin, linked}
 use Rattle.image_link.specs.Services.{services_of}
 use Rattle.image_link.proofs.Entries.{routine_small}
-use Rattle.image_link.proofs.Front.{services_few}
+use Rattle.image_link.proofs.Front.{services_few, thunks_size}
 use Rattle.image_link.proofs.Images.{site_near, has_places}
 use Rattle.image_link.proofs.Nearness.{routines_near}
 use Rattle.image_tables.specs.CodeInMemory.{image_base, HasText}
@@ -61,7 +62,7 @@ use Rattle.image_tables.specs.FrameLaws.{IsFramed}
 use Rattle.image_tables.specs.Functions.{plan, part, function_of}
 use Rattle.image_tables.specs.RoutinePlaces.{Placed, PlacedPart, Cursor, put, past, end_of, parts_from, parts_of, site_of, placed_from, first_cursor, placed, probe_begin}
 use Rattle.image_tables.specs.RegionRanges.{HasRegions}
-use Rattle.image_tables.proofs.CodeInMemory.{there, cold_small, placed_part}
+use Rattle.image_tables.proofs.CodeInMemory.{there, cold_small, placed_part, executable_split, code_split}
 use Rattle.image_tables.proofs.FramePlans.{prologue_some, spelled_steps}
 use Rattle.image_tables.proofs.FrameRules.{sizes as frame_sizes, right, is_there, part_keeps, part_is_there}
 use Rattle.image_tables.proofs.ImageText.{images_have_text}
@@ -71,12 +72,21 @@ use Rattle.image_tables.proofs.Lookups.{part_within, entries_are_held}
 use Rattle.image_tables.proofs.Prologues.{entry_least, framed_room}
 use Rattle.image_tables.proofs.Table.{tables_are_read}
 use Rattle.seh.specs.Images.{entries_with}
-use Rattle.seh.proofs.FrontThunks.{probe_after}
 use Rattle.seh.proofs.ListedRanges.{listed}
-use Rattle.seh.proofs.PlannedCalls.{Calls, pass_alone, pass_before, pushing_bytes, pushing_pass, last_pass}
-use Rattle.seh.proofs.TextFront.{bytes_after, begins_with_front}
+use Rattle.text_routines.proofs.PlannedCalls.{Calls, pass_alone, pass_before, pushing_bytes, pushing_pass, last_pass}
+use Rattle.text_routines.proofs.TextFront.{bytes_after, begins_with_front}
 
 -- ---- the stack probe, after the thunks in the front of the text
+
+probe_after : (imports : List ImportedService) (text rdata : ℕ) (m : Memory) (begin : ℕ)
+    (rest : List ℕ) → IsExecutableAt m begin (spelled (front_code imports text rdata) ++ rest)
+    → IsExecutableAt m (begin + 6 * length imports) (spelled check_stack)
+probe_after imports text rdata m begin rest there =
+    let front = executable_split m begin (spelled (front_code imports text rdata)) rest there in
+    let thunks = map (service_thunk imports text rdata) imports in
+    let last = code_split m begin thunks check_stack front.0 in
+    subst (λ (n : ℕ). IsExecutableAt m (begin + n) (spelled check_stack))
+    (thunks_size imports text rdata imports) last.1
 
 probe_is_at : (p : LinearProgram) (m : Memory) → HasText m p
     → IsExecutableAt m (image_base + probe_begin p) (spelled check_stack)

@@ -1,10 +1,16 @@
 -- The frames of a compiled image are found.
-use Rattle.std.proofs.Common.{◌≡◌, ℕ, true, List, None, sym, ap, subst, ◌∙◌}
+use Rattle.std.proofs.Common.{◌≡◌, ℕ, ◌+◌, true, ◌&&◌, leb, ltb, List, [], ◌∷◌, ◌++◌, length, Option, Some, None, refl, sym, ap, subst, ◌∙◌, arith}
+use Rattle.std.specs.Prelude.{is_none}
+use Rattle.std.proofs.lemmas.Bool.{and_parts, false≢true}
 use Rattle.x64_machine.specs.Contexts.{context_of}
 use Rattle.pe_image.specs.Image.{Image}
 use Rattle.pe_image.specs.Reading.{reading}
 use Rattle.eh_tables.specs.Tables.{Entry, Tables, entries_of, holding, or_none, tables}
+use Rattle.host_model.specs.Machine.{functions_in}
 use Rattle.virtual_unwind.specs.CallerOf.{name_rows, distance, caller_in, caller_of}
+use Rattle.virtual_unwind.specs.Tail.{FetchedInstr}
+use Rattle.frame_rules.specs.Body.{Body, following, is_body}
+use Rattle.frame_rules.specs.Prologue.{bytes}
 use Rattle.frame_rules.specs.Frame.{left_to}
 use Rattle.frame_rules.specs.States.{registers, return_address}
 use Rattle.frame_rules.specs.Rules.{IsFound}
@@ -12,9 +18,13 @@ use Rattle.frame_rules.proofs.Callers.{leaves_are_found}
 use Rattle.host_model.specs.Loading.{load_refusal, has_place}
 use Rattle.image_code.proofs.ImageBounds.{low_base}
 use Rattle.seh.specs.Words.{resolve, IsCompiled}
-use Rattle.seh.specs.UncoveredCode.{UncoveredCodeIsRoutines}
+use Rattle.text_routines.specs.Laws.{UncoveredCodeIsFrameless}
+use Rattle.uncovered_code.specs.References.{Code, is_uncovered}
+use Rattle.uncovered_code.proofs.Routines.{uncovered_bytes_are_in_routines}
+use Rattle.uncovered_code.proofs.Instructions.{instructions_are_one_list}
+use Rattle.image_tables.proofs.Callers.{following_items, before_end}
 use Rattle.seh.specs.Images.{entry_count}
-use Rattle.seh.specs.CompiledFrames.{image_read, CompiledEntriesAreFound, CompiledLeavesAreFound, CompiledCodeIsCovered}
+use Rattle.seh.specs.CompiledFrames.{image_read, section_read, CompiledEntriesAreFound, CompiledLeavesAreFound, CompiledCodeIsCovered, CompiledRoutinesAreFound}
 use Rattle.seh.proofs.CheckedFrames.{has_ranges, checked_callers_are_found}
 use Rattle.seh.proofs.Compiled.{placed}
 use Rattle.seh.proofs.Completeness.{one_image}
@@ -54,8 +64,50 @@ compiled_leaves_are_found text image compiled rest e s held body first in_body =
     s.memory (context_of s.cpu)) (left_to (registers e) (return_address e))) (sym same)
     (leaves_are_found t rest e s holds body first in_body)
 
-pub compiled_code_is_covered : CompiledCodeIsCovered
-compiled_code_is_covered text image compiled =
+-- ---- the code that no entry covers
+
+-- its routines are frameless, by the entries that the function table is read as
+frameless_outside : (text image : List ℕ) (compiled : IsCompiled text image)
+    → UncoveredCodeIsFrameless (image_read text image compiled)
+    (functions_in (image_read text image compiled)).entries
+frameless_outside text image compiled =
     let read = image_read text image compiled in
     let table = ap or_none compiled.table.read in
-    subst (λ (es : List Entry). UncoveredCodeIsRoutines read es) (sym table) compiled.outside
+    subst (λ (es : List Entry). UncoveredCodeIsFrameless read es) (sym table) compiled.outside
+
+pub compiled_code_is_covered : CompiledCodeIsCovered
+compiled_code_is_covered text image compiled index section rva is runs un =
+    let code = section_read text image compiled section in
+    let routine = uncovered_bytes_are_in_routines code rva un in (
+      routine,
+      frameless_outside text image compiled index section is runs routine.begin routine.end
+          routine.is,
+    )
+
+-- none covers an address of uncovered code
+held_by_none : (c : Code) (at : ℕ) → is_uncovered c at ≡ true → holding at c.entries ≡ None
+held_by_none c at h =
+    let p = and_parts (leb c.begin at) (ltb at c.end && is_none (holding at c.entries)) h in
+    by (holding at c.entries) (and_parts (ltb at c.end) (is_none (holding at c.entries)) p.1).1
+  where
+    by : (o : Option Entry) → is_none o ≡ true → o ≡ None
+    by None e = refl
+    by (Some x) e = absurd (false≢true e)
+
+pub compiled_routines_are_found : CompiledRoutinesAreFound
+compiled_routines_are_found text image compiled index section begin end done item left e s is runs
+    routine there rip entry body =
+    let read = image_read text image compiled in
+    let code = section_read text image compiled section in
+    let own = frameless_outside text image compiled index section is runs begin end routine in
+    let items = done ++ (item ∷ left) in
+    let one = instructions_are_one_list code.memory begin end own.rest items own.there there in
+    let right = subst (λ (xs : List FetchedInstr).
+    is_body (following 0 0 [] xs (Body [])) ≡ true) one own.right in
+    let more = following_items code.memory begin done (item ∷ left) end there in
+    let lt = before_end code.memory (begin + bytes done) (item ∷ left) end more
+    (λ z. (let long = ap length z in absurd (omega (arith, long)))) in
+    let rva = begin + bytes done in
+    let none = held_by_none code rva (routine.alone rva (omega arith) lt) in
+    compiled_leaves_are_found text image compiled items e s
+    (ap (λ n. holding n (functions_in read).entries) rip ∙ none) right entry body

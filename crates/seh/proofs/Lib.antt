@@ -2,14 +2,11 @@ mod Lemmas
 pub mod Shown
 pub mod Inputs
 pub mod Images
-mod PlannedCalls
-mod FrontThunks
-mod BlockPieces
-mod TextFront
 pub mod CheckedFrames
+pub mod EntryFrames
 mod ListedRanges
 pub mod CompiledEntries
-pub mod UncoveredRoutines
+pub mod FrameSizes
 pub mod Compiled
 mod EventLines
 pub mod Headline

@@ -1,7 +1,7 @@
 -- The image of a text.
 --
 -- The main definitions: `IsCompiled`, `entry_count`.
-use Rattle.std.specs.Prelude.{◌≡◌, ℕ, ◌+◌, ◌*◌, ◌^◌, ◌<◌, ◌≤◌, true, List, length, sum_by, pos, Option, Some, None, Ok}
+use Rattle.std.specs.Prelude.{◌≡◌, ℕ, ◌+◌, ◌*◌, ◌^◌, ◌<◌, ◌≤◌, true, List, length, slice_get, sum_by, pos, Option, Some, None, Ok}
 use Rattle.c_checked.specs.Program.{Program}
 use Rattle.linear_code.specs.declared.program.LabelRange.{LabelRange}
 use Rattle.frame_layout.specs.declared.frame.FrameLayout.{FrameLayout}
@@ -17,12 +17,18 @@ use Rattle.image_code.specs.Verdicts.{IsImageVerdict}
 use Rattle.image_link.specs.Linked.{linked}
 use Rattle.image_link.specs.Routines.{routines}
 use Rattle.image_tables.specs.Entries.{entries}
+use Rattle.image_tables.specs.Functions.{function_of}
+use Rattle.image_tables.specs.RoutinePlaces.{Placed, placed}
+use Rattle.image_tables.specs.ShapeLaws.{weight_at}
+use Rattle.template_code.specs.declared.layout.TheConstants.{FRAME_BY_WEIGHT}
+use Rattle.frame_rules.specs.Codes.{depth}
+use Rattle.frame_rules.specs.Rules.{ops}
 use Rattle.seh_ir.specs.Lowered.{lowered}
 use Rattle.text_bounds.specs.StepsPerTurnLaws.{steps_per_turn_in}
 use Rattle.image_runs.specs.ImageMeaning.{Realises, IsImageOf}
 use Rattle.image_runs.specs.FrameCallers.{FindsCallers}
 use Rattle.image_runs.specs.ShadowWalks.{WalksTheShadow}
-use Rattle.seh.specs.UncoveredCode.{UncoveredCodeIsRoutines}
+use Rattle.text_routines.specs.Laws.{UncoveredCodeIsFrameless}
 use Rattle.seh.specs.declared.refusal.Refusal.{Refusal}
 use Rattle.seh.specs.declared.refusal.Refusal.TheVariants as refusals
 use Rattle.match_runs.specs.Laws.{ShowsNoMore}
@@ -71,22 +77,33 @@ abbrev pub IsKeptByCode : Program → Type 0
 IsKeptByCode program =
     IsImageVerdict (image_of (linked (lowered program))) CHECK_STACK (Yes (entry_count program))
 
--- the code of a program's image that no entry covers is routines that need none
-abbrev pub HasRoutinesOutside : Program → Type 0
-HasRoutinesOutside program =
-    UncoveredCodeIsRoutines (image_of (linked (lowered program))) (entries (lowered program))
+-- each routine of a program's image that has no entry is frameless
+abbrev pub HasFramelessOutside : Program → Type 0
+HasFramelessOutside program =
+    UncoveredCodeIsFrameless (image_of (linked (lowered program))) (entries (lowered program))
+
+-- the frame of a function takes at most `FRAME_BY_WEIGHT`, which is 8,192 bytes, for each 1 that
+-- the function weighs, and that of a funclet as much: what its unwind codes allocate and push,
+-- which `FindsCallers` asks room for, and its return address
+abbrev pub HasSmallFrames : Program → Type 0
+HasSmallFrames program =
+    let p = lowered program in
+    (index : ℕ) (x : Placed) (f : FrameLayout) → slice_get (placed p) index ≡ Some x
+    → x.routine.frame ≡ Some f
+    → depth (ops (function_of p x f)) + 8 ≤ FRAME_BY_WEIGHT * weight_at p index
 
 -- the image of an accepted text is the one that its program's linear code is linked to, with its
--- function table, which its code keeps, and outside which are routines that need no entry; it does
--- what the program means, and nothing more; the walk finds the caller at every instruction of it,
--- and gives the frames of its runs
+-- function table, which its code keeps, and outside which every routine is frameless; its frames
+-- are small; it does what the program means, and nothing more; the walk finds the caller at every
+-- instruction of it, and gives the frames of its runs
 pub record IsCompiled (text image : List ℕ) : Type 0 where
   pub whole : List ExternalDeclaration
   pub accepted : IsAccepted text whole
   pub linked : IsImageOf image (resolve text whole).program
   pub table : HasTable (resolve text whole).program
   pub kept : IsKeptByCode (resolve text whole).program
-  pub outside : HasRoutinesOutside (resolve text whole).program
+  pub outside : HasFramelessOutside (resolve text whole).program
+  pub sizes : HasSmallFrames (resolve text whole).program
   pub realises : Realises image (resolve text whole).program
   pub no_more : ShowsNoMoreByLength text image (resolve text whole).program
   pub frames : FindsCallers (lowered (resolve text whole).program)

@@ -1,7 +1,6 @@
 pub mod Statuses
 pub mod Streams
 pub mod Refusals
-pub mod UncoveredCode
 pub mod Images
 pub mod Answers
 pub mod Selftests
@@ -21,4 +20,5 @@ pub mod Existence
 pub mod CompiledChecks
 pub mod CompiledFrames
 pub mod EntryCheckLaws
+pub mod EntryFrames
 pub mod SelftestLaws

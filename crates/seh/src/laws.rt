@@ -3,8 +3,9 @@
 ghost use Rattle.seh.specs.Calls.{CompileIsComplete, RunIsComplete, MeaningIsComplete, ShowIsComplete, CheckIsComplete, ExecIsComplete, TextsHaveOneImage, LastLinesAgree, CompiledIsMeant, RunIsMeant};
 ghost use Rattle.seh.specs.CheckLaws.{ImagesHaveOneVerdict, DoneIsYes, CheckedCallersAreFound};
 ghost use Rattle.seh.specs.CompiledChecks.{CompiledImagesAreKept, CompiledVerdictsAreYes, CompiledIsKept};
-ghost use Rattle.seh.specs.CompiledFrames.{CompiledEntriesAreFound, CompiledLeavesAreFound, CompiledCodeIsCovered};
+ghost use Rattle.seh.specs.CompiledFrames.{CompiledEntriesAreFound, CompiledLeavesAreFound, CompiledCodeIsCovered, CompiledRoutinesAreFound};
 ghost use Rattle.seh.specs.EntryCheckLaws.{EntryCheckIsComplete, EntriesHaveOneVerdictEach, StatusesAgree};
+ghost use Rattle.seh.specs.EntryFrames.{YesLinesFindCallers, FirstNoIsOfCheck};
 ghost use Rattle.seh.specs.Completeness.{AcceptedTextsCompile, CompiledImagesRun};
 ghost use Rattle.seh.specs.Existence.{ImagesExist};
 ghost use Rattle.seh.specs.FunctionNames.{NamesAreThere, OthersShowNoWalk};
@@ -128,24 +129,36 @@ pub fn compiled_images()
 /// The frames of an image that `compile` wrote, said of its bytes: of the ranges and the unwind
 /// infos that its function table is read as, and of the instructions that its code is decoded to.
 /// At each of these, in the prologue, the body, an epilogue or a cold part, the walk over the
-/// loaded image finds the caller. Where no entry covers RIP it finds the caller of each state that
-/// has RSP, the return address and the nonvolatile registers of the routine's first byte. And each
-/// byte of code that no entry covers is in a routine of which that holds: a leaf function, a thunk,
-/// a name thunk or a stub of a vectored handler, or `__chkstk`. Its instructions are decoded one
-/// after another from its first byte to its end, outside all entries.
+/// loaded image finds the caller.
+///
+/// Each byte of code that no entry covers is in a routine without an entry: a leaf function, a
+/// thunk, a name thunk or a stub of a vectored handler, or `__chkstk`. Such a routine begins where
+/// uncovered code does, at the entry point, where a call leads, at the handler of a scope record,
+/// or at an address that uncovered code takes; it ends at the next beginning, the next range or the
+/// section's end. Decoded from where it begins, none of its instructions but a return or a jump out
+/// of it writes RSP, and none another nonvolatile register. At each of these the walk finds the
+/// caller of each state that has RSP, the return address and the nonvolatile registers of the
+/// routine's first byte.
 pub fn compiled_frames()
     ensures entries { CompiledEntriesAreFound }
     ensures leaves { CompiledLeavesAreFound }
     ensures outside { CompiledCodeIsCovered }
+    ensures routines { CompiledRoutinesAreFound }
 {}
 
 /// What `check --each` says of an image: each entry of an image has one verdict, and so the image
 /// has one text. Where no stream has a fault and memory isn't wanting, `check` and `check --each`
 /// of the same bytes end with one status: that of yes where each entry is without a fault, that of
-/// no where one isn't, and that of a refusal where the image or its function table is refused.
+/// no where one isn't, and that of a refusal where the image or its function table is refused. The
+/// first no of `check --each` is the one of `check`. Where each line of an entry's function is yes,
+/// its own and those of all entries that are chained to it, and the image's base is at least 4 GiB
+/// below 2^63, the walk over the loaded image finds the caller in every state of it, whatever other
+/// lines say.
 pub fn checked_entries()
     ensures one_verdict_each { EntriesHaveOneVerdictEach }
     ensures statuses { StatusesAgree }
+    ensures first_no { FirstNoIsOfCheck }
+    ensures callers { YesLinesFindCallers }
 {}
 
 /// What `selftest N` gives, where no sink has a fault and memory isn't wanting: where the text of
