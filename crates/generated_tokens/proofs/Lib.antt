@@ -1,3 +1,4 @@
 mod Joined
 pub mod FirstWords
 pub mod Pieces
+pub mod Numbers
