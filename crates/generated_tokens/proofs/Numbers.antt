@@ -6,7 +6,7 @@ use Rattle.c_lex.specs.declared.token.Kind.{Kind}
 use Rattle.c_lex.specs.declared.token.Kind.TheVariants as kinds
 use Rattle.c_lex.specs.declared.word.Word.{Word}
 use Rattle.c_lex.specs.declared.word.Word.TheVariants.{Lexeme}
-use Rattle.c_lex.specs.Longest.{IsLongest, every}
+use Rattle.c_lex.specs.Longest.{IsLongest, each, every}
 use Rattle.c_lex.specs.Words.{word, word_from}
 use Rattle.c_lex.specs.Keywords.{keyword_of}
 use Rattle.c_lex.specs.ReservedWords.{reserved_of}
@@ -39,3 +39,34 @@ fits k = every is_identifier_byte (decimal k) && is_name (identifier_kind (102 �
 all_fit : all_below 256 fits ≡ true
 unfolding all_below fits is_name is_letter is_digit is_identifier_byte identifier_kind keyword_of reserved_of digits
 all_fit = refl
+
+letter : is_letter 102 ≡ true
+unfolding is_letter
+letter = refl
+
+starts : is_identifier_byte 102 ≡ true
+unfolding is_identifier_byte is_letter
+starts = refl
+
+parenthesis : is_identifier_byte 40 ≡ false
+unfolding is_identifier_byte is_letter is_digit
+parenthesis = refl
+
+by_letter : (w : List ℕ)
+    → word (102 ∷ w) ≡ each is_identifier_byte (λ v. Lexeme (identifier_kind v)) (102 ∷ w)
+unfolding word_from
+by_letter w = rw letter refl
+
+kind_of : (k : Kind) → is_name k ≡ true → k ≡ kinds.Identifier
+unfolding is_name
+kind_of kinds.Identifier h = refl
+kind_of other h = absurd cc
+
+-- a name of letters, digits and `_` before a parenthesis
+name_ends : (w rest : List ℕ) → every is_identifier_byte w ≡ true
+    → identifier_kind (102 ∷ w) ≡ kinds.Identifier
+    → IsLongest word ((102 ∷ w) ++ 40 ∷ rest) (102 ∷ w) (40 ∷ rest) (Lexeme kinds.Identifier)
+name_ends w rest e k =
+    ends_before (102 ∷ w) 40 rest (Lexeme kinds.Identifier) (by_letter w ∙ rw (starts, e, k) refl)
+    (λ v. by_letter (w ++ 40 ∷ v)
+    ∙ rw (starts, every_stops is_identifier_byte w 40 v parenthesis) refl)
