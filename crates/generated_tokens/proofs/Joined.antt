@@ -1,8 +1,8 @@
 -- Words of one part of a text, and those of the next.
-use Rattle.std.proofs.Common.{◌≡◌, ℕ, ◌+◌, List, [], ◌∷◌, ◌++◌, length, refl, sym, ap, subst, ◌∙◌, arith, append_assoc}
+use Rattle.std.proofs.Common.{◌≡◌, ℕ, ◌+◌, List, [], ◌∷◌, ◌++◌, length, sym, ap, subst, ◌∙◌, arith, append_assoc}
 use Rattle.c_lex.specs.declared.token.Token.{Token}
 use Rattle.c_lex.specs.Text.{Piece, Cut, AreGood, size, token_of, tokens_of}
-use Rattle.generated_tokens.specs.Laws.{HasTokens, TokensAreJoined}
+use Rattle.generated_tokens.specs.Laws.{TokensAreJoined}
 
 cut_joined : (ps qs : List Piece) (text middle rest : List ℕ) → Cut ps text middle
     → Cut qs middle rest → Cut (ps ++ qs) text rest

@@ -1,5 +1,5 @@
 -- The texts of which generated programs are put together, as words.
-use Rattle.std.proofs.Common.{◌≡◌, ℕ, List, [], ◌∷◌, ◌++◌, refl, ap, Option, Some, None}
+use Rattle.std.proofs.Common.{◌≡◌, ℕ, List, [], ◌∷◌, ◌++◌, refl, ap, None}
 use Rattle.std.specs.Prelude.{codes, option_map, Bool, true, false, ◌&&◌, ◌==◌}
 use Rattle.c_lex.specs.declared.keyword.Keyword.TheVariants as keywords
 use Rattle.c_lex.specs.declared.punctuator.Punctuator.TheVariants as punctuators
@@ -8,7 +8,7 @@ use Rattle.c_lex.specs.declared.token.Kind.TheVariants as kinds
 use Rattle.c_lex.specs.declared.word.Word.{Word}
 use Rattle.c_lex.specs.declared.word.Word.TheVariants.{Lexeme, Blank}
 use Rattle.c_lex.specs.Text.{Piece, Cut}
-use Rattle.c_lex.specs.Words.{word, word_from, punctuator}
+use Rattle.c_lex.specs.Words.{word_from, punctuator}
 use Rattle.c_lex.specs.Keywords.{keyword_of}
 use Rattle.c_lex.specs.ReservedWords.{reserved_of}
 use Rattle.c_lex.specs.Punctuators.{punctuator_of}
