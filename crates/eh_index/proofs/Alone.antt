@@ -1,7 +1,7 @@
 -- An entry that is chained to none, by its own info.
-use Rattle.std.proofs.Common.{◌≡◌, ℕ, zero, suc, ◌+◌, ◌-◌, ◌<◌, ◌≤◌, true, List, Some, None, Ok, Err, length, get_or, refl, sym, ap, subst, ◌∙◌, arith}
-use Rattle.std.specs.Prelude.{is_ok, IsOk, nat_lt, nat_le}
-use Rattle.std.proofs.lemmas.Bool.{lt-ltb, le-leb}
+use Rattle.std.proofs.Common.{◌≡◌, ℕ, zero, suc, ◌+◌, ◌-◌, ◌<◌, ◌≤◌, List, Some, None, Ok, Err, length, get_or, refl, sym, ap, subst, ◌∙◌, arith}
+use Rattle.std.specs.Prelude.{Bool, true, false, is_ok, IsOk, nat_lt, nat_le}
+use Rattle.std.proofs.lemmas.Bool.{lt-ltb, le-ltb, le-leb}
 use Rattle.seh_num.specs.Answers.{◌>>=◌, unless}
 use Rattle.pe_image.specs.Image.{Image}
 use Rattle.eh_tables.specs.declared.range.RuntimeFunction.{RuntimeFunction}
@@ -31,15 +31,34 @@ pub passes_first : (rs : List RuntimeFunction) (k : ℕ) → k ≡ 0
 passes_first rs zero e some = passes 0 0 (get_or rs 0 no_range) some (omega arith)
 passes_first rs (suc j) e some = absurd (omega arith)
 
-pub passes_later : (rs : List RuntimeFunction) (k : ℕ) → 0 < k
+-- an empty one isn't
+pub fails_empty : (rs : List RuntimeFunction) (k : ℕ)
+    → (get_or rs k no_range).end ≤ (get_or rs k no_range).begin
+    → false ≡ is_ok (range_checked k (end_before rs k) (get_or rs k no_range))
+fails_empty rs k empty =
+    let r = get_or rs k no_range in
+    sym (ap (λ b. is_ok (unless b (refusals.EmptyRange k)
+    >>= λ _. unless (nat_le (end_before rs k) r.begin) (refusals.Unsorted k)))
+    (le-ltb r.begin r.end empty))
+
+is_its_test : (b : Bool) (e : TableErr) → is_ok (unless b e) ≡ b
+is_its_test true e = refl
+is_its_test false e = refl
+
+-- one that isn't empty, and not the first, is where it begins at the end before or above
+pub goes_by_begin : (rs : List RuntimeFunction) (k : ℕ) → 0 < k
     → (get_or rs k no_range).begin < (get_or rs k no_range).end
-    → (get_or rs (k - 1) no_range).end ≤ (get_or rs k no_range).begin
-    → IsOk (range_checked k (end_before rs k) (get_or rs k no_range))
-passes_later rs zero pos some above = absurd (omega arith)
-passes_later rs (suc j) pos some above =
+    → nat_le (get_or rs (k - 1) no_range).end (get_or rs k no_range).begin
+    ≡ is_ok (range_checked k (end_before rs k) (get_or rs k no_range))
+goes_by_begin rs zero pos some = absurd (omega arith)
+goes_by_begin rs (suc j) pos some =
+    let r = get_or rs (suc j) no_range in
     let same : suc j - 1 ≡ j = omega arith in
-    passes (suc j) (get_or rs j no_range).end (get_or rs (suc j) no_range) some
-    (subst (λ n. (get_or rs n no_range).end ≤ (get_or rs (suc j) no_range).begin) same above)
+    ap (λ n. nat_le (get_or rs n no_range).end r.begin) same
+    ∙ sym (is_its_test (nat_le (get_or rs j no_range).end r.begin) (refusals.Unsorted (suc j)))
+    ∙ sym (ap (λ b. is_ok (unless b (refusals.EmptyRange (suc j))
+    >>= λ _. unless (nat_le (get_or rs j no_range).end r.begin) (refusals.Unsorted (suc j))))
+    (lt-ltb r.begin r.end some))
 
 -- ---- the entry
 

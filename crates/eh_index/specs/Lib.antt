@@ -1,2 +1,4 @@
 pub mod Indexes
 pub mod Ordered
+pub mod Lone
+pub mod Shifts

@@ -5,15 +5,15 @@ ghost use Rattle.std.specs.Prelude.{◌≡◌, ◌<◌, length, slice_index_or, 
 ghost use Rattle.eh_tables.specs.Covering.{unchained};
 ghost use Rattle.eh_tables.specs.Known.{range_checked};
 ghost use Rattle.eh_tables.specs.Tables.{end_before, entry_at, no_range};
+ghost use Rattle.eh_index.specs.Lone as spec;
 
 use eh_tables::{FunctionEntry, TableErr, Tables};
 
 /// Whether the range of an entry isn't empty, and not below the entry before.
-#[tactic(auto, using(crate::proofs::Alone::passes_first, crate::proofs::Alone::passes_later))]
+#[tactic(auto, using(crate::proofs::Alone::fails_empty, crate::proofs::Alone::passes_first, crate::proofs::Alone::goes_by_begin))]
 fn is_in_order(tables: &Tables<'_, '_>, number: u64) -> bool
     requires { number < length tables.now.ranges }
-    ensures { IsTrue result → IsOk (range_checked number (end_before tables.now.ranges number)
-        (slice_index_or tables.now.ranges number no_range)) }
+    ensures { result ≡ spec.is_in_order tables.now.ranges number }
 {
     let range = tables.range(number);
     if range.end <= range.begin {
@@ -33,6 +33,7 @@ pub fn lone_function<'bytes>(
     number: u64,
 ) -> Result<Option<FunctionEntry<'bytes>>, TableErr>
     requires { number < length tables.now.ranges }
+    ensures value { result ≡ spec.lone tables.now number }
     ensures found { IfOk result (λ o. IfSome o (λ f.
         Ok (unchained f) ≡ entry_at tables.now number)) }
     ensures refusal { IfErr result (λ e. Err e ≡ entry_at tables.now number) }

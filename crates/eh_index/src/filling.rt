@@ -1,8 +1,9 @@
 //! An index is filled.
 
-ghost use Rattle.std.specs.Prelude.{◌≡◌, ◌≤◌, ◌<◌, ◌^◌, length, slice_index_or};
+ghost use Rattle.std.specs.Prelude.{◌≡◌, ◌≤◌, ◌<◌, ◌-◌, ◌^◌, length, slice_index_or};
 ghost use Rattle.eh_tables.specs.Tables.{no_range};
 ghost use Rattle.eh_index.specs.Indexes as spec;
+ghost use Rattle.eh_index.specs.Shifts as shifts;
 
 use eh_tables::Tables;
 
@@ -42,15 +43,33 @@ pub fn fill(tables: &Tables<'_, '_>, shift: u32, first: &mut [u32])
     }
 }
 
+/// Whether an index with so much room has a place for each address, where so many low bits are left
+/// out, and one more above them.
+fn has_room(size: u64, room: usize, shift: u32) -> bool
+    requires { shift < 32 }
+    ensures { result ≡ shifts.has_room size room shift }
+{
+    2 <= room && (size >> shift) <= room as u64 - 2
+}
+
+/// The same from so many bits on.
+fn shift_from(size: u64, room: usize, shift: u32) -> u32
+    requires { shift ≤ 31 }
+    ensures fewest { result ≡ shifts.fewest_from size room (31 - shift) shift }
+    ensures bits { result < 32 }
+{
+    if shift == 31 || has_room(size, room, shift) {
+        shift
+    } else {
+        shift_from(size, room, shift + 1)
+    }
+}
+
 /// How many low bits of an address an index with so much room leaves out, in an image of a size:
 /// the fewest with which it has a place for each address, or 31 where it has none.
 pub fn shift_for(size: u64, room: usize) -> u32
-    ensures { result < 32 }
+    ensures fewest { result ≡ shifts.fewest size room }
+    ensures bits { result < 32 }
 {
-    for shift in 0..31 {
-        if 2 <= room && (size >> shift) <= room as u64 - 2 {
-            return shift;
-        }
-    }
-    31
+    shift_from(size, room, 0)
 }
