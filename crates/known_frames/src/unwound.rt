@@ -140,7 +140,8 @@ fn undone_one(
     }
 }
 
-/// What a part of an epilogue leaves; none where a word can't be read.
+/// What a part of an epilogue leaves; none where a word can't be read. Only what is answered is
+/// exact: no clause says when it is none.
 pub fn ran_one(
     reach: Reach,
     words: &[Option<Saved>],
@@ -289,7 +290,7 @@ fn is_framed(info: &Info, distance: u64) -> bool
 }
 
 /// What undoing codes leaves at an address in a function's range where no epilogue stands; none
-/// where a word can't be read.
+/// where a word can't be read. Only what is answered is exact: no clause says when it is none.
 pub fn by_codes(
     reach: Reach,
     known: &Knowledge,

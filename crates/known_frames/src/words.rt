@@ -80,7 +80,7 @@ pub fn lose(loss: Loss, words: &mut [Option<Saved>])
     }
 }
 
-/// Names a word, where there is room.
+/// Names a word, where there is room. That it is named isn't said, only that nothing else is.
 #[tactic(auto, using(crate::proofs::NamedWords::named))]
 pub fn name(words: &mut [Option<Saved>], saved: Saved)
     ensures { (j : ℕ) → (words_of words.new j ≡ words_of words.old j)
